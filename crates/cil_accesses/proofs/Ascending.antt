@@ -1,21 +1,9 @@
 -- The accesses of ascending chunks ascend.
 use Rattle.std.proofs.Common.{◌≡◌, ◌⊎◌, inl, inr, ℕ, suc, zero, ◌<◌, ◌≤◌, ◌+◌, ◌*◌, List, [], ◌∷◌, filter, length, take, drop, sym, ap, ◌∙◌, subst, arith, Contains}
-use Rattle.std.specs.List.{prefix_len}
-use Rattle.std.specs.List.Sorted.{IsStrictlySortedBy}
-use Rattle.std.specs.Ordering.{nat_cmp, ordering_then}
-use Rattle.std.specs.declared.cmp.Ordering.{Ordering}
-use Rattle.std.specs.declared.cmp.Ordering.TheVariants.{Less, Equal}
+use Rattle.cil_accesses.proofs.Common.{prefix_len, IsStrictlySortedBy, nat_cmp, ordering_then, Ordering, Less, Equal, kind_index, contains-filtered, rule_kind_of, AccessNumbers, Chunk, numbers_cmp, run_cmp, chunk_cmp, IsAccessOf, IsGiven, IsFirstGroup, in_run, has_bit, access_at, at_bit, at_bits, run_accesses, accesses_of}
 use Rattle.std.proofs.lemmas.Bool.Decides.{nat_tests}
 use Rattle.std.proofs.lemmas.List.Kept.{IsStrictlySortedBy-filter}
-use Rattle.cil_specs.specs.Rule.{kind_index}
 use Rattle.cil_specs.proofs.ReportLemmasMembers.{sorted_map}
-use Rattle.cil_specs.proofs.FaultWords.{contains-filtered}
-use Rattle.cil_text.specs.Image.{rule_kind_of}
-use Rattle.cil_accesses.specs.declared.access.AccessNumbers.{AccessNumbers}
-use Rattle.cil_accesses.specs.declared.chunk.Chunk.{Chunk}
-use Rattle.cil_accesses.specs.Chunks.{numbers_cmp, run_cmp, chunk_cmp, IsAccessOf, IsGiven}
-use Rattle.cil_accesses.specs.Groups.{IsFirstGroup}
-use Rattle.cil_accesses.specs.View.{in_run, has_bit, access_at, at_bit, at_bits, run_accesses, accesses_of}
 use Rattle.cil_accesses.proofs.Order.{InOneRun}
 use Rattle.cil_accesses.proofs.GroupLemmas.{group-shorter}
 use Rattle.cil_accesses.proofs.Lists.{all-by, sorted-join}

@@ -1,15 +1,7 @@
 -- The first group of a list, and those after it.
 use Rattle.std.proofs.Common.{◌≡◌, ℕ, suc, ◌+◌, ◌≤◌, Bool, true, false, cond, List, [], ◌∷◌, ◌++◌, length, take, drop, flat_map, slice_get, Some, None, refl, sym, ap, ◌∙◌, arith, one-add, Contains}
-use Rattle.std.specs.List.{AllByRecursion, prefix_len}
-use Rattle.std.specs.Ordering.{eq_by_cmp, is_eq}
-use Rattle.std.specs.Cmp.{IsTotalOrder}
-use Rattle.std.specs.declared.cmp.Ordering.{Ordering}
-use Rattle.std.proofs.lemmas.Cmp.{tied_itself}
-use Rattle.std.proofs.lemmas.List.{take-append-drop, length-append, take_at, drop_at}
+use Rattle.cil_accesses.proofs.Common.{AllByRecursion, prefix_len, eq_by_cmp, is_eq, IsTotalOrder, Ordering, tied_itself, take-append-drop, length-append, take_at, drop_at, contains-first, contains-other, equal-is, put_first, groups_of, IsFirstGroup}
 use Rattle.std.proofs.lemmas.List.Folds.{length-prefix_len}
-use Rattle.cil_specs.proofs.NamesLemmas.{contains-first, contains-other}
-use Rattle.cil_specs.proofs.ReportLemmas.{equal-is}
-use Rattle.cil_accesses.specs.Groups.{put_first, groups_of, IsFirstGroup}
 
 -- groups have the elements of their list
 joined-put_first : {X : Type 0} (alike : X → X → Bool) (x : X) (groups : List (List X)) → flat_map (λ group. group) (put_first alike x groups) ≡ x ∷ flat_map (λ group. group) groups

@@ -1,15 +1,7 @@
 -- Lists that ascend, and what stands in them.
 use Rattle.std.proofs.Common.{◌≡◌, ◌⊎◌, inl, inr, Bool, true, false, cond, List, [], ◌∷◌, ◌++◌, refl, sym, ap, ◌∙◌, subst, arith, Contains, filter, true≢false}
-use Rattle.std.specs.List.{AllByRecursion}
-use Rattle.std.specs.List.Sorted.{IsStrictlySortedBy}
-use Rattle.std.specs.Ordering.{ordering_reverse}
-use Rattle.std.specs.Cmp.{IsTotalOrder}
-use Rattle.std.specs.declared.cmp.Ordering.{Ordering}
-use Rattle.std.specs.declared.cmp.Ordering.TheVariants.{Less, Equal, Greater}
-use Rattle.std.proofs.lemmas.Cmp.{tied_itself}
-use Rattle.std.proofs.lemmas.List.Elements.{recursion_from_All}
+use Rattle.cil_accesses.proofs.Common.{AllByRecursion, IsStrictlySortedBy, Ordering, Less, recursion_from_All, all-append, all-contained, contains-cases, contains-first, contains-other}
 use Rattle.cil_specs.proofs.ReportLemmasMembers.{all_from_contains}
-use Rattle.cil_specs.proofs.NamesLemmas.{all-append, all-contained, contains-cases, contains-first, contains-other}
 
 -- by elements, what is stated by recursion
 pub all-by : {X : Type 0} (P : X → Type 0) (xs : List X) → ((x : X) → Contains xs x → P x) → AllByRecursion P xs
@@ -64,37 +56,3 @@ sorted-right R (x ∷ xs) ys sorted = sorted-right R xs ys sorted.1
 pub sorted-first : {X : Type 0} (R : X → X → Ordering) (x : X) (xs : List X) (y : X) → IsStrictlySortedBy R (x ∷ xs) → Contains xs y → R x y ≡ Less
 unfolding IsStrictlySortedBy
 sorted-first R x xs y sorted h = all-contained (λ z. R x z ≡ Less) xs y sorted.0 h
-
-pub sorted-others : {X : Type 0} (R : X → X → Ordering) (x : X) (xs : List X) → IsStrictlySortedBy R (x ∷ xs) → IsStrictlySortedBy R xs
-unfolding IsStrictlySortedBy
-sorted-others R x xs sorted = sorted.1
-
--- no element is below itself
-pub below_itself : {X : Type 0} (R : X → X → Ordering) → IsTotalOrder R → (x y : X) → x ≡ y → R x y ≡ Less → ⊥
-below_itself R total x y same less = let tied : R x y ≡ Equal = ap (R x) (sym same) ∙ tied_itself total x in let both : Less ≡ Equal = sym less ∙ tied in cc
-
--- what is among a list and isn't its first element, is among the others
-tail-of : {X : Type 0} (u z : X) (zs : List X) → (u ≡ z) ⊎ Contains zs z → (u ≡ z → ⊥) → Contains zs z
-tail-of u z zs (inl e) apart = absurd (apart e)
-tail-of u z zs (inr h) apart = h
-
--- ascending lists with the same elements are one
-pub sorted_one : {X : Type 0} (R : X → X → Ordering) → IsTotalOrder R → (xs ys : List X) → IsStrictlySortedBy R xs → IsStrictlySortedBy R ys → ((x : X) → Contains xs x → Contains ys x) → ((x : X) → Contains ys x → Contains xs x) → xs ≡ ys
-sorted_one R total [] [] sorted rising to back = refl
-sorted_one R total [] (y ∷ ys) sorted rising to back = absurd (contains-none y (back y (contains-first y ys)))
-sorted_one R total (x ∷ xs) [] sorted rising to back = absurd (contains-none x (to x (contains-first x xs)))
-sorted_one R total (x ∷ xs) (y ∷ ys) sorted rising to back =
-    let same : x ≡ y = heads (contains-cases y ys x (to x (contains-first x xs))) (contains-cases x xs y (back y (contains-first y ys))) in
-    let tails : xs ≡ ys = sorted_one R total xs ys (sorted-others R x xs sorted) (sorted-others R y ys rising)
-    (λ z h. tail-of y z ys (contains-cases y ys z (to z (contains-other x xs z h))) (λ e. below_itself R total x z (same ∙ e) (sorted-first R x xs z sorted h)))
-    (λ z h. tail-of x z xs (contains-cases x xs z (back z (contains-other y ys z h))) (λ e. below_itself R total y z (sym same ∙ e) (sorted-first R y ys z rising h))) in
-    λ i. same i ∷ tails i
-  where
-    heads : (y ≡ x) ⊎ Contains ys x → (x ≡ y) ⊎ Contains xs y → x ≡ y
-    heads (inl e) other = sym e
-    heads (inr h) (inl e) = e
-    heads (inr h) (inr g) =
-        let up : R y x ≡ Less = sorted-first R y ys x rising h in
-        let down : R x y ≡ Less = sorted-first R x xs y sorted g in
-        let turned : Less ≡ Greater = sym up ∙ total.antisymm y x ∙ ap ordering_reverse down in
-        absurd (let none : ⊥ = cc in none)

@@ -1,15 +1,8 @@
 -- Chunks that are put in order.
 use Rattle.std.proofs.Common.{◌≡◌, ◌↔◌, ◌<◌, ◌^◌, List, [], refl, sym, subst, Contains, IsPermutation, IsSorted}
-use Rattle.std.specs.List.{All}
-use Rattle.std.specs.List.Sorted.{IsStrictlySortedBy}
-use Rattle.std.proofs.lemmas.List.Elements.{All-nil, recursion_from_All, All-from_recursion}
+use Rattle.cil_accesses.proofs.Common.{All, IsStrictlySortedBy, All-nil, recursion_from_All, All-from_recursion, AccessNumbers, Chunk, IsGiven, accesses_of, AreChunks, merged}
 use Rattle.std.proofs.lemmas.List.Sorted.{All-permutation, Contains-permutation, IsPermutation-sym}
-use Rattle.cil_accesses.specs.declared.access.AccessNumbers.{AccessNumbers}
-use Rattle.cil_accesses.specs.declared.chunk.Chunk.{Chunk}
-use Rattle.cil_accesses.specs.Chunks.{IsGiven}
-use Rattle.cil_accesses.specs.View.{accesses_of, AreChunks}
 use Rattle.cil_accesses.specs.contracts.chunk.ChunkOrd.TheImpl as chunk_ord
-use Rattle.cil_accesses.specs.Merged.{merged}
 use Rattle.cil_accesses.proofs.Members.{in-accesses_of, accesses_of-has}
 use Rattle.cil_accesses.proofs.Merging.{sorted-ascends, all-merged, merged-given, given-merged}
 

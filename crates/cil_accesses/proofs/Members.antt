@@ -1,15 +1,7 @@
 -- Which accesses the chunks of a list have.
 use Rattle.std.proofs.Common.{◌≡◌, ◌⊎◌, inl, inr, ℕ, suc, zero, ◌<◌, ◌≤◌, ◌+◌, ◌*◌, ◌/◌, ◌%◌, true, List, filter, flat_map, sym, ap, ◌∙◌, subst, arith, Contains, eq-eqb, eqb-true}
-use Rattle.std.specs.Int.{bit_at}
-use Rattle.std.proofs.lemmas.Bool.{cases_eq}
-use Rattle.std.proofs.lemmas.List.Elements.{Contains-append_left, Contains-append_right, Contains-append_cases}
-use Rattle.cil_specs.proofs.NamesLemmas.{contains-map, contains-mapped}
+use Rattle.cil_accesses.proofs.Common.{bit_at, cases_eq, Contains-append_left, Contains-append_right, Contains-append_cases, contains-map, contains-mapped, contains-filtered, AccessNumbers, Chunk, IsAccessOf, IsGiven, in_run, runs_of, has_bit, access_at, at_bit, at_bits, run_accesses, accesses_of}
 use Rattle.cil_specs.proofs.MeansLemmas.{contains-flat, flat-contains}
-use Rattle.cil_specs.proofs.FaultWords.{contains-filtered}
-use Rattle.cil_accesses.specs.declared.access.AccessNumbers.{AccessNumbers}
-use Rattle.cil_accesses.specs.declared.chunk.Chunk.{Chunk}
-use Rattle.cil_accesses.specs.Chunks.{IsAccessOf, IsGiven}
-use Rattle.cil_accesses.specs.View.{in_run, runs_of, has_bit, access_at, at_bit, at_bits, run_accesses, accesses_of}
 use Rattle.cil_accesses.proofs.GroupLemmas.{joined-groups_of}
 use Rattle.cil_accesses.proofs.Lists.{contains-none, contains-filter, filter-passes}
 

@@ -1,23 +1,9 @@
 -- Chunks that are merged.
 use Rattle.std.proofs.Common.{◌≡◌, ◌⊎◌, inl, inr, ℕ, suc, ◌<◌, ◌%◌, add-one, Bool, true, false, cond, List, [], ◌∷◌, get_or, length, bit_or, refl, sym, ap, ◌∙◌, subst, arith, IsSorted}
 use Rattle.std.specs.Bool.{MatchBool}
-use Rattle.std.specs.Int.{bit_at}
-use Rattle.std.specs.List.{AllByRecursion}
+use Rattle.cil_accesses.proofs.Common.{bit_at, AllByRecursion, IsStrictlySortedBy, nat_cmp, ordering_then, ordering_reverse, is_eq, is_lt, Ordering, Less, Equal, Greater, cases_eq, true≢false, bit_at-lt, bit_at_or, equal-is, contains-cases, contains-first, contains-other, AccessNumbers, Chunk, chunk_cmp, IsAccessOf, IsGiven, with_bits, nowhere, of_one_key, taking_up, merged_from, merged}
 use Rattle.std.specs.List.Retain.{DedupsFrom, IsDeduped}
-use Rattle.std.specs.List.Sorted.{IsStrictlySortedBy}
-use Rattle.std.specs.Ordering.{nat_cmp, ordering_then, ordering_reverse, is_eq, is_lt}
-use Rattle.std.specs.declared.cmp.Ordering.{Ordering}
-use Rattle.std.specs.declared.cmp.Ordering.TheVariants.{Less, Equal, Greater}
-use Rattle.std.proofs.lemmas.Bool.{cases_eq, true≢false}
-use Rattle.std.proofs.lemmas.Nat.Bits.{bit_at-lt, bit_at_or}
-use Rattle.cil_specs.proofs.ReportLemmas.{equal-is}
-use Rattle.cil_specs.proofs.NamesLemmas.{contains-cases, contains-first, contains-other}
-use Rattle.cil_accesses.specs.declared.access.AccessNumbers.{AccessNumbers}
-use Rattle.cil_accesses.specs.declared.chunk.Chunk.{Chunk}
 use Rattle.cil_accesses.specs.contracts.chunk.ChunkOrd.TheImpl as chunk_ord
-use Rattle.cil_accesses.specs.Chunks.{chunk_cmp, IsAccessOf, IsGiven}
-use Rattle.cil_accesses.specs.Chunks.{with_bits, nowhere}
-use Rattle.cil_accesses.specs.Merged.{of_one_key, taking_up, merged_from, merged}
 use Rattle.cil_accesses.proofs.Order.{derived-chunk, chunk_total, chunk_exact}
 
 -- ---- what one walk over the chunks leaves

@@ -1,18 +1,6 @@
 -- The bits of a chunk that are set, one after the other.
 use Rattle.std.proofs.Common.{◌≡◌, ◌↔◌, ◌⊎◌, inl, inr, ℕ, ◌<◌, ◌≤◌, ◌+◌, ◌-◌, ◌*◌, ◌/◌, ◌%◌, ◌^◌, ◌==◌, true, false, true≢false, List, [], ◌∷◌, ◌++◌, bit_or, get_or, w64, refl, sym, ap, ◌∙◌, subst, arith, eq-eqb, div-le_self}
-use Rattle.std.specs.Int.{bit_at, trailing_zeros}
-use Rattle.std.specs.List.{All}
-use Rattle.std.specs.declared.cmp.Ordering.TheVariants.{Equal}
-use Rattle.std.proofs.lemmas.Bool.{cases_eq, cases_lt}
-use Rattle.std.proofs.lemmas.Cmp.{tied_itself}
-use Rattle.std.proofs.lemmas.Nat.{shr-shr}
-use Rattle.std.proofs.lemmas.Nat.Bits.{bit_at-zero, bit_at_above, bit_at-trailing_zeros}
-use Rattle.cil_accesses.specs.declared.access.AccessNumbers.{AccessNumbers}
-use Rattle.cil_accesses.specs.declared.chunk.Chunk.{Chunk}
-use Rattle.cil_accesses.specs.Chunks.{chunk_cmp, IsAccessOf, IsGiven}
-use Rattle.cil_accesses.specs.Chunks.{with_bits}
-use Rattle.cil_accesses.specs.Renumbered.{IsRenumbered, IsRenumberedAt, MovesUp, renumbered}
-use Rattle.cil_accesses.specs.View.{access_at, has_bit, IsNextBit, NoBitFrom}
+use Rattle.cil_accesses.proofs.Common.{bit_at, trailing_zeros, All, Equal, cases_eq, cases_lt, tied_itself, shr-shr, bit_at-zero, bit_at_above, bit_at-trailing_zeros, AccessNumbers, Chunk, chunk_cmp, IsAccessOf, IsGiven, with_bits, IsRenumbered, IsRenumberedAt, MovesUp, renumbered, access_at, has_bit, IsNextBit, NoBitFrom}
 use Rattle.cil_accesses.proofs.Merging.{both-first, both-second, one-of-both}
 use Rattle.cil_accesses.proofs.Order.{chunk_total, same-chunk_cmp, HaveOneKey}
 use Rattle.cil_accesses.proofs.Renumbering.{access-put, any-left, any-push, any-pushed, bit-added, bit-set, chunk-put, one-access}

@@ -1,22 +1,12 @@
 -- What the derived comparison of chunks computes, and the orders.
 use Rattle.std.proofs.Common.{◌≡◌, refl, sym, ap, ◌∙◌}
-use Rattle.std.specs.Ordering.{nat_cmp, ordering_then}
-use Rattle.std.specs.Cmp.{IsTotalOrder}
-use Rattle.std.specs.declared.cmp.Ordering.{Ordering}
-use Rattle.std.specs.declared.cmp.Ordering.TheVariants.{Less, Equal, Greater}
-use Rattle.std.proofs.lemmas.Cmp.{nat_cmp_total, on_total, then_total, tied_itself}
-use Rattle.std.proofs.lemmas.Map.Lookups.{CmpEqualImpliesEq, exact_unsigned}
+use Rattle.cil_accesses.proofs.Common.{nat_cmp, ordering_then, IsTotalOrder, Ordering, Less, Equal, Greater, nat_cmp_total, on_total, then_total, kind_index, then_equal, same-kind, rule_kind_of, Chunk, run_cmp, chunk_cmp}
+use Rattle.std.proofs.lemmas.Map.Lookups.{exact_unsigned}
 use Rattle.cil_specs.specs.Statements as spec
 use Rattle.cil_specs.specs.Statements.{allow, auditallow, dontaudit, neverallow}
-use Rattle.cil_specs.specs.Rule.{kind_index}
-use Rattle.cil_specs.proofs.ReportLemmas.{then_equal, same-kind}
-use Rattle.cil_text.specs.Image.{rule_kind_of}
 use Rattle.cil_text.specs.declared.statement.RuleKind.{RuleKind}
 use Rattle.cil_text.specs.declared.statement.RuleKind.TheVariants.{Allow, AuditAllow, DontAudit, NeverAllow}
 use Rattle.cil_text.specs.contracts.statement.RuleKindOrd.TheImpl as kind_ord
-use Rattle.cil_accesses.specs.declared.access.AccessNumbers.{AccessNumbers}
-use Rattle.cil_accesses.specs.declared.chunk.Chunk.{Chunk}
-use Rattle.cil_accesses.specs.Chunks.{numbers_cmp, run_cmp, chunk_cmp, IsAccessOf}
 use Rattle.cil_accesses.specs.contracts.chunk.ChunkOrd.TheImpl as chunk_ord
 
 -- kinds stand in the order of their variants
@@ -59,12 +49,6 @@ derived-chunk x y =
     ∙ ap (ordering_then (ordering_then k (ordering_then s w))) (then_assoc c p b)
     ∙ then_assoc (ordering_then k (ordering_then s w)) (ordering_then c p) b
 
-pub numbers_total : IsTotalOrder numbers_cmp
-numbers_total =
-    then_total (on_total (λ a. kind_index (rule_kind_of a.kind)) nat_cmp_total)
-    (then_total (on_total (λ a. a.source) nat_cmp_total) (then_total (on_total (λ a. a.target) nat_cmp_total)
-    (then_total (on_total (λ a. a.class) nat_cmp_total) (on_total (λ a. a.permission) nat_cmp_total))))
-
 pub run_total : IsTotalOrder run_cmp
 run_total =
     then_total (on_total (λ c. kind_index (rule_kind_of c.kind)) nat_cmp_total)
@@ -89,20 +73,6 @@ kind_from-rule_kind_of NeverAllow = refl
 
 pub same-rule_kind : (k l : RuleKind) → kind_index (rule_kind_of k) ≡ kind_index (rule_kind_of l) → k ≡ l
 same-rule_kind k l e = sym (kind_from-rule_kind_of k) ∙ ap kind_from (same-kind _ _ e) ∙ kind_from-rule_kind_of l
-
--- accesses that compare alike are one
-pub numbers_exact : CmpEqualImpliesEq numbers_cmp
-numbers_exact a b e =
-    let kinds = then_equal _ _ e in
-    let sources = then_equal _ _ kinds.1 in
-    let targets = then_equal _ _ sources.1 in
-    let classes = then_equal _ _ targets.1 in
-    let kind = same-rule_kind a.kind b.kind (exact_unsigned _ _ kinds.0) in
-    let source = exact_unsigned _ _ sources.0 in
-    let target = exact_unsigned _ _ targets.0 in
-    let the_class = exact_unsigned _ _ classes.0 in
-    let permission = exact_unsigned _ _ classes.1 in
-    λ i. record { kind = kind i; source = source i; target = target i; class = the_class i; permission = permission i }
 
 -- chunks of one run have one kind, source and word
 pub record InOneRun (c d : Chunk) : Type 0 where
@@ -133,16 +103,6 @@ same-chunk_cmp c d same e =
     λ i. ordering_then
     (ordering_then (nat_cmp (kind_index (rule_kind_of (same.run.kind i))) (kind_index (rule_kind_of e.kind))) (ordering_then (nat_cmp (same.run.source i) e.source) (nat_cmp (same.run.word i) e.word)))
     (ordering_then (nat_cmp (same.the_class i) e.class) (nat_cmp (same.permission i) e.permission))
-
--- chunks that have one access have one key
-pub one-key : (c d : Chunk) (a : AccessNumbers) → IsAccessOf c a → IsAccessOf d a → chunk_cmp c d ≡ Equal
-one-key c d a of_c of_d =
-    let same : HaveOneKey c d = record {
-      run = record { kind = sym of_c.kind ∙ of_d.kind; source = sym of_c.source ∙ of_d.source; word = sym of_c.word ∙ of_d.word };
-      the_class = sym of_c.the_class ∙ of_d.the_class;
-      permission = sym of_c.permission ∙ of_d.permission;
-    } in
-    same-chunk_cmp c d same d ∙ tied_itself chunk_total d
 
 -- what comparing keys computes
 pub key-cmp : (k : Ordering) (x y : Chunk) → k ≡ (kind_ord.cmp-value).it x.kind y.kind

@@ -1,13 +1,6 @@
 -- Places among the accesses of chunks.
 use Rattle.std.proofs.Common.{◌≡◌, ℕ, suc, zero, ◌<◌, ◌≤◌, ◌+◌, ◌-◌, ◌^◌, List, [], ◌∷◌, ◌++◌, length, get_or, filter, map, slice_get, option_map, Some, None, refl, sym, ap, ◌∙◌, subst, arith, Contains}
-use Rattle.std.specs.List.{All, AllByRecursion, HoldsAt}
-use Rattle.std.proofs.lemmas.List.{get_or_default, length-map}
-use Rattle.std.proofs.lemmas.List.Elements.{All-contains, All-from_recursion, recursion_from_All}
-use Rattle.cil_specs.proofs.NamesLemmas.{all-first, all-second, contains-first, contains-other}
-use Rattle.cil_specs.proofs.FaultWords.{contains-filtered}
-use Rattle.cil_accesses.specs.declared.chunk.Chunk.{Chunk}
-use Rattle.cil_accesses.specs.Groups.{IsFirstGroup}
-use Rattle.cil_accesses.specs.View.{in_run, has_bit, access_at, at_bit, at_bits, from_bit, run_accesses, accesses_of}
+use Rattle.cil_accesses.proofs.Common.{All, AllByRecursion, HoldsAt, get_or_default, length-map, All-contains, All-from_recursion, recursion_from_All, all-first, all-second, contains-first, contains-other, contains-filtered, Chunk, IsFirstGroup, in_run, has_bit, access_at, at_bit, at_bits, from_bit, run_accesses, accesses_of}
 use Rattle.cil_accesses.proofs.RunLemmas.{accesses-parts}
 
 -- a fact of an element as it is read

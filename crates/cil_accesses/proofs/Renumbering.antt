@@ -1,35 +1,10 @@
 -- Accesses whose numbers change.
-use Rattle.std.proofs.Common.{◌≡◌, ◌↔◌, ◌⊎◌, inl, inr, ℕ, suc, ◌<◌, ◌+◌, ◌*◌, ◌/◌, ◌%◌, ◌^◌, Bool, true, false, cond, List, [], ◌∷◌, ◌++◌, get_or, set, length, take, drop, map, Any, bit_or, refl, sym, ap, ◌∙◌, subst, arith, Contains, w64}
+use Rattle.std.proofs.Common.{◌≡◌, ◌↔◌, ◌⊎◌, inl, inr, ℕ, suc, ◌<◌, ◌+◌, ◌*◌, ◌/◌, ◌%◌, ◌^◌, Bool, true, false, cond, List, [], ◌∷◌, ◌++◌, get_or, set, length, take, drop, Any, bit_or, refl, sym, ap, ◌∙◌, subst, arith, Contains, w64}
 use Rattle.std.specs.Bool.{MatchBool}
-use Rattle.std.specs.Int.{bit_at}
-use Rattle.std.specs.List.{All}
-use Rattle.std.specs.List.Sorted.{IsStrictlyIncreasing, IsStrictlySortedBy}
-use Rattle.std.specs.Ordering.{nat_cmp, ordering_then}
-use Rattle.std.specs.declared.cmp.Ordering.{Ordering}
-use Rattle.std.specs.declared.cmp.Ordering.TheVariants.{Less, Equal, Greater}
-use Rattle.std.proofs.lemmas.Bool.{cases_eq, cases_order}
-use Rattle.std.proofs.lemmas.Bool.Decides.{nat_tests}
-use Rattle.std.proofs.lemmas.List.{set_split, set-get_or, take_more}
-use Rattle.std.proofs.lemmas.List.Elements.{Contains-append_left, Contains-append_right, Contains-append_cases, recursion_from_All}
-use Rattle.std.proofs.lemmas.Map.Keys.{below_from_sorted, sorted_from_strictly_increasing}
-use Rattle.std.proofs.lemmas.Nat.Bits.{bit_at_set_same, bit_at_set_other, bit_at-zero}
-use Rattle.cil_specs.specs.Rule.{kind_index}
-use Rattle.cil_specs.proofs.ReportLemmas.{equal-is}
-use Rattle.cil_specs.proofs.ReportLemmasMembers.{sorted_map}
-use Rattle.cil_specs.proofs.NamesLemmas.{contains-cases, contains-first, contains-map, contains-mapped}
-use Rattle.cil_text.specs.Image.{rule_kind_of}
-use Rattle.cil_accesses.specs.declared.access.AccessNumbers.{AccessNumbers}
-use Rattle.cil_accesses.specs.declared.chunk.Chunk.{Chunk}
-use Rattle.cil_accesses.specs.Chunks.{numbers_cmp, chunk_cmp, IsAccessOf, IsGiven}
-use Rattle.cil_accesses.specs.Chunks.{with_bits}
-use Rattle.cil_accesses.specs.Merged.{of_one_key, taking_up}
-use Rattle.cil_accesses.specs.Renumbered.{IsWithin, IsRenumbered, IsRenumberedAt, renumbered}
-use Rattle.cil_accesses.specs.View.{has_bit, access_at, accesses_of, AreChunks}
-use Rattle.cil_accesses.proofs.Ascending.{accesses-ascend}
-use Rattle.cil_accesses.proofs.Lists.{contains-none, sorted_one}
-use Rattle.cil_accesses.proofs.Members.{access-of, of-access, in-accesses_of, accesses_of-has}
+use Rattle.cil_accesses.proofs.Common.{bit_at, IsStrictlyIncreasing, IsStrictlySortedBy, nat_cmp, Equal, cases_eq, set_split, set-get_or, Contains-append_left, Contains-append_right, Contains-append_cases, bit_at_set_same, bit_at_set_other, bit_at-zero, equal-is, contains-cases, contains-first, AccessNumbers, Chunk, chunk_cmp, IsAccessOf, IsGiven, with_bits, of_one_key, taking_up, IsRenumbered, IsRenumberedAt, renumbered, has_bit, access_at}
+use Rattle.std.proofs.lemmas.Map.Keys.{sorted_from_strictly_increasing}
+use Rattle.cil_accesses.proofs.Lists.{contains-none}
 use Rattle.cil_accesses.proofs.Merging.{one-of-both, both-first, both-second}
-use Rattle.cil_accesses.proofs.Order.{numbers_total}
 
 -- ---- a fact of some element of two lists
 
@@ -194,63 +169,8 @@ chunk-put old mid new chunk same is a =
 
 -- ---- the chunks in turn
 
-pub chunk-added : (numbers : List ℕ) (chunks mid new : List Chunk) (i : ℕ) (d : Chunk) → i < length chunks → ((a : AccessNumbers) → IsGiven mid a ↔ Any (λ c. IsRenumbered numbers c 64 a) (take i chunks))
-    → ((a : AccessNumbers) → IsGiven new a ↔ (IsGiven mid a ⊎ IsRenumbered numbers (get_or chunks i d) 64 a)) → (a : AccessNumbers) → IsGiven new a ↔ Any (λ c. IsRenumbered numbers c 64 a) (take (i + 1) chunks)
-chunk-added numbers chunks mid new i d within so_far more a =
-    subst (λ l. IsGiven new a ↔ Any (λ c. IsRenumbered numbers c 64 a) l) (sym (take_more chunks i d within)) (
-      λ h. any-push (λ c. IsRenumbered numbers c 64 a) (take i chunks) (get_or chunks i d) (elim ((more a).0 h) [ inl before ↦ inl ((so_far a).0 before) | inr here ↦ inr here ]),
-      λ h. (more a).1 (elim (any-pushed (λ c. IsRenumbered numbers c 64 a) (take i chunks) (get_or chunks i d) h) [ inl before ↦ inl ((so_far a).1 before) | inr here ↦ inr here ]),
-    )
-
 -- ---- numbers that rise keep the order
 
 module _ (numbers : List ℕ) (rising : IsStrictlyIncreasing numbers) where
   ordered : IsStrictlySortedBy nat_cmp numbers
   ordered = sorted_from_strictly_increasing numbers rising
-
-  in-order : (i j : ℕ) → i < length numbers → j < length numbers → nat_cmp (get_or numbers i 0) (get_or numbers j 0) ≡ nat_cmp i j
-  in-order i j i_within j_within = by (cases_order i j)
-    where
-      below : (k m : ℕ) → k < m → nat_cmp k m ≡ Less
-      below k m h = grind (arith, nat_tests)
-
-      above : (k m : ℕ) → m < k → nat_cmp k m ≡ Greater
-      above k m h = grind (arith, nat_tests)
-
-      tied : (k m : ℕ) → k ≡ m → nat_cmp k m ≡ Equal
-      tied k m h = grind (arith, nat_tests)
-
-      by : (i ≡ j) ⊎ ((i < j) ⊎ (j < i)) → nat_cmp (get_or numbers i 0) (get_or numbers j 0) ≡ nat_cmp i j
-      by (inl same) = tied _ _ (ap (λ k. get_or numbers k 0) same) ∙ sym (tied i j same)
-      by (inr (inl before)) = below _ _ (below_from_sorted numbers i j 0 ordered before j_within) ∙ sym (below i j before)
-      by (inr (inr behind)) = above _ _ (below_from_sorted numbers j i 0 ordered behind i_within) ∙ sym (above i j behind)
-
-  one-order : (a b : AccessNumbers) → IsWithin (length numbers) a → IsWithin (length numbers) b → numbers_cmp (renumbered numbers a) (renumbered numbers b) ≡ numbers_cmp a b
-  one-order a b p q =
-      let kind : Ordering = nat_cmp (kind_index (rule_kind_of a.kind)) (kind_index (rule_kind_of b.kind)) in
-      let source = in-order a.source b.source p.source q.source in
-      let target = in-order a.target b.target p.target q.target in
-      let the_class = in-order a.class b.class p.the_class q.the_class in
-      let permission = in-order a.permission b.permission p.permission q.permission in
-      λ i. ordering_then kind (ordering_then (source i) (ordering_then (target i) (ordering_then (the_class i) (permission i))))
-
-  -- ascending accesses that are those of chunks with other numbers
-  pub renumbered-is : (chunks made : List Chunk) (r own : List AccessNumbers) → accesses_of chunks ≡ own → AreChunks chunks → All (IsWithin (length numbers)) own → IsStrictlySortedBy numbers_cmp r
-      → ((a : AccessNumbers) → Contains r a ↔ IsGiven made a) → ((a : AccessNumbers) → IsGiven made a ↔ Any (λ c. IsRenumbered numbers c 64 a) chunks) → r ≡ map (renumbered numbers) own
-  renumbered-is chunks made r own own_is are within sorted has made_is =
-      sorted_one numbers_cmp numbers_total r (map (renumbered numbers) own) sorted
-      (sorted_map (renumbered numbers) numbers_cmp numbers_cmp (IsWithin (length numbers)) one-order own (recursion_from_All (IsWithin (length numbers)) own within)
-      (subst (IsStrictlySortedBy numbers_cmp) own_is (accesses-ascend chunks are.ordered)))
-      (λ a h. to a ((made_is a).0 ((has a).0 h))) (λ a h. (has a).1 ((made_is a).1 (back a (contains-mapped (renumbered numbers) own a h))))
-    where
-      to : (a : AccessNumbers) → Any (λ c. IsRenumbered numbers c 64 a) chunks → Contains (map (renumbered numbers) own) a
-      to a (k, c, inside, at, of) =
-          let access : AccessNumbers = access_at of.bit c in
-          let given : IsGiven chunks access = (k, c, inside, at, access-of c of.bit access of.within of.at.set refl) in
-          subst (Contains (map (renumbered numbers) own)) (sym of.at.is) (contains-map (renumbered numbers) own access (subst (λ l. Contains l access) own_is (accesses_of-has chunks access given)))
-
-      back : (a : AccessNumbers) → (x : AccessNumbers) × Contains own x × (renumbered numbers x ≡ a) → Any (λ c. IsRenumbered numbers c 64 a) chunks
-      back a (x, among, is) =
-          let (k, c, inside, at, of) = in-accesses_of chunks x (subst (λ l. Contains l x) (sym own_is) among) in
-          let set = of-access c x of in
-          (k, c, inside, at, record { bit = x.target % 64; within = omega arith; at = record { set = set.0; is = sym is ∙ ap (renumbered numbers) (sym set.1) } })

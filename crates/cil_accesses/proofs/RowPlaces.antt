@@ -1,28 +1,8 @@
 -- The first row at a place, and the places behind it.
 use Rattle.std.proofs.Common.{◌≡◌, ◌⊎◌, inl, inr, ℕ, ◌+◌, ◌-◌, ◌*◌, ◌<◌, ◌≤◌, Bool, true, false, not, cond, List, [], ◌∷◌, ◌++◌, length, take, drop, filter, map, slice_get, Some, None, refl, sym, ap, ◌∙◌, subst, arith, one-add, append_assoc, append-nil, Contains, true≢false}
-use Rattle.std.specs.List.{prefix_len}
-use Rattle.std.specs.List.Sorted.{IsStrictlySortedBy}
-use Rattle.std.specs.Cmp.{IsTotalOrder}
-use Rattle.std.specs.Ordering.{nat_cmp, ordering_then, is_eq}
-use Rattle.std.specs.declared.cmp.Ordering.{Ordering}
-use Rattle.std.specs.declared.cmp.Ordering.TheVariants.{Less, Equal}
-use Rattle.std.proofs.lemmas.Bool.{false_from_ne_true}
+use Rattle.cil_accesses.proofs.Common.{prefix_len, IsStrictlySortedBy, IsTotalOrder, nat_cmp, ordering_then, is_eq, Ordering, Less, Equal, false_from_ne_true, nat_cmp_total, on_total, then_total, take-append-drop, map-append, filter-append, Contains-append_left, Contains-append_right, Contains-append_cases, kind_index, all-contained, contains-cases, contains-first, then_equal, equal-is, rule_kind_of, AccessNumbers, Chunk, RowPlace, run_cmp, chunk_cmp, IsGiven, IsFirstGroup, row_cmp, in_row, rows_of, class_cmp, has_class, at_place, IsNextClass, IsPlace, has_bit, access_at, at_bit, from_bit, accesses_of}
 use Rattle.std.proofs.lemmas.Bool.Decides.{nat_tests}
-use Rattle.std.proofs.lemmas.Cmp.{nat_cmp_total, on_total, then_total}
-use Rattle.std.proofs.lemmas.List.{take-append-drop, map-append}
-use Rattle.std.proofs.lemmas.List.Elements.{filter-append, Contains-append_left, Contains-append_right, Contains-append_cases}
 use Rattle.std.proofs.lemmas.Map.Lookups.{exact_unsigned}
-use Rattle.cil_specs.specs.Rule.{kind_index}
-use Rattle.cil_specs.proofs.NamesLemmas.{all-contained, contains-cases, contains-first}
-use Rattle.cil_specs.proofs.ReportLemmas.{then_equal, equal-is}
-use Rattle.cil_text.specs.Image.{rule_kind_of}
-use Rattle.cil_accesses.specs.declared.access.AccessNumbers.{AccessNumbers}
-use Rattle.cil_accesses.specs.declared.chunk.Chunk.{Chunk}
-use Rattle.cil_accesses.specs.declared.rows.RowPlace.{RowPlace}
-use Rattle.cil_accesses.specs.Chunks.{run_cmp, chunk_cmp, IsGiven}
-use Rattle.cil_accesses.specs.Groups.{IsFirstGroup}
-use Rattle.cil_accesses.specs.Rows.{row_cmp, in_row, rows_of, class_cmp, has_class, at_place, IsNextClass, IsPlace}
-use Rattle.cil_accesses.specs.View.{has_bit, access_at, at_bit, from_bit, accesses_of}
 use Rattle.cil_accesses.proofs.GroupLemmas.{alike-own, groups-parts, prefix-ends, prefix-passes, prefix-is}
 use Rattle.cil_accesses.proofs.Lists.{contains-none, sorted-right, sorted-first}
 use Rattle.cil_accesses.proofs.Members.{IsAt, in-at_bit, in-at_bits, in-accesses_of}

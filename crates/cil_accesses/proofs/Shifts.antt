@@ -1,16 +1,6 @@
 -- Words whose bits move up together.
 use Rattle.std.proofs.Common.{◌≡◌, ◌↔◌, ◌⊎◌, inl, inr, ℕ, zero, suc, ◌<◌, ◌≤◌, ◌+◌, ◌-◌, ◌*◌, ◌/◌, ◌%◌, ◌^◌, List, length, get_or, w64, refl, sym, ap, ◌∙◌, subst, arith, eq-eqb, eqb-true}
-use Rattle.std.specs.Int.{bit_at, trailing_zeros, leading_zeros}
-use Rattle.std.specs.List.Sorted.{IsStrictlyIncreasing}
-use Rattle.std.proofs.lemmas.Bool.{cases_lt}
-use Rattle.std.proofs.lemmas.Nat.{shr-shr, shr_split, leading_top, pow_pos}
-use Rattle.std.proofs.Math.Nat.{pow-suc}
-use Rattle.std.proofs.lemmas.Nat.Bits.{bit_at-zero, bit_at_above, bit_at_cat_low, bit_at_cat_high, bit_at-trailing_zeros}
-use Rattle.cil_accesses.specs.declared.access.AccessNumbers.{AccessNumbers}
-use Rattle.cil_accesses.specs.declared.chunk.Chunk.{Chunk}
-use Rattle.cil_accesses.specs.Chunks.{IsAccessOf, IsGiven}
-use Rattle.cil_accesses.specs.Renumbered.{IsWithin, IsMoved, IsTarget, IsRenumbered, IsRenumberedIn, MovesUp}
-use Rattle.cil_accesses.specs.View.{access_at}
+use Rattle.cil_accesses.proofs.Common.{bit_at, trailing_zeros, leading_zeros, IsStrictlyIncreasing, cases_lt, shr-shr, shr_split, leading_top, pow_pos, bit_at-zero, bit_at_above, bit_at_cat_low, bit_at_cat_high, bit_at-trailing_zeros, AccessNumbers, Chunk, IsAccessOf, IsGiven, IsWithin, IsMoved, IsTarget, IsRenumbered, IsRenumberedIn, MovesUp, access_at}
 use Rattle.cil_accesses.proofs.Members.{access-of}
 
 -- ---- the bits of two words
@@ -83,38 +73,8 @@ module _ (bits : ℕ) (some : 0 < bits) (fits : bits < 2 ^ 64) where
   pub lowest-set : bit_at bits lowest ≡ 1
   lowest-set = (bit_at-trailing_zeros w64 bits some fits).1
 
-  pub lowest-below : (b : ℕ) → bit_at bits b ≡ 1 → lowest ≤ b
-  lowest-below b set = by (cases_lt b lowest)
-    where
-      by : (b < lowest) ⊎ (lowest ≤ b) → lowest ≤ b
-      by (inl below) = let clear = (bit_at-trailing_zeros w64 bits some fits).2 b below in absurd (omega (arith, set, clear))
-      by (inr above) = above
-
   top : (j : ℕ) × (leading_zeros w64 bits + suc j ≡ 64) × (2 ^ j ≤ bits) × (bits < 2 ^ suc j)
   top = leading_top 64 bits some fits
-
-  highest-is : highest ≡ top.0
-  highest-is = let count = top.1 in omega (arith, count)
-
-  pub highest-set : bit_at bits highest ≡ 1
-  highest-set =
-      let j : ℕ = top.0 in
-      let low : 2 ^ j ≤ bits = top.2 in
-      let double = pow-suc 2 j in
-      let high = top.3 in
-      let parts : bits ≡ 1 * 2 ^ j + (bits - 2 ^ j) = omega (arith, low) in
-      let none : j - j ≡ 0 = omega arith in
-      ap (bit_at bits) highest-is ∙ ap (λ k. bit_at k j) parts ∙ bit_at_cat_high 1 j (bits - 2 ^ j) j (omega (arith, low, high, double)) (omega arith) ∙ ap (bit_at 1) none
-
-  pub highest-above : (b : ℕ) → bit_at bits b ≡ 1 → b ≤ highest
-  highest-above b set = by (cases_lt highest b)
-    where
-      by : (highest < b) ⊎ (b ≤ highest) → b ≤ highest
-      by (inl above) =
-          let is = highest-is in
-          let clear = bit_at_above bits (suc top.0) b top.3 (omega (arith, is)) in
-          absurd (omega (arith, set, clear))
-      by (inr below) = below
 
 -- ---- numbers that rise
 
@@ -162,19 +122,6 @@ module _ (numbers : List ℕ) (c : Chunk) (within : (a : AccessNumbers) → IsAc
 
     abbrev last : ℕ
     last = 64 * c.word + (63 - leading_zeros w64 c.bits)
-
-    pub first-within : first < length numbers
-    first-within = target-within (trailing_zeros w64 c.bits) (lowest-small c.bits some fits) (lowest-set c.bits some fits)
-
-    pub last-within : last < length numbers
-    last-within = target-within (63 - leading_zeros w64 c.bits) (omega arith) (highest-set c.bits some fits)
-
-    pub moves-up : get_or numbers last 0 - last ≡ get_or numbers first 0 - first → MovesUp numbers c (get_or numbers first 0 - first)
-    moves-up same b small set =
-        let is = eqb-true (bit_at c.bits b) 1 set in
-        let low = lowest-below c.bits some fits b is in
-        let high = highest-above c.bits some fits b is in
-        between numbers rising first (64 * c.word + b) last (omega (arith, low)) (omega (arith, high)) last-within same
 
 -- ---- the accesses of a chunk whose targets stand in a word
 

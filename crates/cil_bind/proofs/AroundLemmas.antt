@@ -1,20 +1,6 @@
 -- The optionals around statements, by the numbers of rows.
 use Rattle.std.proofs.Common.{◌≡◌, ℕ, zero, suc, ◌+◌, ◌<◌, ◌≤◌, ◌==◌, Bool, true, false, List, [], ◌∷◌, ◌++◌, length, get_or, slice_get, take, drop, Some, refl, sym, ap, ◌∙◌, subst, append_assoc, append-nil, add-one, length-append, arith, if◌then◌else◌}
-use Rattle.std.proofs.lemmas.List.{take_all}
-use Rattle.std.proofs.lemmas.Option.{none-some}
-use Rattle.std.proofs.lemmas.Bool.{eqb-true}
-use Rattle.cil_specs.specs.Statements.{Statements}
-use Rattle.cil_specs.specs.Joined.{Placed, Module, placed, joined}
-use Rattle.cil_parse.specs.Flat.{FlatStatement, flat}
-use Rattle.cil_parse.specs.Around.{IsOptionalOf, IsPlacedAs}
-use Rattle.cil_parse.specs.Parsed.{Spells, statement_count, texts_of}
-use Rattle.cil_parse.specs.View.{IsShown}
-use Rattle.cil_parse.specs.declared.parsed.ParsedModule.{ParsedModule}
-use Rattle.cil_parse.specs.declared.view.StatementView.{StatementView}
-use Rattle.cil_parse.proofs.AroundLemmas.{placed-flat}
-use Rattle.cil_bind.specs.Scope.{AreSpelt, IsAround, AreAround, optional_number}
-use Rattle.cil_bind.specs.declared.joined.NamedModule.{NamedModule}
-use Rattle.cil_bind.specs.declared.rows.Row.{Row}
+use Rattle.cil_bind.proofs.Common.{take_all, none-some, eqb-true, Statements, Placed, Module, placed, joined, FlatStatement, flat, IsOptionalOf, IsPlacedAs, Spells, statement_count, texts_of, IsShown, ParsedModule, StatementView, placed-flat, AreSpelt, IsAround, AreAround, optional_number, NamedModule, Row}
 use Rattle.cil_bind.proofs.PositionLemmas.{take-next, take-length, around-at}
 use Rattle.cil_bind.proofs.PlaceLemmas.{flat-there, placed-there, placed-long, get-behind, joined-next, spelt-at, spelt-long}
 use Rattle.cil_bind.proofs.FromLemmas.{all-get, placed-named}

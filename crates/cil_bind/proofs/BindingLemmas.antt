@@ -1,27 +1,8 @@
 -- References that are bound.
 use Rattle.std.proofs.Common.{◌≡◌, ℕ, zero, suc, ◌+◌, ◌≤◌, List, [], ◌∷◌, ◌++◌, map, length, get_or, slice_get, take, Option, Some, None, refl, sym, ap, ◌∙◌, subst, add-one, arith}
-use Rattle.std.proofs.lemmas.List.{length-map, map-append, take_all}
-use Rattle.std.proofs.lemmas.Option.{none-some, same_Some}
-use Rattle.cil_specs.specs.Names.{Word}
+use Rattle.cil_bind.proofs.Common.{length-map, map-append, take_all, none-some, same_Some, Word, Form, block, optional, type_name, type_alias, alias_actual, type_attribute, attribute_set, common, class, class_common, class_order, rule, itself, the_named, Placed, Table, types, classes, leads, references, read, FlatStatement, words_in, AreRows, Row, IsShown, NumberedWord, StatementView, IsLead, kind_of, StatementKind, AreLeads, AreBound, Binds, kinds_of, most_references, AreFrom, NamedModule}
 use Rattle.cil_specs.specs.Expr.{leaves}
-use Rattle.cil_specs.specs.Statements.{Form, block, optional, type_name, type_alias, alias_actual, type_attribute, attribute_set, common, class, class_common, class_order, rule, itself, the_named}
-use Rattle.cil_specs.specs.Joined.{Placed}
-use Rattle.cil_specs.specs.Lookup.{Table, types, classes, leads, references}
-use Rattle.cil_parse.specs.Builder.{read}
-use Rattle.cil_parse.specs.Flat.{FlatStatement}
-use Rattle.cil_parse.specs.Forms.{words_in}
-use Rattle.cil_bind.specs.Rows.{AreRows}
-use Rattle.cil_bind.specs.declared.rows.Row.{Row}
 use Rattle.cil_bind.proofs.DeclareLemmas.{rows-length}
-use Rattle.cil_parse.specs.View.{IsShown}
-use Rattle.cil_parse.specs.declared.row.NumberedWord.{NumberedWord}
-use Rattle.cil_parse.specs.declared.view.StatementView.{StatementView}
-use Rattle.cil_bind.specs.Lookup.{IsLead}
-use Rattle.cil_parse.specs.Forms.{kind_of}
-use Rattle.cil_parse.specs.declared.row.StatementKind.{StatementKind}
-use Rattle.cil_bind.specs.Binding.{AreLeads, AreBound, Binds, kinds_of, most_references}
-use Rattle.cil_bind.specs.Scope.{AreFrom}
-use Rattle.cil_bind.specs.declared.joined.NamedModule.{NamedModule}
 use Rattle.cil_bind.proofs.PositionLemmas.{take-next, take-last}
 use Rattle.cil_bind.proofs.ScopeLemmas.{read-text}
 

@@ -1,28 +1,10 @@
 -- What statements declare, and the entries that have it.
 use Rattle.std.proofs.Common.{◌≡◌, ℕ, zero, suc, ◌+◌, ◌<◌, ◌≤◌, Bool, true, false, not, ◌&&◌, ◌==◌, cond, List, [], ◌∷◌, ◌++◌, length, get_or, slice_get, take, drop, Contains, Option, Some, None, is_some, bytes_eq, position, if◌then◌else◌, refl, sym, ap, ◌∙◌, subst, add-one, append_assoc, true≢false, arith}
-use Rattle.std.specs.List.{list_any, AllByRecursion}
-use Rattle.std.specs.Map.{lookup}
-use Rattle.std.specs.Option.{option_or}
-use Rattle.std.proofs.lemmas.Bool.{eqb-true, eq-eqb, le-ltb}
-use Rattle.std.proofs.lemmas.Option.{none-some, same_Some, get_or_from_slice_get}
-use Rattle.std.proofs.lemmas.List.Quantifiers.{position-Some}
-use Rattle.std.proofs.lemmas.List.{take_all, take-append-drop}
+use Rattle.cil_bind.proofs.Common.{list_any, AllByRecursion, lookup, option_or, eqb-true, eq-eqb, le-ltb, none-some, same_Some, get_or_from_slice_get, position-Some, take_all, take-append-drop, Word, is_optional, Placed, Table, types, classes, commons, scopes, declared_in, declares, is_word, same_namespace, both_true, first_true, second_true, contains-first, stands, same_place, later, earlier, table-in, twice-some, twice-nothing, PassesAmong, passes-among, any-middle, one-namespace, word_at, named, namespace_at, table_of, table_index, is_key, HaveDeclared, IsDeclared, IsRow, AreRows, AreNumbered, IsOnce, IsTaken, is_optional_row, Key, Row}
 use Rattle.indexmap.specs.IndexMap.{insert_entry}
-use Rattle.cil_specs.specs.Names.{Word}
-use Rattle.cil_specs.specs.Statements.{is_optional}
-use Rattle.cil_specs.specs.Joined.{Placed}
-use Rattle.cil_specs.specs.Lookup.{Table, types, classes, commons, scopes, declared_in, declares, is_word, same_namespace}
 use Rattle.cil_specs.specs.PolicyFault.{twice, is_again, twice_words}
-use Rattle.cil_specs.proofs.Runs.{both_true, first_true, second_true}
-use Rattle.cil_specs.proofs.NamesLemmas.{contains-first, stands, same_place, later, earlier}
-use Rattle.cil_specs.proofs.OnceLemmas.{table-in, twice-some, twice-nothing, PassesAmong, passes-among, any-middle}
-use Rattle.cil_specs.proofs.DeclaredLemmas.{one-namespace}
-use Rattle.cil_bind.specs.Lookup.{word_at, named, namespace_at, table_of, table_index, is_key, HaveDeclared}
-use Rattle.cil_bind.specs.Rows.{IsDeclared, IsRow, AreRows, AreNumbered, IsOnce, IsTaken, is_optional_row}
 use Rattle.cil_parse.specs.declared.table.Table as code
 use Rattle.cil_parse.specs.declared.table.Table.TheVariants.{Types, Classes, Commons, Scopes}
-use Rattle.cil_bind.specs.declared.lookup.Key.{Key}
-use Rattle.cil_bind.specs.declared.rows.Row.{Row}
 use Rattle.cil_bind.proofs.NamespaceLemmas.{bytes_eq-refl, bytes_eq-true, distinct-place}
 use Rattle.cil_bind.proofs.PositionLemmas.{at_if, is_before, any-before, any-position, position-append, around-at, take-length, take-next}
 

@@ -1,18 +1,6 @@
 -- The modules and the indices that rows tell.
 use Rattle.std.proofs.Common.{◌≡◌, ℕ, zero, suc, ◌+◌, ◌<◌, ◌≤◌, List, [], ◌∷◌, ◌++◌, length, get_or, slice_get, take, Some, refl, sym, ap, ◌∙◌, subst, append_assoc, append-nil, add-one, arith}
-use Rattle.std.specs.List.{AllByRecursion}
-use Rattle.std.proofs.lemmas.List.{take_all}
-use Rattle.std.proofs.lemmas.Option.{none-some, same_Some, slice_get-get_or, slice_get_within, get_or_from_slice_get}
-use Rattle.cil_specs.specs.Statements.{Statements, no_more, statement}
-use Rattle.cil_specs.specs.Joined.{Placed, Module, placed, joined, namespace_inside, optionals_inside}
-use Rattle.cil_parse.specs.Flat.{FlatStatement, flat}
-use Rattle.cil_parse.specs.Around.{IsPlacedAs}
-use Rattle.cil_parse.specs.Parsed.{Spells, statement_count}
-use Rattle.cil_parse.specs.declared.parsed.ParsedModule.{ParsedModule}
-use Rattle.cil_parse.proofs.AroundLemmas.{placed-flat}
-use Rattle.cil_bind.specs.Scope.{AreSpelt, IsFrom, AreFrom, HaveModule}
-use Rattle.cil_bind.specs.declared.joined.NamedModule.{NamedModule}
-use Rattle.cil_bind.specs.declared.rows.Row.{Row}
+use Rattle.cil_bind.proofs.Common.{AllByRecursion, take_all, none-some, same_Some, slice_get-get_or, slice_get_within, get_or_from_slice_get, Statements, no_more, statement, Placed, Module, placed, joined, namespace_inside, optionals_inside, FlatStatement, flat, IsPlacedAs, Spells, statement_count, ParsedModule, placed-flat, AreSpelt, IsFrom, AreFrom, HaveModule, NamedModule, Row}
 use Rattle.cil_bind.proofs.PositionLemmas.{take-next}
 use Rattle.cil_bind.proofs.PlaceLemmas.{flat-there, placed-there, placed-long, joined-next, spelt-at, spelt-long}
 

@@ -1,3 +1,4 @@
+pub mod Common
 pub mod NamespaceLemmas
 pub mod LookupLemmas
 pub mod PositionLemmas

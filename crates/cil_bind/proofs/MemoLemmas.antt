@@ -1,13 +1,7 @@
 -- What is remembered of texts.
 use Rattle.std.proofs.Common.{◌≡◌, ℕ, zero, suc, ◌==◌, true, ◌⊎◌, inl, inr, slice_get, slice_set, get_or, List, [], ◌∷◌, Option, Some, refl, sym, ap, ◌∙◌, subst}
-use Rattle.std.proofs.lemmas.Option.{none-some, same_Some}
-use Rattle.cil_specs.specs.Joined.{Placed}
-use Rattle.cil_specs.specs.Lookup.{leads}
-use Rattle.cil_parse.specs.Parsed.{texts_of}
+use Rattle.cil_bind.proofs.Common.{none-some, same_Some, Placed, leads, texts_of, namespace_at, table_index, IsLead, LeadsTo, Remembers, RemembersNothing, NamedModule}
 use Rattle.cil_parse.specs.declared.table.Table as code
-use Rattle.cil_bind.specs.Lookup.{namespace_at, table_index, IsLead}
-use Rattle.cil_bind.specs.Words.{LeadsTo, Remembers, RemembersNothing}
-use Rattle.cil_bind.specs.declared.joined.NamedModule.{NamedModule}
 use Rattle.cil_bind.specs.declared.memo.Remembered.{Remembered}
 use Rattle.cil_bind.proofs.DeclareLemmas.{same-table}
 

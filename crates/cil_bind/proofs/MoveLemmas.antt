@@ -1,18 +1,7 @@
 -- The new places of what is kept.
 use Rattle.std.proofs.Common.{◌≡◌, ℕ, zero, suc, ◌+◌, ◌<◌, Bool, true, false, cond, List, [], ◌∷◌, ◌++◌, map, filter, length, get_or, slice_get, take, length-append, Option, Some, None, is_some, option_map, position, refl, sym, ap, ◌∙◌, subst, true≢false, append-nil, add-one, arith, if◌then◌else◌}
-use Rattle.std.specs.List.{list_all}
-use Rattle.std.proofs.lemmas.List.Elements.{filter-append}
-use Rattle.std.proofs.lemmas.Option.{none-some, same_Some, slice_get_within}
-use Rattle.cil_specs.specs.Names.{Word}
-use Rattle.cil_specs.specs.Joined.{Placed}
-use Rattle.cil_specs.specs.Lookup.{Table, leads, is_same}
-use Rattle.cil_specs.specs.Kept.{Optionals, is_within, restricted, AreApart}
-use Rattle.cil_specs.proofs.Runs.{first_true, second_true}
+use Rattle.cil_bind.proofs.Common.{list_all, filter-append, none-some, same_Some, slice_get_within, Word, Placed, Table, leads, is_same, Optionals, is_within, restricted, AreApart, first_true, second_true, IsLead, AreLeads, AreBound, AreMoved, Binds, kinds_of, places_from, moved_to, has_place, Row, StatementKind}
 use Rattle.cil_specs.proofs.RestrictedLemmas.{filter-yes, filter-no}
-use Rattle.cil_bind.specs.Lookup.{IsLead}
-use Rattle.cil_bind.specs.Binding.{AreLeads, AreBound, AreMoved, Binds, kinds_of, places_from, moved_to, has_place}
-use Rattle.cil_bind.specs.declared.rows.Row.{Row}
-use Rattle.cil_parse.specs.declared.row.StatementKind.{StatementKind}
 use Rattle.cil_bind.proofs.BindingLemmas.{bound-next, kinds-push, kind-at}
 use Rattle.cil_bind.proofs.LookupLemmas.{no-lead}
 use Rattle.cil_bind.proofs.PlaceLemmas.{get-there}

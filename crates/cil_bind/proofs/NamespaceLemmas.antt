@@ -1,21 +1,11 @@
 -- The namespaces that blocks open, one after the other.
 use Rattle.std.proofs.Common.{◌≡◌, ◌⊎◌, inl, inr, ℕ, zero, suc, ◌-◌, ◌+◌, ◌<◌, ◌^◌, Bool, true, false, ◌&&◌, List, [], ◌∷◌, ◌++◌, length, get_or, slice_get, Some, position, bytes_eq, nat_eq, fold, Contains, refl, sym, ap, ◌∙◌, subst, arith, true≢false, append_assoc, append-nil, if◌then◌else◌}
-use Rattle.std.specs.List.{list_any, IsDistinct}
+use Rattle.cil_bind.proofs.Common.{list_any, IsDistinct, cases_order, nat_list_eq_equiv, length_push, get_or_append_left, get_or_default, get_or_push, Contains-push_cases, Any-from_list_any, list_any_at, position-Some, same_Some, slice_get-get_or, slice_get_within, first_true, second_true, Opens, with_block, spaces_of, AreInside, AreSpaces, Block}
 use Rattle.std.specs.Cmp.{unsigned_Decides}
 use Rattle.std.specs.Cmp.Derive.{both_true}
-use Rattle.std.proofs.lemmas.Bool.{cases_order}
-use Rattle.std.proofs.lemmas.Cmp.{nat_list_eq_equiv}
-use Rattle.std.proofs.lemmas.List.{length_push, get_or_append_left, get_or_default, get_or_push}
 use Rattle.std.proofs.lemmas.List.Sums.{fold-append}
-use Rattle.std.proofs.lemmas.List.Elements.{Contains-push_cases}
-use Rattle.std.proofs.lemmas.List.Folds.{Any-from_list_any, list_any_at}
-use Rattle.std.proofs.lemmas.List.Quantifiers.{position-Some}
 use Rattle.std.proofs.lemmas.Map.Keys.{IsDistinct-push, apart_from_distinct}
-use Rattle.std.proofs.lemmas.Option.{same_Some, slice_get-get_or, slice_get_within}
 use Rattle.indexmap.specs.IndexSet.{insert_key}
-use Rattle.cil_specs.proofs.Runs.{first_true, second_true}
-use Rattle.cil_bind.specs.Namespaces.{Opens, with_block, spaces_of, AreInside, AreSpaces}
-use Rattle.cil_bind.specs.declared.namespaces.Block.{Block}
 use Rattle.cil_bind.specs.contracts.namespaces.BlockPartialEq.TheImpl as block_eq
 use Rattle.std.proofs.lemmas.Slice.Eq.{bytes_eq-Decides}
 

@@ -1,12 +1,7 @@
 -- The optionals around the statements of a policy in order.
 use Rattle.std.proofs.Common.{◌≡◌, ℕ, zero, suc, ◌+◌, List, [], ◌∷◌, Some, slice_get, ap, subst, arith}
-use Rattle.std.proofs.lemmas.Option.{none-some, same_Some}
-use Rattle.cil_specs.specs.Statements.{is_optional}
-use Rattle.cil_specs.specs.Joined.{Placed}
-use Rattle.cil_bind.specs.Ordered.{AreOrdered}
+use Rattle.cil_bind.proofs.Common.{none-some, same_Some, is_optional, Placed, AreOrdered, IsAround, AreAround, Row}
 use Rattle.cil_bind.specs.Nested.{IsInnermost, AreNested}
-use Rattle.cil_bind.specs.Scope.{IsAround, AreAround}
-use Rattle.cil_bind.specs.declared.rows.Row.{Row}
 use Rattle.cil_bind.proofs.OrderedLemmas.{one-offset}
 
 innermost : (policy : List Placed) (place number : ℕ) (s : Placed) → IsAround policy place number s → IsInnermost policy place number s

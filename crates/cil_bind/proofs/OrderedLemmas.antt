@@ -1,25 +1,14 @@
 -- The joined policy of modules in order stands in order.
 use Rattle.std.proofs.Common.{◌≡◌, inl, inr, ℕ, zero, suc, ◌<◌, ◌≤◌, Bool, true, false, cond, List, [], ◌∷◌, ◌++◌, Some, slice_get, map, filter, length, refl, sym, ap, ◌∙◌, subst, arith, true≢false}
-use Rattle.std.specs.List.{AllByRecursion}
+use Rattle.cil_bind.proofs.Common.{AllByRecursion, cases_order, nat_list_cmp_total, none-some, same_Some, Form, statement_offsets, rise_from, Statements, no_more, statement, Module, Placed, namespace_inside, optionals_inside, placed, joined, name_cmp, names_rise, first_true, second_true, all-weaker, all-append, all-first, all-second, all-contained, contains-first, rises-low, rises-less, rises-append, offsets_in, offsets_of, IsRising, IsBefore, AreOrdered, AreSpelt, NamedModule}
 use Rattle.std.specs.Ordering.{is_lt, ordering_reverse}
 use Rattle.std.specs.declared.cmp.Ordering.{Ordering}
 use Rattle.std.specs.declared.cmp.Ordering.TheVariants.{Less, Equal, Greater}
-use Rattle.std.proofs.lemmas.Bool.{cases_order}
-use Rattle.std.proofs.lemmas.Cmp.{nat_list_cmp_total}
-use Rattle.std.proofs.lemmas.Option.{none-some, same_Some}
 use Rattle.cil_specs.specs.Place.{Place}
-use Rattle.cil_specs.specs.Statements.{Form, statement_offsets, rise_from, Statements, no_more, statement}
-use Rattle.cil_specs.specs.Joined.{Module, Placed, namespace_inside, optionals_inside, placed, joined}
-use Rattle.cil_specs.specs.Report.{name_cmp, names_rise}
-use Rattle.cil_specs.proofs.Runs.{first_true, second_true}
-use Rattle.cil_specs.proofs.NamesLemmas.{all-weaker, all-append, all-first, all-second, all-contained, contains-first, rises-low, rises-less, rises-append}
 use Rattle.cil_specs.proofs.Order.{reading-in_order}
 use Rattle.cil_specs.proofs.OrderLemmas.{rise_from_is}
 use Rattle.cil_specs.proofs.ShapeLemmas.{shapes_rise}
-use Rattle.cil_bind.specs.Ordered.{offsets_in, offsets_of, IsRising, IsBefore, AreOrdered}
-use Rattle.cil_bind.specs.Scope.{AreSpelt}
 use Rattle.cil_bind.specs.Written.{IsWritten, AreWritten}
-use Rattle.cil_bind.specs.declared.joined.NamedModule.{NamedModule}
 use Rattle.cil_bind.proofs.FromLemmas.{all-get, placed-named}
 
 -- lists in order one after the other

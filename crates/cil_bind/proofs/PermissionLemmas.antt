@@ -1,12 +1,6 @@
 -- Permissions as statements list them.
 use Rattle.std.proofs.Common.{◌≡◌, ℕ, zero, suc, ◌+◌, ◌<◌, ◌&&◌, ◌||◌, Bool, true, false, List, [], ◌∷◌, ◌++◌, map, length, take, get_or, slice_get, Some, bytes_eq, refl, sym, ap, ◌∙◌, true≢false, arith}
-use Rattle.std.proofs.lemmas.List.{length-map}
-use Rattle.cil_specs.specs.Names.{Word}
-use Rattle.cil_specs.specs.Statements.{Form, common, class, rule, itself, the_named}
-use Rattle.cil_specs.specs.Lookup.{has_name, texts, own_permissions}
-use Rattle.cil_parse.specs.Builder.{read}
-use Rattle.cil_parse.specs.Forms.{kind_of, permissions_in}
-use Rattle.cil_parse.specs.declared.row.NumberedWord.{NumberedWord}
+use Rattle.cil_bind.proofs.Common.{length-map, Word, Form, common, class, rule, itself, the_named, has_name, texts, own_permissions, read, kind_of, permissions_in, NumberedWord}
 use Rattle.cil_bind.specs.Listing.{lists_own}
 use Rattle.cil_bind.proofs.PositionLemmas.{take-last, any-last}
 

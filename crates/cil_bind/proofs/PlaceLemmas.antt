@@ -1,25 +1,6 @@
 -- Statements of a module that come to those of a joined policy.
 use Rattle.std.proofs.Common.{◌≡◌, inl, ℕ, zero, suc, ◌+◌, ◌<◌, ◌≤◌, List, [], ◌∷◌, ◌++◌, map, length, get_or, slice_get, take, Some, bytes_eq, refl, sym, ap, ◌∙◌, subst, append_assoc, append-nil, add-one, Contains, arith}
-use Rattle.std.specs.List.{IsDistinct}
-use Rattle.std.proofs.lemmas.List.{length-map, take_all}
-use Rattle.std.proofs.lemmas.Option.{none-some, same_Some}
-use Rattle.cil_specs.specs.Statements.{Form, is_optional, Statements}
-use Rattle.cil_specs.specs.Joined.{Placed, Module, placed, joined}
-use Rattle.cil_parse.specs.Flat.{FlatStatement, flat}
-use Rattle.cil_parse.specs.Forms.{kind_of}
-use Rattle.cil_parse.specs.Builder.{row_of, row_for}
-use Rattle.cil_parse.specs.Parsed.{Spells, statement_count, texts_of}
-use Rattle.cil_parse.specs.View.{IsShown}
-use Rattle.cil_parse.specs.Around.{IsBlockOf, IsPlacedAs, ArePlacedAs}
-use Rattle.cil_parse.specs.declared.parsed.ParsedModule.{ParsedModule}
-use Rattle.cil_parse.specs.declared.view.StatementView.{StatementView}
-use Rattle.cil_parse.proofs.AroundLemmas.{placed-flat}
-use Rattle.cil_bind.specs.Lookup.{named, namespace_at}
-use Rattle.cil_bind.specs.Namespaces.{Opens}
-use Rattle.cil_bind.specs.Rows.{IsDeclared, IsRow, AreRows}
-use Rattle.cil_bind.specs.Scope.{Stands, AreSpelt, block_word, is_optional_kind}
-use Rattle.cil_bind.specs.declared.joined.NamedModule.{NamedModule}
-use Rattle.cil_bind.specs.declared.rows.Row.{Row}
+use Rattle.cil_bind.proofs.Common.{IsDistinct, length-map, take_all, none-some, same_Some, Form, is_optional, Statements, Placed, Module, placed, joined, FlatStatement, flat, kind_of, row_of, row_for, Spells, statement_count, texts_of, IsShown, IsBlockOf, IsPlacedAs, ArePlacedAs, ParsedModule, StatementView, placed-flat, named, namespace_at, Opens, IsDeclared, IsRow, AreRows, Stands, AreSpelt, block_word, is_optional_kind, NamedModule, Row}
 use Rattle.cil_bind.proofs.PositionLemmas.{take-next}
 use Rattle.cil_bind.proofs.ScopeLemmas.{stands-next, kind-optional}
 

@@ -1,11 +1,7 @@
 -- The first place in a list at which a test passes.
 use Rattle.std.proofs.Common.{◌≡◌, ℕ, ◌+◌, zero, suc, Bool, true, false, ◌||◌, nat_lt, List, [], ◌∷◌, ◌++◌, length, take, drop, cond, Option, Some, None, is_some, option_map, position, refl, sym, ap, ◌∙◌, add-one, arith}
-use Rattle.std.specs.List.{list_any, slice_get}
-use Rattle.std.specs.Option.{option_or}
-use Rattle.std.proofs.lemmas.Option.{none-some, same_Some}
+use Rattle.cil_bind.proofs.Common.{list_any, slice_get, option_or, none-some, same_Some, list_any-append, lt-ltb, le-ltb}
 use Rattle.std.proofs.Math.Bool.{or-false}
-use Rattle.std.proofs.lemmas.List.Folds.{list_any-append}
-use Rattle.std.proofs.lemmas.Bool.{lt-ltb, le-ltb}
 pub use Rattle.cil_names.proofs.TextLemmas.{less-suc, position-cons}
 
 -- the place at which a test passes, if a condition holds

@@ -1,17 +1,6 @@
 -- The statements of a policy that stand in kept optionals alone.
 use Rattle.std.proofs.Common.{◌≡◌, ◌⊎◌, inl, inr, ℕ, suc, ◌<◌, ◌≤◌, ◌^◌, length, Bool, true, false, cond, if◌then◌else◌, List, [], ◌∷◌, filter, get_or, Some, None, Contains, refl, sym, ap, ◌∙◌, subst, arith}
-use Rattle.cil_specs.specs.Statements.{stands_apart}
-use Rattle.cil_specs.specs.Joined.{Placed}
-use Rattle.std.specs.List.{list_all}
-use Rattle.cil_specs.specs.Kept.{Optionals, is_within, restricted, AreApart}
-use Rattle.cil_specs.proofs.Runs.{first_true, second_true}
-use Rattle.cil_specs.proofs.NamesLemmas.{contains-cases, contains-first, contains-other}
-use Rattle.cil_bind.specs.Rows.{AreRows}
-use Rattle.cil_bind.specs.Scope.{IsOpenedIn, Stands, AreFrom}
-use Rattle.cil_bind.specs.Binding.{places_from}
-use Rattle.cil_bind.specs.Policy.{AreMarked}
-use Rattle.cil_bind.specs.declared.joined.NamedModule.{NamedModule}
-use Rattle.cil_bind.specs.declared.rows.Row.{Row}
+use Rattle.cil_bind.proofs.Common.{stands_apart, Placed, list_all, Optionals, is_within, restricted, AreApart, first_true, second_true, contains-cases, contains-first, contains-other, AreRows, IsOpenedIn, Stands, AreFrom, places_from, AreMarked, NamedModule, Row}
 
 abbrev pub mark : List Bool → Row → Bool
 mark kept row = get_or kept row.optional false

@@ -1,25 +1,9 @@
 -- Statements of a joined policy by numbers.
 use Rattle.std.proofs.Common.{◌≡◌, ◌⊎◌, inl, inr, ℕ, zero, suc, ◌<◌, ◌≤◌, List, [], ◌∷◌, ◌++◌, length, get_or, slice_get, Contains, Option, Some, None, bytes_eq, refl, sym, ap, ◌∙◌, subst, append-nil, arith, length-append}
-use Rattle.std.specs.List.{AllByRecursion, IsDistinct}
-use Rattle.std.specs.Option.{option_map}
-use Rattle.std.proofs.lemmas.List.{get_or_append_left}
-use Rattle.std.proofs.lemmas.Option.{none-some, same_Some}
-use Rattle.cil_specs.specs.Names.{Word}
-use Rattle.cil_specs.specs.Statements.{Form, block, rule, itself, the_named, is_optional}
-use Rattle.cil_specs.specs.Joined.{Placed}
-use Rattle.cil_specs.specs.Lookup.{Table, types, classes, commons, scopes, declared_in}
+use Rattle.cil_bind.proofs.Common.{AllByRecursion, IsDistinct, option_map, get_or_append_left, none-some, same_Some, Word, Form, block, rule, itself, the_named, is_optional, Placed, Table, types, classes, commons, scopes, declared_in, read, kind_of, NumberedWord, word_at, named, namespace_at, table_of, IsDeclared, IsRow, AreRows, AreNumbered, Opens, IsOpenedIn, Stands, block_word, is_optional_kind, StatementKind, Row}
 use Rattle.cil_text.specs.Image.{place_of}
-use Rattle.cil_parse.specs.Builder.{read}
-use Rattle.cil_parse.specs.Forms.{kind_of}
-use Rattle.cil_parse.specs.declared.row.NumberedWord.{NumberedWord}
 use Rattle.cil_parse.specs.declared.table.Table as code
-use Rattle.cil_bind.specs.Lookup.{word_at, named, namespace_at, table_of}
-use Rattle.cil_bind.specs.Rows.{IsDeclared, IsRow, AreRows, AreNumbered}
-use Rattle.cil_bind.specs.Namespaces.{Opens}
-use Rattle.cil_bind.specs.Scope.{IsOpenedIn, Stands, block_word, is_optional_kind}
-use Rattle.cil_parse.specs.declared.row.StatementKind.{StatementKind}
 use Rattle.cil_parse.specs.declared.row.StatementKind.TheVariants as kinds
-use Rattle.cil_bind.specs.declared.rows.Row.{Row}
 
 -- one name more is a list more
 pub kept-more : (old new : List (List ℕ)) (word : List ℕ) → (new ≡ old) ⊎ (new ≡ old ++ word ∷ []) → (more : List (List ℕ)) × (new ≡ old ++ more)

@@ -1,27 +1,13 @@
 -- Names that are declared again.
 use Rattle.std.proofs.Common.{◌≡◌, ◌⊎◌, inl, inr, ℕ, ◌+◌, ◌<◌, Bool, true, false, cond, get_or, List, [], ◌∷◌, ◌++◌, length, take, drop, Option, Some, None, slice_get, refl, sym, ap, ◌∙◌, subst, Contains, arith}
-use Rattle.std.specs.List.{AllByRecursion, list_any}
-use Rattle.std.proofs.lemmas.Option.{none-some, same_Some, slice_get-get_or, slice_get_within}
-use Rattle.cil_specs.specs.Names.{Word}
-use Rattle.cil_specs.specs.Joined.{Placed}
-use Rattle.cil_specs.specs.Lookup.{Table, declared_in}
-use Rattle.cil_specs.specs.Statements.{Form}
+use Rattle.cil_bind.proofs.Common.{AllByRecursion, list_any, none-some, same_Some, slice_get-get_or, slice_get_within, Word, Placed, Table, declared_in, Form, Optionals, AreApart, judged, IsFirst, IsFirstFault, contains-first, contains-cases, contains-other, contains-map, stands, same_place, later, earlier, table_in, table-in, twice-some, twice-nothing, offsets_in, offsets_of, IsBefore, AreOrdered, IsLeast, IsTold, IsFirstAgain, fault_of, AreRows, IsOnce, DeclareThat, IsFrom, AreFrom, NamedModule, Row}
 use Rattle.cil_specs.specs.PolicyFault.{PolicyFaultKind, twice, missing, wrong_kind, alias_twice, alias_unset, second_common, too_many_permissions, circular, code_of, PolicyFault, is_again, twice_words, IsFaultOf, IsNoLater}
-use Rattle.cil_specs.specs.Kept.{Optionals, AreApart, judged, IsFirst, IsFirstFault}
 use Rattle.cil_specs.proofs.ExistsLemmas.{kept-exists}
-use Rattle.cil_specs.proofs.NamesLemmas.{contains-first, contains-cases, contains-other, contains-map, stands, same_place, later, earlier}
-use Rattle.cil_specs.proofs.OnceLemmas.{table_in, table-in, twice-some, twice-nothing}
 use Rattle.cil_specs.proofs.PartLemmas.{all-middle}
 use Rattle.cil_specs.proofs.OrderLemmas.{offset_of}
 use Rattle.cil_specs.proofs.FaultWords.{words_in, word-offsets, faulty-word}
-use Rattle.cil_bind.specs.Ordered.{offsets_in, offsets_of, IsBefore, AreOrdered, IsLeast}
-use Rattle.cil_bind.specs.Policy.{IsTold, IsFirstAgain, fault_of}
-use Rattle.cil_bind.specs.Rows.{AreRows, IsOnce, DeclareThat}
-use Rattle.cil_bind.specs.Scope.{IsFrom, AreFrom}
 use Rattle.cil_bind.specs.declared.declarations.Declared.{Declared}
 use Rattle.cil_bind.specs.declared.declarations.Declared.TheVariants.{Twice}
-use Rattle.cil_bind.specs.declared.joined.NamedModule.{NamedModule}
-use Rattle.cil_bind.specs.declared.rows.Row.{Row}
 use Rattle.cil_bind.specs.declared.redeclaration.Redeclaration.{Redeclaration}
 use Rattle.cil_bind.proofs.DeclareLemmas.{rows-length}
 use Rattle.cil_bind.proofs.FromLemmas.{from-at}

@@ -1,23 +1,6 @@
 -- The words of modules in one numbering.
 use Rattle.std.proofs.Common.{◌≡◌, ℕ, zero, suc, ◌+◌, ◌<◌, Bool, true, List, [], ◌∷◌, ◌++◌, map, length, get_or, slice_get, take, drop, Some, None, All, Vec, Contains, bytes_eq, refl, sym, ap, ◌∙◌, subst, add-one, arith, inl, inr, true≢false, IsTrue}
-use Rattle.std.specs.List.{IsDistinct, list_any}
-use Rattle.std.proofs.lemmas.List.{length-map, map-append}
-use Rattle.std.proofs.lemmas.List.Elements.{Contains-get_or}
-use Rattle.std.proofs.lemmas.List.Folds.{Any-from_list_any, list_any_at}
-use Rattle.std.proofs.lemmas.Option.{none-some, same_Some, slice_get-get_or}
-use Rattle.cil_specs.specs.Names.{Word}
-use Rattle.cil_specs.specs.Statements.{Form, block, optional, type_name, type_alias, alias_actual, type_attribute, attribute_set, common, class, class_common, class_order, rule}
-use Rattle.cil_specs.specs.Joined.{Placed}
-use Rattle.cil_specs.specs.Lookup.{block_name, is_word, is_block, has_block, same_namespace}
-use Rattle.cil_specs.proofs.Runs.{both_true, first_true, second_true}
-use Rattle.cil_specs.proofs.DeclaredLemmas.{one-namespace}
-use Rattle.cil_parse.specs.Lexicon.{AreNumbersOf}
-use Rattle.cil_parse.specs.Parsed.{names_of}
-use Rattle.cil_bind.specs.Lookup.{word_at, named, namespace_at, path_of, AreOpened, AreWithin}
-use Rattle.cil_bind.specs.Scope.{Stands}
-use Rattle.cil_bind.specs.Words.{AreWorded}
-use Rattle.cil_bind.specs.declared.joined.NamedModule.{NamedModule}
-use Rattle.cil_bind.specs.declared.rows.Row.{Row}
+use Rattle.cil_bind.proofs.Common.{IsDistinct, list_any, length-map, map-append, Contains-get_or, Any-from_list_any, list_any_at, none-some, same_Some, slice_get-get_or, Word, Form, block, optional, type_name, type_alias, alias_actual, type_attribute, attribute_set, common, class, class_common, class_order, rule, Placed, block_name, is_word, is_block, has_block, same_namespace, both_true, first_true, second_true, one-namespace, AreNumbersOf, names_of, word_at, named, namespace_at, path_of, AreOpened, AreWithin, Stands, AreWorded, NamedModule, Row}
 use Rattle.cil_bind.proofs.NamespaceLemmas.{bytes_eq-refl, bytes_eq-true}
 use Rattle.cil_bind.proofs.PositionLemmas.{take-next}
 use Rattle.cil_bind.proofs.DeclareLemmas.{named-once, same_namespace-refl}

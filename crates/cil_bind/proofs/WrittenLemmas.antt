@@ -1,21 +1,12 @@
 -- What holds of the statements of modules that are spelt by texts.
 use Rattle.std.proofs.Common.{◌≡◌, ℕ, Bool, true, false, not, ◌||◌, List, [], ◌∷◌, map, None, Some, if◌then◌else◌, refl, sym}
-use Rattle.std.specs.List.{AllByRecursion, list_any}
-use Rattle.std.specs.Option.{IfSome}
-use Rattle.std.proofs.lemmas.Option.{none-some}
+use Rattle.cil_bind.proofs.Common.{AllByRecursion, list_any, IfSome, none-some, Word, declared, is_name, components, is_reserved, Form, block, optional, type_name, type_alias, alias_actual, type_attribute, attribute_set, common, class, class_common, class_order, rule, target_words, words_of, as_declared, as_referred, is_optional, Statements, no_more, statement, are_apart, Module, namespace_inside, optionals_inside, placed, joined, AreApart, types, declared_in, all-weaker, all-append, all-second, all-contained, permissions_in}
 use Rattle.cil_specs.specs.TextFault.{bad_name, reserved}
-use Rattle.cil_specs.specs.Names.{Word, declared, is_name, components, is_reserved}
 use Rattle.cil_specs.specs.Shape.{IsGoodWord, Shapes}
-use Rattle.cil_specs.specs.Statements.{Form, block, optional, type_name, type_alias, alias_actual, type_attribute, attribute_set, common, class, class_common, class_order, rule, target_words, words_of, as_declared, as_referred, is_optional, Statements, no_more, statement, are_apart}
-use Rattle.cil_specs.specs.Joined.{Module, namespace_inside, optionals_inside, placed, joined}
-use Rattle.cil_specs.specs.Kept.{AreApart}
-use Rattle.cil_specs.specs.Lookup.{types, declared_in}
 use Rattle.cil_specs.specs.Trees.{Trees}
-use Rattle.cil_specs.proofs.NamesLemmas.{all-weaker, all-append, all-second, all-contained}
 use Rattle.cil_specs.proofs.ShapeLemmas.{shapes_apart}
 use Rattle.cil_specs.proofs.ApartLemmas.{joined-apart}
 use Rattle.cil_text.proofs.NameLemmas.{name-one}
-use Rattle.cil_parse.specs.Forms.{permissions_in}
 use Rattle.cil_bind.specs.Written.{IsWritten, AreWritten, IsOneName, IsName, HasOneNames, HaveOneNames}
 
 pub written-apart : (modules : List Module) → AreWritten modules → AreApart (joined modules)

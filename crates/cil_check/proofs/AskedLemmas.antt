@@ -1,34 +1,13 @@
 -- Words with faults, as they are read of statements that are seen.
 use Rattle.std.proofs.Common.{◌≡◌, ℕ, zero, suc, true, false, Bool, not, ◌&&◌, List, [], ◌∷◌, map, filter, get_or, Option, Some, None, is_some, slice_get, true≢false, refl, sym, ap, ◌∙◌, subst, take, drop, cond, length, add-one, arith, ◌+◌, ◌<◌, ◌≤◌, if◌then◌else◌}
-use Rattle.std.specs.Option.{option_map, option_or, option_and_then}
-use Rattle.std.proofs.lemmas.Option.{none-some, same_Some, slice_get-map}
-use Rattle.std.proofs.lemmas.List.{length-map}
-use Rattle.cil_specs.specs.Names.{Word}
-use Rattle.cil_specs.specs.Expr.{WordExpr, leaves}
-use Rattle.cil_specs.specs.Statements.{Form, block, optional, type_name, type_alias, alias_actual, type_attribute, attribute_set, common, class, class_common, class_order, rule, itself, the_named}
-use Rattle.cil_specs.specs.Joined.{Placed}
-use Rattle.cil_specs.specs.Lookup.{Table, types, actual_statement, leads, references, holds_of, is_alias}
-use Rattle.cil_specs.specs.PolicyFault.{is_of_another_kind, is_unset, is_unfound}
-use Rattle.cil_parse.specs.Builder.{read}
-use Rattle.cil_parse.specs.Forms.{kind_of, words_in}
-use Rattle.cil_parse.specs.Parsed.{texts_of}
+use Rattle.cil_check.proofs.Common.{option_map, option_or, option_and_then, none-some, same_Some, slice_get-map, length-map, Word, WordExpr, leaves, Form, block, optional, type_name, type_alias, alias_actual, type_attribute, attribute_set, common, class, class_common, class_order, rule, itself, the_named, Placed, Table, types, actual_statement, leads, references, holds_of, is_alias, is_of_another_kind, is_unset, is_unfound, read, kind_of, words_in, texts_of, NumberedWord, IsLead, first_unfound, IsSeen, Reads, word_if, test_of, again_words, first_at, association_table, given_kind, given_word, given_lead, HasFirsts, Seen, Association, Actual, Common, is_before}
 use Rattle.cil_parse.specs.declared.row.StatementKind.TheVariants as kinds
-use Rattle.cil_parse.specs.declared.row.NumberedWord.{NumberedWord}
 use Rattle.cil_parse.specs.Kinds.{table_of, reference_table}
 use Rattle.cil_parse.specs.declared.table.Table as code_table
 use Rattle.cil_parse.proofs.ViewLemmas.{references-at}
 use Rattle.cil_bind.specs.Binding.{AreLeads}
-use Rattle.cil_bind.specs.Lookup.{IsLead}
-use Rattle.cil_check.specs.Checker.{first_unfound}
-use Rattle.cil_check.specs.Bound.{IsSeen, Reads}
-use Rattle.cil_check.specs.Kinds.{word_if, test_of, again_words}
-use Rattle.cil_check.specs.Associations.{first_at, association_table, given_kind, given_word, given_lead, HasFirsts}
-use Rattle.cil_check.specs.declared.bound.Seen.{Seen}
-use Rattle.cil_check.specs.declared.firsts.Association.{Association}
-use Rattle.cil_check.specs.declared.firsts.Association.TheVariants.{Actual, Common}
 use Rattle.cil_check.specs.declared.kinds.Kind.{Kind}
 use Rattle.cil_check.proofs.SeenLemmas.{lead-of, seen-word}
-use Rattle.cil_bind.proofs.PositionLemmas.{is_before}
 use Rattle.cil_check.proofs.WordLemmas.{led-at, or-map, words-cons, again_if, again-word, again-noted}
 
 -- no word, and one of two

@@ -1,27 +1,7 @@
 -- The first attribute that depends on itself is the first fault of its kind.
 use Rattle.std.proofs.Common.{◌≡◌, ℕ, ◌<◌, true, cond, List, [], ◌∷◌, take, filter, Option, Some, slice_get, Vec, Contains, refl, sym, ap, ◌∙◌, subst}
-use Rattle.cil_specs.specs.Names.{Word}
-use Rattle.cil_specs.specs.Statements.{type_attribute}
-use Rattle.cil_specs.specs.Joined.{Placed}
-use Rattle.cil_specs.specs.Lookup.{types, declared_name, is_attribute}
-use Rattle.cil_specs.specs.PolicyFault.{PolicyFault, circular, IsCircular, IsFaultOf}
-use Rattle.cil_specs.specs.Rule.{sets_of}
-use Rattle.cil_specs.specs.Sets.{DependsOn}
-use Rattle.cil_specs.proofs.CircularLemmas.{attribute-word, attribute_words, circular_words, circular-listed}
-use Rattle.cil_specs.proofs.DependsLemmas.{depends_on, depends-decided}
-use Rattle.cil_specs.proofs.MeansLemmas.{no-elements}
-use Rattle.cil_specs.proofs.NamesLemmas.{contains-middle}
-use Rattle.cil_specs.proofs.OnceLemmas.{IsOnce}
-use Rattle.cil_parse.specs.Forms.{words_in}
-use Rattle.cil_parse.specs.declared.row.NumberedWord.{NumberedWord}
-use Rattle.cil_bind.specs.Ordered.{AreOrdered, IsLeast}
-use Rattle.cil_bind.specs.Written.{HaveOneNames}
+use Rattle.cil_check.proofs.Common.{Word, type_attribute, Placed, types, declared_name, is_attribute, PolicyFault, circular, IsCircular, IsFaultOf, sets_of, DependsOn, attribute-word, attribute_words, circular_words, circular-listed, depends_on, depends-decided, no-elements, contains-middle, IsOnce, words_in, NumberedWord, AreOrdered, IsLeast, HaveOneNames, AreNodes, Leads, attribute_count, IsNumbered, IsGraphOf, IsSeen, Reads, fault_at, Seen}
 use Rattle.cil_dependence.specs.Dependence.{IsStraight, IsFirst}
-use Rattle.cil_dependence.specs.Graph.{AreNodes, Leads}
-use Rattle.cil_check.specs.AttributeGraph.{attribute_count, IsNumbered, IsGraphOf}
-use Rattle.cil_check.specs.Bound.{IsSeen, Reads}
-use Rattle.cil_check.specs.Image.{fault_at}
-use Rattle.cil_check.specs.declared.bound.Seen.{Seen}
 use Rattle.cil_check.proofs.CircleLemmas.{leads-depends}
 use Rattle.cil_check.proofs.DeclaredLemmas.{contains-at}
 use Rattle.cil_check.proofs.GraphLemmas.{number-within}

@@ -1,13 +1,6 @@
 -- Where attributes depend on themselves, by numbers and by full names.
 use Rattle.std.proofs.Common.{◌↔◌, ℕ, List, [], ◌∷◌, Vec, sym, subst}
-use Rattle.cil_specs.specs.Joined.{Placed}
-use Rattle.cil_specs.specs.Lookup.{types, declared_name}
-use Rattle.cil_specs.specs.Rule.{sets_of}
-use Rattle.cil_specs.specs.Sets.{DependsThrough, DependsOn}
-use Rattle.cil_specs.proofs.OnceLemmas.{IsOnce}
-use Rattle.cil_dependence.specs.Graph.{LeadsThrough, Leads}
-use Rattle.cil_bind.specs.Written.{HaveOneNames}
-use Rattle.cil_check.specs.AttributeGraph.{IsNumbered, AreMentioned, IsGraphOf}
+use Rattle.cil_check.proofs.Common.{Placed, types, declared_name, sets_of, DependsThrough, DependsOn, IsOnce, LeadsThrough, Leads, HaveOneNames, IsNumbered, AreMentioned, IsGraphOf}
 use Rattle.cil_check.proofs.MentionLemmas.{one-name, led-to, mentioned-next, next-mentioned}
 
 module _ {A : Type 0} (policy : List Placed) (graph : List (Vec ℕ A)) (once : IsOnce policy) (named : HaveOneNames policy) (is : IsGraphOf policy graph) where

@@ -1,13 +1,6 @@
 -- Numbers, each once, up to 33 of them.
 use Rattle.std.proofs.Common.{◌≡◌, inl, inr, ℕ, ◌+◌, ◌<◌, ◌≤◌, ◌==◌, ◌||◌, nat_lt, Bool, true, false, List, [], ◌∷◌, ◌++◌, length, length-append, take, map, fold, bytes_eq, Some, slice_get, refl, sym, ap, ◌∙◌, arith, if◌then◌else◌}
-use Rattle.std.specs.List.{list_any, IsDistinct}
-use Rattle.std.proofs.lemmas.Bool.{cases_lt, lt-ltb, le-ltb}
-use Rattle.std.proofs.lemmas.List.{length-map, map-append, take_all, take-append-le, length-take-le}
-use Rattle.std.proofs.lemmas.List.Sums.{fold-append}
-use Rattle.std.proofs.lemmas.Option.{slice_get_within, get_or_from_slice_get}
-use Rattle.cil_specs.specs.Lookup.{has_name, with_name, distinct}
-use Rattle.cil_parse.specs.Lexicon.{AreNumbersOf}
-use Rattle.cil_check.specs.Few.{with_number}
+use Rattle.cil_check.proofs.Common.{list_any, IsDistinct, cases_lt, lt-ltb, le-ltb, length-map, map-append, take_all, take-append-le, length-take-le, fold-append, slice_get_within, get_or_from_slice_get, has_name, with_name, distinct, AreNumbersOf, with_number}
 use Rattle.cil_check.proofs.PermissionLemmas.{number-same}
 use Rattle.cil_check.proofs.WordLemmas.{has-fold}
 

@@ -1,25 +1,10 @@
 -- What statements give to declarations, and which gives it first.
 use Rattle.std.proofs.Common.{◌≡◌, ℕ, ◌+◌, get_or, Bool, true, false, ◌==◌, List, [], ◌∷◌, ◌++◌, take, cond, Option, Some, None, is_some, position, slice_get, refl, sym, ap, ◌∙◌, true≢false, if◌then◌else◌}
-use Rattle.std.specs.Option.{option_or, option_and_then}
-use Rattle.std.proofs.lemmas.Option.{none-some, same_Some, get_or_from_slice_get, slice_get-get_or}
-use Rattle.std.proofs.lemmas.Bool.{eqb-true, eq-eqb}
-use Rattle.std.proofs.lemmas.List.Quantifiers.{position-Some}
-use Rattle.cil_specs.specs.Names.{Word}
-use Rattle.cil_specs.specs.Statements.{Form, block, optional, type_name, type_alias, alias_actual, type_attribute, attribute_set, common, class, class_common, class_order, rule}
-use Rattle.cil_specs.specs.Joined.{Placed}
-use Rattle.cil_specs.specs.Lookup.{Table, declared_in, declares, same_namespace, is_word, is_same, word_text, holds_of, leads}
-use Rattle.cil_specs.proofs.Runs.{first_true, second_true}
+use Rattle.cil_check.proofs.Common.{option_or, option_and_then, none-some, same_Some, get_or_from_slice_get, slice_get-get_or, eqb-true, eq-eqb, position-Some, Word, Form, block, optional, type_name, type_alias, alias_actual, type_attribute, attribute_set, common, class, class_common, class_order, rule, Placed, Table, declared_in, declares, same_namespace, is_word, is_same, word_text, holds_of, leads, first_true, second_true, IsFirstOf, IsLead, first_at, with_first, association_table, given_word, given_lead, gives, HasFirstsOf, Association, Actual, Common, bytes_eq-true, at_if}
 use Rattle.cil_specs.proofs.DeclaredLemmas.{one-namespace}
-use Rattle.cil_bind.specs.Lookup.{IsFirstOf}
-use Rattle.cil_bind.specs.Lookup.{IsLead}
-use Rattle.cil_check.specs.Associations.{first_at, with_first, association_table, given_word, given_lead, gives, HasFirstsOf}
-use Rattle.cil_check.specs.declared.firsts.Association.{Association}
-use Rattle.cil_check.specs.declared.firsts.Association.TheVariants.{Actual, Common}
 use lib.Dec.{eqb}
 use Rattle.indexmap.specs.IndexMap.{IndexMap, get, insert_entry}
 use Rattle.indexmap.proofs.CallerLemmas.{insert_entry-new}
-use Rattle.cil_bind.proofs.NamespaceLemmas.{bytes_eq-true}
-use Rattle.cil_bind.proofs.PositionLemmas.{at_if}
 use Rattle.cil_check.proofs.PositionLemmas.{position-same, position-next}
 
 -- what a statement gives something to is where its word leads

@@ -1,11 +1,6 @@
 -- Full names tell a name and its namespace, where the names in them have no dots.
 use Rattle.std.proofs.Common.{◌≡◌, ℕ, Bool, true, false, ◌&&◌, ◌||◌, ◌==◌, nat_le, List, [], ◌∷◌, ◌++◌, get_or, drop, length, refl, sym, ap, ◌∙◌, true≢false}
-use Rattle.std.specs.List.{AllByRecursion, list_any, list_all}
-use Rattle.cil_specs.specs.Names.{begins_name, is_name_byte, is_name}
-use Rattle.cil_specs.specs.Lookup.{full_name}
-use Rattle.cil_specs.proofs.Runs.{first_true, second_true}
-use Rattle.cil_specs.proofs.OnceLemmas.{any-middle}
-use Rattle.cil_bind.specs.Written.{IsName}
+use Rattle.cil_check.proofs.Common.{AllByRecursion, list_any, list_all, begins_name, is_name_byte, is_name, full_name, first_true, second_true, any-middle, IsName}
 use Rattle.cil_text.proofs.NameLemmas.{no-dot}
 
 abbrev pub has_dot : List ℕ → Bool

@@ -1,35 +1,12 @@
 -- The graph of attributes, as it grows statement by statement and word by word.
 use Rattle.std.proofs.Common.{◌≡◌, ◌⊎◌, ◌↔◌, inl, inr, ℕ, zero, suc, ◌+◌, ◌<◌, ◌≤◌, Bool, true, false, List, [], ◌∷◌, ◌++◌, length, take, get_or, Option, Some, None, position, slice_get, Vec, Contains, if◌then◌else◌, refl, sym, ap, ◌∙◌, subst, length-append, arith}
-use Rattle.std.specs.Option.{option_map, option_and_then}
-use Rattle.std.proofs.lemmas.Bool.{cases_lt}
-use Rattle.std.proofs.lemmas.List.{get_or_append_left, take_all}
+use Rattle.cil_check.proofs.Common.{option_map, option_and_then, cases_lt, get_or_append_left, take_all, count_by_more_no, count_by_more_yes, none-some, same_Some, slice_get_within, slice_get-get_or, get_or_from_slice_get, slice_get_read, Word, WordExpr, leaves, attribute_set, Placed, types, leads, is_same, is_attribute, words_in, kind_of, IsLead, take-last, IsEdge, attribute_count, IsNumbered, HaveNumbers, number_of, number_led, Mentions, AreMentioned, IsGraphOf}
 use Rattle.std.proofs.lemmas.List.Elements.{Contains-push, Contains-push_cases, Contains-append_left}
-use Rattle.std.proofs.lemmas.List.Sums.{count_by_more_no, count_by_more_yes}
-use Rattle.std.proofs.lemmas.Option.{none-some, same_Some, slice_get_within, slice_get-get_or, get_or_from_slice_get, slice_get_read}
 use Rattle.std.proofs.Math.Seq.{get_or-append_seam}
-use Rattle.cil_specs.specs.Names.{Word}
-use Rattle.cil_specs.specs.Expr.{WordExpr, leaves}
-use Rattle.cil_specs.specs.Statements.{attribute_set}
-use Rattle.cil_specs.specs.Joined.{Placed}
-use Rattle.cil_specs.specs.Lookup.{types, leads, is_same, is_attribute}
-use Rattle.cil_parse.specs.Forms.{words_in, kind_of}
 use Rattle.cil_parse.specs.declared.row.StatementKind.TheVariants as kinds
-use Rattle.cil_bind.specs.Lookup.{IsLead}
-use Rattle.cil_bind.proofs.PositionLemmas.{take-last}
-use Rattle.cil_dependence.specs.Graph.{IsEdge}
-use Rattle.cil_check.specs.AttributeGraph.{attribute_count, IsNumbered, HaveNumbers, number_of, number_led, Mentions, AreMentioned, IsGraphOf}
 use Rattle.cil_check.proofs.WordLemmas.{led-at}
 use Rattle.cil_check.proofs.NumberLemmas.{count-rises}
 use Rattle.cil_check.proofs.DeclaredLemmas.{at-contains, contains-at}
-
--- the numbers and the places of attributes
-pub numbers-first : (policy : List Placed) (numbers places : List ℕ) → numbers ≡ [] → places ≡ [] → HaveNumbers policy 0 numbers places
-numbers-first policy numbers places none none_too = record {
-  long = ap length none;
-  numbers_are = λ i less. absurd (omega (arith, less));
-  many = ap length none_too;
-  places_are = λ a less. (let empty : length places ≡ 0 = ap length none_too in absurd (omega (arith, less, empty)));
-}
 
 abbrev pub places_with : List ℕ → Bool → ℕ → List ℕ
 places_with places b i = if b then places ++ i ∷ [] else places
@@ -113,13 +90,6 @@ pub record IsNamedBelow (policy : List Placed) (s : Placed) (k b : ℕ) : Type 0
 abbrev pub HasWords : {A : Type 0} → List Placed → Placed → ℕ → ℕ → List (Vec ℕ A) → List (Vec ℕ A) → Type 0
 HasWords policy s from k old new = (a b : ℕ) → IsEdge new a b ↔ (IsEdge old a b ⊎ ((a ≡ from) × IsNamedBelow policy s k b))
 
-pub words-first : {A : Type 0} (policy : List Placed) (s : Placed) (from : ℕ) (graph : List (Vec ℕ A)) → HasWords policy s from 1 graph graph
-words-first policy s from graph a b = (λ e. inl e, back)
-  where
-    back : IsEdge graph a b ⊎ ((a ≡ from) × IsNamedBelow policy s 1 b) → IsEdge graph a b
-    back (inl e) = e
-    back (inr (here, below)) = (let behind = below.behind in let in_front = below.in_front in absurd (omega (arith, behind, in_front)))
-
 -- what is named below an index, or at it
 named-more : (policy : List Placed) (s : Placed) (k b : ℕ) (word : Word) → slice_get (words_in s.form) k ≡ Some word → IsNamedBelow policy s (k + 1) b
     → IsNamedBelow policy s k b ⊎ (number_led policy s.namespace word ≡ Some b)
@@ -201,24 +171,12 @@ words-end policy s from k old new attribute expr form led past have a b = (there
         let within : suc j < length (words_in s.form) = slice_get_within (words_in s.form) (suc j) m.word there_too in
         (have a b).1 (inr (here, record { j = suc j; behind = omega arith; in_front = omega (arith, within, past); word = m.word; at = there_too; led = m.other }))
 
--- a statement that mentions nothing
-pub words-none : {A : Type 0} (policy : List Placed) (s : Placed) (graph : List (Vec ℕ A)) → ((a b : ℕ) → Mentions policy s a b → ⊥) → (a b : ℕ) → IsEdge graph a b ↔ (IsEdge graph a b ⊎ Mentions policy s a b)
-words-none policy s graph none a b = (λ e. inl e, λ o. elim o [ inl e ↦ e | inr m ↦ absurd (none a b m) ])
-
 pub mentions-set : (policy : List Placed) (s : Placed) (a b : ℕ) → Mentions policy s a b → kind_of s.form ≡ kinds.TypeAttributeSet
 mentions-set policy s a b m = ap kind_of m.form
-
-pub mentions-none : (policy : List Placed) (s : Placed) (attribute : Word) (expr : WordExpr) → s.form ≡ attribute_set attribute expr → number_led policy s.namespace attribute ≡ None → (a b : ℕ) → Mentions policy s a b → ⊥
-mentions-none policy s attribute expr form none a b m =
-    let same : m.attribute ≡ attribute = same_Some m.attribute attribute (sym (mentions-first policy s a b m) ∙ ap (λ f. slice_get (words_in f) 0) form) in
-    none-some a (sym none ∙ ap (λ w. number_led policy s.namespace w) (sym same) ∙ m.of_attribute)
 
 -- a graph has an edge where one of these statements mentions an attribute
 abbrev pub HasEdges : {A : Type 0} → List Placed → List Placed → List (Vec ℕ A) → Type 0
 HasEdges policy statements graph = (a b : ℕ) → IsEdge graph a b ↔ AreMentioned policy statements a b
-
-pub edges-first : {A : Type 0} (policy : List Placed) (graph : List (Vec ℕ A)) → ((a b : ℕ) → IsEdge graph a b → ⊥) → HasEdges policy (take 0 policy) graph
-edges-first policy graph none a b = (λ e. absurd (none a b e), λ m. (let c = m.there in absurd (omega (arith, c.1))))
 
 pub edges-next : {A : Type 0} (policy : List Placed) (i : ℕ) (s : Placed) (old new : List (Vec ℕ A)) → slice_get policy i ≡ Some s → ((a b : ℕ) → IsEdge new a b ↔ (IsEdge old a b ⊎ Mentions policy s a b))
     → HasEdges policy (take i policy) old → HasEdges policy (take (i + 1) policy) new

@@ -1,28 +1,9 @@
 -- The first faulty word that is found is the least fault of its kind.
 use Rattle.std.proofs.Common.{◌≡◌, ◌⊎◌, inl, inr, ℕ, ◌+◌, ◌<◌, ◌≤◌, suc, Bool, true, false, nat_le, cond, if◌then◌else◌, List, [], ◌∷◌, ◌++◌, length, take, drop, map, filter, flat_map, Some, refl, sym, ap, ◌∙◌, subst, Contains, arith, append-nil}
-use Rattle.std.specs.List.{AllByRecursion, slice_get, list_any}
-use Rattle.std.specs.Option.{option_to_list}
+use Rattle.cil_check.proofs.Common.{AllByRecursion, slice_get, list_any, option_to_list, map-append, length-append, length-take-le, same_Some, slice_get_within, leb-true, cases_lt, Word, Form, block, optional, type_name, type_alias, alias_actual, type_attribute, attribute_set, common, class, class_common, class_order, rule, itself, the_named, rise_from, as_declared, as_referred, leaves, Placed, Table, types, classes, commons, scopes, references, named_permissions, declared_in, declared_name, PolicyFaultKind, twice, missing, wrong_kind, alias_twice, alias_unset, second_common, too_many_permissions, circular, PolicyFault, is_again, missing_words, is_unfound, is_lacking, kinds_asked, is_of_another_kind, wrong_kind_words, alias_words, has_earlier_actual, element_words, is_unset, common_words, has_earlier_common, has_too_many, tables, is_outside, IsFaultOf, IsNoLater, both_true, first_true, second_true, sets_of, faulty_words, faulty-listed, attribute_words, depends_on, all-contained, contains-cases, contains-first, contains-other, contains-map, rises-low, rises-less, stands, same_place, later, earlier, offsets_in, offsets_of, IsBefore, AreOrdered, IsLeast, fault_at, around-at}
 use Rattle.std.proofs.Math.Seq.{take-append_seam}
-use Rattle.std.proofs.lemmas.List.{map-append, length-append, length-take-le}
-use Rattle.std.proofs.lemmas.Option.{same_Some, slice_get_within}
-use Rattle.std.proofs.lemmas.Bool.{leb-true, cases_lt}
-use Rattle.cil_specs.specs.Names.{Word}
-use Rattle.cil_specs.specs.Statements.{Form, block, optional, type_name, type_alias, alias_actual, type_attribute, attribute_set, common, class, class_common, class_order, rule, itself, the_named, rise_from, as_declared, as_referred}
-use Rattle.cil_specs.specs.Expr.{leaves}
-use Rattle.cil_specs.specs.Joined.{Placed}
-use Rattle.cil_specs.specs.Lookup.{Table, types, classes, commons, scopes, references, named_permissions, declared_in, declared_name}
-use Rattle.cil_specs.specs.PolicyFault.{PolicyFaultKind, twice, missing, wrong_kind, alias_twice, alias_unset, second_common, too_many_permissions, circular, PolicyFault, is_again, missing_words, is_unfound, is_lacking, kinds_asked, is_of_another_kind, wrong_kind_words, alias_words, has_earlier_actual, element_words, is_unset, common_words, has_earlier_common, has_too_many, tables, is_outside, IsFaultOf, IsNoLater}
-use Rattle.cil_specs.proofs.Runs.{both_true, first_true, second_true}
-use Rattle.cil_specs.specs.Rule.{sets_of}
-use Rattle.cil_specs.proofs.FirstLemmas.{faulty_words, faulty-listed}
-use Rattle.cil_specs.proofs.CircularLemmas.{attribute_words}
-use Rattle.cil_specs.proofs.DependsLemmas.{depends_on}
 use Rattle.cil_specs.proofs.PartLemmas.{all-middle}
-use Rattle.cil_specs.proofs.NamesLemmas.{all-contained, contains-cases, contains-first, contains-other, contains-map, rises-low, rises-less, stands, same_place, later, earlier}
-use Rattle.cil_bind.specs.Ordered.{offsets_in, offsets_of, IsRising, IsBefore, AreOrdered, IsLeast}
-use Rattle.cil_check.specs.Image.{fault_at}
 use Rattle.cil_bind.proofs.OrderedLemmas.{IsAmidst, ordered-amidst}
-use Rattle.cil_bind.proofs.PositionLemmas.{around-at}
 
 -- the one list has some of the other's elements, in the same order
 abbrev pub IsSub : List ℕ → List ℕ → Type 0
@@ -296,10 +277,6 @@ none-faulty-next kind policy n s at none below j less t there = elim (cases_lt j
       let is : t ≡ s = same_Some t s (sym there ∙ ap (slice_get policy) same ∙ at) in
       ap (λ k. faulty_words kind policy (take k policy) t) same ∙ ap (faulty_words kind policy (take n policy)) is ∙ none
 ]
-
--- each statement of a flat policy stands in order
-pub rising-at : (policy : List Placed) (i : ℕ) (s : Placed) → AreOrdered policy → slice_get policy i ≡ Some s → IsRising s
-rising-at policy i s flat at = (ordered-amidst (take i policy) s (drop (i + 1) policy) (subst AreOrdered (around-at policy i s at) flat)).rising
 
 at-middle : {X : Type 0} (xs : List X) (x : X) (ys : List X) → slice_get (xs ++ x ∷ ys) (length xs) ≡ Some x
 at-middle [] x ys = refl

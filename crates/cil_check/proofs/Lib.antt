@@ -1,3 +1,4 @@
+pub mod Common
 pub mod PositionLemmas
 pub mod LeastLemmas
 pub mod CheckLemmas

@@ -1,29 +1,7 @@
 -- Permissions that classes have, and those that they lack.
 use Rattle.std.proofs.Common.{◌≡◌, ℕ, ◌+◌, ◌<◌, ◌≤◌, zero, suc, not, ◌||◌, Bool, true, false, List, [], ◌∷◌, ◌++◌, length, map, filter, drop, flat_map, cond, Option, Some, None, Contains, bytes_eq, get_or, slice_get, refl, sym, ap, ◌∙◌}
-use Rattle.std.specs.Option.{option_and_then}
-use Rattle.std.specs.List.{list_any}
-use Rattle.std.proofs.Math.Bool.{or-true}
-use Rattle.std.proofs.lemmas.Option.{none-some, same_Some, slice_get-get_or, slice_get_within, get_or_from_slice_get}
-use Rattle.std.proofs.lemmas.List.Folds.{list_any-append}
-use Rattle.cil_specs.specs.Names.{Word}
-use Rattle.cil_specs.specs.Statements.{Form, block, optional, type_name, type_alias, alias_actual, type_attribute, attribute_set, common, class, class_common, class_order, rule}
-use Rattle.cil_specs.specs.Joined.{Placed}
-use Rattle.cil_specs.specs.Lookup.{classes, leads, holds_of, has_name, texts, listed_by, own_permissions, permissions_of, named_permissions}
-use Rattle.cil_specs.specs.PolicyFault.{is_lacking}
-use Rattle.cil_parse.specs.Forms.{permissions_in}
-use Rattle.cil_parse.specs.Builder.{read}
-use Rattle.cil_parse.specs.Parsed.{texts_of}
-use Rattle.cil_parse.specs.declared.row.NumberedWord.{NumberedWord}
-use Rattle.cil_bind.specs.Lookup.{word_at, IsFirstOf, IsLead}
-use Rattle.cil_bind.specs.Written.{IsOneName}
-use Rattle.cil_check.specs.Checker.{IsNoted}
-use Rattle.cil_check.specs.Groups.{list_at}
-use Rattle.cil_check.specs.Inherited.{names_listed, given_names, HasInherited}
-use Rattle.cil_check.specs.Missing.{rule_class, class_lead, lacking_words}
-use Rattle.cil_check.specs.Permissions.{is_listed, HaveListed}
-use Rattle.cil_check.specs.declared.bound.Seen.{Seen}
+use Rattle.cil_check.proofs.Common.{option_and_then, list_any, or-true, none-some, same_Some, slice_get-get_or, slice_get_within, get_or_from_slice_get, list_any-append, Word, Form, block, optional, type_name, type_alias, alias_actual, type_attribute, attribute_set, common, class, class_common, class_order, rule, Placed, classes, leads, holds_of, has_name, texts, listed_by, own_permissions, permissions_of, named_permissions, is_lacking, permissions_in, read, texts_of, NumberedWord, word_at, IsFirstOf, IsLead, IsOneName, IsNoted, list_at, names_listed, given_names, HasInherited, rule_class, class_lead, lacking_words, is_listed, HaveListed, Seen, Listed}
 use Rattle.cil_check.specs.declared.checker.Checker.{Checker}
-use Rattle.cil_check.specs.declared.permissions.Listed.{Listed}
 use Rattle.cil_check.proofs.PositionLemmas.{all-at}
 use Rattle.cil_check.proofs.SeenLemmas.{there-at}
 use Rattle.cil_check.proofs.PermissionLemmas.{word-read, one-name-at}

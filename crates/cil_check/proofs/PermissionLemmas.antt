@@ -1,30 +1,9 @@
 -- Permissions by numbers.
 use Rattle.std.proofs.Common.{◌≡◌, ℕ, zero, suc, ◌+◌, ◌<◌, ◌==◌, ◌&&◌, ◌||◌, nat_eq, nat_lt, ◌≤◌, inl, inr, Bool, true, false, not, List, [], ◌∷◌, ◌++◌, map, length, take, get_or, slice_get, Option, Some, bytes_eq, refl, sym, ap, ◌∙◌, subst, true≢false, add-one, arith, if◌then◌else◌}
-use Rattle.std.specs.List.{list_any, AllByRecursion, IsDistinct}
-use Rattle.std.proofs.lemmas.Option.{none-some, same_Some, get_or_from_slice_get, slice_get_within}
-use Rattle.std.proofs.lemmas.Bool.{eqb-true, eq-eqb, cases_order, lt-ltb, le-ltb}
-use Rattle.std.proofs.lemmas.List.Folds.{list_any-append}
-use Rattle.std.proofs.lemmas.List.{length-map, map-append}
-use Rattle.std.proofs.lemmas.List.Sums.{fold-append}
-use Rattle.std.proofs.Math.Bool.{or-false}
-use Rattle.std.proofs.lemmas.Slice.Eq.{bytes_eq-Decides}
+use Rattle.cil_check.proofs.Common.{list_any, AllByRecursion, IsDistinct, none-some, same_Some, get_or_from_slice_get, slice_get_within, eqb-true, eq-eqb, cases_order, lt-ltb, le-ltb, list_any-append, length-map, map-append, fold-append, or-false, bytes_eq-Decides, Word, Form, block, optional, type_name, type_alias, alias_actual, type_attribute, attribute_set, common, class, class_common, class_order, rule, itself, the_named, Placed, kind_of, permissions_in, has_name, with_name, distinct, texts, own_permissions, read, NumberedWord, word_at, bytes_eq-true, distinct-place, is_listed, HaveListed, HaveWords, lists_own, IsOneName, Listed, AreNumbersOf, take-next}
 use Rattle.indexmap.specs.IndexSet.{insert_key}
-use Rattle.cil_specs.specs.Names.{Word}
-use Rattle.cil_specs.specs.Statements.{Form, block, optional, type_name, type_alias, alias_actual, type_attribute, attribute_set, common, class, class_common, class_order, rule, itself, the_named}
-use Rattle.cil_specs.specs.Joined.{Placed}
-use Rattle.cil_parse.specs.Forms.{kind_of, permissions_in}
-use Rattle.cil_specs.specs.Lookup.{has_name, with_name, distinct, texts, own_permissions}
-use Rattle.cil_parse.specs.Builder.{read}
-use Rattle.cil_parse.specs.declared.row.NumberedWord.{NumberedWord}
-use Rattle.cil_bind.specs.Lookup.{word_at}
-use Rattle.cil_bind.proofs.NamespaceLemmas.{bytes_eq-true, distinct-place}
-use Rattle.cil_check.specs.Permissions.{is_listed, HaveListed, HaveWords, lists_own}
-use Rattle.cil_bind.specs.Written.{IsOneName}
-use Rattle.cil_check.specs.declared.permissions.Listed.{Listed}
 use Rattle.cil_check.specs.contracts.permissions.ListedPartialEq.TheImpl as listed_eq
-use Rattle.cil_parse.specs.Lexicon.{AreNumbersOf}
 use Rattle.cil_check.proofs.WordLemmas.{has-distinct}
-use Rattle.cil_bind.proofs.PositionLemmas.{take-next}
 
 pub derived-listed : (l : Listed) → (listed_eq.eq-value).it l ≡ is_listed l.owner l.word
 derived-listed l = λ i other. nat_eq l.owner other.owner && nat_eq l.word other.word

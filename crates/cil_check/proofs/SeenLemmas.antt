@@ -1,31 +1,16 @@
 -- What is seen of the statements of a bound policy.
 use Rattle.std.proofs.Common.{◌≡◌, ℕ, zero, suc, ◌<◌, List, [], ◌∷◌, length, map, get_or, slice_get, Option, Some, None, refl, sym, ap, ◌∙◌, subst, arith}
-use Rattle.std.proofs.lemmas.List.{length-map}
-use Rattle.std.proofs.lemmas.Option.{none-some, same_Some, slice_get-get_or, slice_get_within, get_or_from_slice_get}
-use Rattle.cil_specs.specs.Names.{Word}
-use Rattle.cil_specs.specs.Statements.{Form, block, optional, type_name, type_alias, alias_actual, type_attribute, attribute_set, common, class, class_common, class_order, rule, itself, the_named}
-use Rattle.cil_specs.specs.Joined.{Placed}
-use Rattle.cil_specs.specs.Lookup.{Table, leads, references}
-use Rattle.cil_parse.specs.Builder.{read}
+use Rattle.cil_check.proofs.Common.{length-map, none-some, same_Some, slice_get-get_or, slice_get_within, get_or_from_slice_get, Word, Form, block, optional, type_name, type_alias, alias_actual, type_attribute, attribute_set, common, class, class_common, class_order, rule, itself, the_named, Placed, Table, leads, references, read, Statements, AreNumbersOf, kind_of, words_in, texts_of, Spells, NumberedWord, IsLead, IsOf, IsSeen, Reads, test_of, is_kind, Seen}
 use Rattle.std.specs.Borrow.{Bor}
-use Rattle.cil_specs.specs.Statements.{Statements}
 use Rattle.cil_parse.specs.Flat.{FlatStatement, flat}
-use Rattle.cil_parse.specs.Lexicon.{AreNumbersOf}
-use Rattle.cil_parse.specs.Forms.{kind_of, words_in}
-use Rattle.cil_parse.specs.Parsed.{texts_of, Spells}
 use Rattle.cil_parse.specs.View.{IsShown}
 use Rattle.cil_parse.specs.declared.view.StatementView.{StatementView}
-use Rattle.cil_parse.specs.declared.row.NumberedWord.{NumberedWord}
 use Rattle.cil_bind.specs.Binding.{AreLeads, AreBound}
-use Rattle.cil_bind.specs.Lookup.{IsLead}
 use Rattle.cil_bind.specs.Scope.{IsFrom}
 use Rattle.cil_bind.specs.declared.joined.NamedModule.{NamedModule}
 use Rattle.cil_bind.specs.declared.rows.Row.{Row}
 use Rattle.cil_bind.proofs.DeclareLemmas.{rows-length}
 use Rattle.cil_bind.proofs.FromLemmas.{from-at, is-there, IsThere}
-use Rattle.cil_check.specs.Bound.{IsOf, IsSeen, Reads}
-use Rattle.cil_check.specs.Kinds.{test_of, is_kind}
-use Rattle.cil_check.specs.declared.bound.Seen.{Seen}
 use Rattle.cil_check.specs.declared.bound.BoundPolicy.{BoundPolicy}
 use Rattle.cil_check.specs.declared.kinds.Kind.{Kind}
 use Rattle.cil_check.specs.declared.kinds.Kind.TheVariants.{«Type», Alias, Attribute}

@@ -1,19 +1,7 @@
 -- Policies with set statements and without.
-use Rattle.std.proofs.Common.{◌≡◌, ℕ, ◌+◌, ◌≤◌, List, [], ◌∷◌, ◌++◌, take, length, Contains, Some, slice_get, refl, sym, ap, ◌∙◌, subst, arith}
-use Rattle.std.specs.List.{flat_map}
-use Rattle.std.proofs.lemmas.Grind.{flat_map-append}
-use Rattle.std.proofs.lemmas.List.{take_all}
-use Rattle.cil_specs.specs.Joined.{Placed}
-use Rattle.cil_specs.specs.Lookup.{types, declared_name}
-use Rattle.cil_specs.specs.PolicyFault.{PolicyFault, circular, IsFaultOf}
-use Rattle.cil_specs.specs.Rule.{SetStatement, set_statement_of, sets_of}
-use Rattle.cil_specs.specs.Sets.{DependsThrough}
-use Rattle.cil_specs.specs.Statements.{Form, attribute_set}
-use Rattle.cil_specs.proofs.MeansLemmas.{contains-flat}
-use Rattle.cil_specs.proofs.NamesLemmas.{contains-first}
-use Rattle.cil_parse.specs.Forms.{kind_of}
+use Rattle.std.proofs.Common.{◌≡◌, ℕ, ◌+◌, List, [], ◌∷◌, ◌++◌, take, Contains, Some, slice_get, refl, sym, ap, ◌∙◌, subst, arith}
+use Rattle.cil_check.proofs.Common.{flat_map, flat_map-append, Placed, types, declared_name, PolicyFault, circular, IsFaultOf, SetStatement, set_statement_of, sets_of, DependsThrough, Form, attribute_set, contains-flat, contains-first, kind_of, take-last}
 use Rattle.cil_parse.specs.declared.row.StatementKind.TheVariants as kinds
-use Rattle.cil_bind.proofs.PositionLemmas.{take-last}
 use Rattle.cil_check.proofs.AskedLemmas.{form-set}
 use Rattle.cil_check.proofs.DeclaredLemmas.{at-contains}
 
@@ -31,9 +19,6 @@ sets-next policy i s at other none =
     ∙ flat_map-append (λ t. set_statement_of policy t t.form) (take i policy) (s ∷ [])
     ∙ ap (λ l. l ++ (set_statement_of policy s s.form ++ [])) none
     ∙ ap (λ l. l ++ []) (no-set policy s s.form other)
-
-pub sets-end : (policy : List Placed) (n : ℕ) → length policy ≤ n → sets_before policy n ≡ [] → sets_of policy ≡ []
-sets-end policy n past none = subst (λ l. flat_map (λ s. set_statement_of policy s s.form) l ≡ []) (take_all n policy past) none
 
 not-contained : (set : SetStatement) → Contains [] set → ⊥
 not-contained set c = omega (arith, c.1)

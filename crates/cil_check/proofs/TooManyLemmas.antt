@@ -1,26 +1,7 @@
 -- Classes of too many permissions.
 use Rattle.std.proofs.Common.{◌≡◌, ℕ, ◌+◌, ◌<◌, ◌≤◌, nat_lt, Bool, true, false, List, [], ◌∷◌, ◌++◌, length, take, filter, fold, map, cond, Some, bytes_eq, get_or, slice_get, refl, sym, ap, ◌∙◌, append-nil, add-one}
-use Rattle.std.specs.Option.{option_to_list}
-use Rattle.std.specs.List.{IsDistinct}
-use Rattle.std.proofs.lemmas.Option.{slice_get-get_or}
-use Rattle.std.proofs.lemmas.List.{take_all}
-use Rattle.std.proofs.lemmas.List.Sums.{fold-append}
-use Rattle.std.proofs.lemmas.Grind.{flat_map-append}
-use Rattle.cil_specs.specs.Names.{Word}
-use Rattle.cil_specs.specs.Statements.{Form, block, optional, type_name, type_alias, alias_actual, type_attribute, attribute_set, common, class, class_common, class_order, rule, itself, the_named}
-use Rattle.cil_specs.specs.Joined.{Placed}
-use Rattle.cil_specs.specs.Lookup.{classes, declared_in, texts, distinct, with_name, listed_by, own_permissions}
-use Rattle.cil_specs.specs.PolicyFault.{has_too_many, too_many_words}
-use Rattle.cil_parse.specs.Forms.{kind_of}
-use Rattle.cil_parse.specs.Lexicon.{AreNumbersOf}
+use Rattle.cil_check.proofs.Common.{option_to_list, IsDistinct, slice_get-get_or, take_all, fold-append, flat_map-append, Word, Form, block, optional, type_name, type_alias, alias_actual, type_attribute, attribute_set, common, class, class_common, class_order, rule, itself, the_named, Placed, classes, declared_in, texts, distinct, with_name, listed_by, own_permissions, has_too_many, too_many_words, kind_of, AreNumbersOf, IsFirstOf, with_number, list_at, names_listed, HasInherited, word_if, HaveWords, take-next}
 use Rattle.cil_parse.specs.declared.row.StatementKind.TheVariants as kinds
-use Rattle.cil_bind.specs.Lookup.{IsFirstOf}
-use Rattle.cil_check.specs.Few.{with_number}
-use Rattle.cil_check.specs.Groups.{list_at}
-use Rattle.cil_check.specs.Inherited.{names_listed, HasInherited}
-use Rattle.cil_check.specs.Kinds.{word_if}
-use Rattle.cil_check.specs.Permissions.{HaveWords}
-use Rattle.cil_bind.proofs.PositionLemmas.{take-next}
 use Rattle.cil_check.proofs.PositionLemmas.{all-at}
 use Rattle.cil_check.proofs.SeenLemmas.{there-at}
 use Rattle.cil_check.proofs.PermissionLemmas.{words-at}

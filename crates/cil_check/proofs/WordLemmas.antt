@@ -1,27 +1,7 @@
 -- Words with faults, one by one.
 use Rattle.std.proofs.Common.{◌≡◌, ℕ, ◌<◌, zero, suc, arith, Bool, true, false, not, ◌&&◌, ◌||◌, List, [], ◌∷◌, ◌++◌, length, take, drop, filter, map, flat_map, fold, Contains, ◌+◌, cond, Option, Some, None, is_some, option_map, position, slice_get, bytes_eq, refl, sym, ap, ◌∙◌, subst, true≢false, if◌then◌else◌}
-use Rattle.std.specs.Option.{option_or, option_and_then, option_to_list}
-use Rattle.std.specs.List.{find, list_any}
-use Rattle.std.proofs.lemmas.Option.{none-some, same_Some}
-use Rattle.std.proofs.lemmas.List.Folds.{list_any-append}
-use Rattle.std.proofs.Math.Bool.{or-false}
-use Rattle.std.proofs.lemmas.Slice.Eq.{bytes_eq-Decides}
-use Rattle.cil_specs.specs.Names.{Word}
-use Rattle.cil_specs.specs.Statements.{Form, block, optional, type_name, type_alias, alias_actual, type_attribute, attribute_set, common, class, class_common, class_order, rule, is_optional}
-use Rattle.cil_specs.specs.Joined.{Placed}
-use Rattle.cil_specs.specs.Lookup.{Table, declares, types, classes, declared_in, is_same, is_word, same_namespace, word_text, holds_of, leads, has_name, with_name, distinct, gives_actual, actual_statement, is_alias}
-use Rattle.cil_specs.specs.PolicyFault.{PolicyFault, twice, tables, is_again, twice_words, IsFaultOf, has_earlier_actual, has_earlier_common, is_unset}
-use Rattle.cil_specs.specs.Rule.{is_class}
-use Rattle.cil_specs.proofs.Runs.{both_true}
-use Rattle.cil_specs.proofs.NamesLemmas.{contains-first}
-use Rattle.cil_bind.specs.Lookup.{IsFirstOf}
-use Rattle.cil_bind.specs.Lookup.{IsLead}
-use Rattle.cil_check.specs.Associations.{first_at, association_table, given_word, given_lead, gives, HasFirsts}
-use Rattle.cil_check.specs.Kinds.{word_if, again_words}
-use Rattle.cil_check.specs.declared.firsts.Association.{Association}
+use Rattle.cil_check.proofs.Common.{option_or, option_and_then, option_to_list, find, list_any, none-some, same_Some, list_any-append, or-false, bytes_eq-Decides, Word, Form, block, optional, type_name, type_alias, alias_actual, type_attribute, attribute_set, common, class, class_common, class_order, rule, is_optional, Placed, Table, declares, types, classes, declared_in, is_same, is_word, same_namespace, word_text, holds_of, leads, has_name, with_name, distinct, gives_actual, actual_statement, is_alias, PolicyFault, twice, tables, is_again, twice_words, IsFaultOf, has_earlier_actual, has_earlier_common, is_unset, is_class, both_true, contains-first, IsFirstOf, IsLead, first_at, association_table, given_word, given_lead, gives, HasFirsts, word_if, again_words, Association, bytes_eq-true, around-at, at_if, any-position, is_before, any-before}
 use Rattle.cil_check.specs.declared.firsts.Association.TheVariants as association
-use Rattle.cil_bind.proofs.NamespaceLemmas.{bytes_eq-true}
-use Rattle.cil_bind.proofs.PositionLemmas.{around-at, at_if, any-position, is_before, any-before}
 use Rattle.cil_check.proofs.PositionLemmas.{position-next, position-more, any-same, find-position}
 
 -- below the length there is an element
@@ -43,14 +23,6 @@ led-at table policy place lead led = by (slice_get policy place) refl
     by : (o : Option Placed) → slice_get policy place ≡ o → Led table policy place lead
     by None e = absurd (none-there policy place e led.within)
     by (Some s) e = record { s = s; at = e; is = sym led.is ∙ e; first = led.first }
-
--- the first of one word, or of more
-pub words-one : {X : Type 0} (p : X → Bool) (f : X → Word) (x : X) → slice_get (map f (filter p (x ∷ []))) 0 ≡ word_if (p x) (f x)
-words-one p f x = by (p x)
-  where
-    by : (b : Bool) → slice_get (map f (cond b (x ∷ []) [])) 0 ≡ word_if b (f x)
-    by true = refl
-    by false = refl
 
 pub words-cons : {X : Type 0} (p : X → Bool) (f : X → Word) (x : X) (xs : List X) → slice_get (map f (filter p (x ∷ xs))) 0 ≡ option_or (word_if (p x) (f x)) (slice_get (map f (filter p xs)) 0)
 words-cons p f x xs = by (p x)

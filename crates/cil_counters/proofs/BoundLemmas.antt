@@ -1,21 +1,7 @@
 -- Counters of accesses that are no more than the rules of two policies, by symbols and by full names.
 use Rattle.std.proofs.Common.{◌≡◌, ℕ, ◌+◌, ◌<◌, ◌≤◌, List, [], length, cond, bytes_eq, Option, None, Some, position, refl, ap, ◌∙◌, arith}
-use Rattle.std.proofs.lemmas.Option.{get_or_from_slice_get, slice_get_within}
-use Rattle.cil_specs.specs.Meaning.{Meaning, count_of}
-use Rattle.cil_text.specs.declared.statement.RuleKind.{RuleKind}
-use Rattle.cil_keyed_lines.specs.declared.symbol_key.SymbolKey.{SymbolKey}
-use Rattle.cil_resolve.specs.Resolved.{meaning_in}
-use Rattle.cil_resolve.specs.declared.resolved.Resolved.{Resolved}
-use Rattle.cil_symbols.proofs.NameLemmas.{found-name}
-use Rattle.cil_rule_reach.specs.Named.{atom_of, name_at}
-use Rattle.cil_table_updates.specs.Policies.{count_named}
-use Rattle.cil_counters.specs.Counted.{atom_with, count_at, IsCounted}
+use Rattle.cil_counters.proofs.Common.{get_or_from_slice_get, slice_get_within, Meaning, count_of, RuleKind, SymbolKey, found-name, atom_of, name_at, count_named, atom_with, count_at}
 use Rattle.cil_counters.proofs.ToldLemmas.{all-named}
-
--- the counters of one of two policies
-pub bounded-counts : {A B : Type 0} (one : Resolved A) (other : Resolved B) (names : List (List ℕ)) (members : ℕ → ℕ → ℕ) (counts : SymbolKey → ℕ → ℕ) → IsCounted names one members counts
-    → (key : SymbolKey) (t : ℕ) → counts key t ≤ count_named names (meaning_in one) key t + count_named names (meaning_in other) key t
-bounded-counts one other names members counts is key t = omega (arith, is.are_counts key t)
 
 module _ (names : List (List ℕ)) where
   named-at : (name : List ℕ) (i : ℕ) → position (bytes_eq name) names ≡ Some i → name_at names i ≡ name

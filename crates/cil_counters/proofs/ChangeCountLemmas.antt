@@ -1,37 +1,18 @@
 -- How many accesses came to a table, told by the counters.
 use Rattle.std.proofs.Common.{◌≡◌, ◌≢◌, ◌⊎◌, ℕ, ◌<◌, ◌&&◌, Bool, true, not, List, [], ◌∷◌, length, map, get_or, nat_lt, Some, Contains, Less, Equal, Greater, true≢false, refl, sym, ap, subst, ◌∙◌, inl, inr, arith}
-use Rattle.std.specs.Bool.{IsTrue}
-use Rattle.std.specs.List.{AllByRecursion, AllPairs}
-use Rattle.std.specs.List.Sorted.{IsStrictlySortedBy}
+use Rattle.cil_counters.proofs.Common.{IsTrue, AllByRecursion, AllPairs, IsStrictlySortedBy, ltb-true, length-map, slice_get-get_or, count_of, is_in_table, atom_cmp, AreAtoms, AreChanges, Atom, AnyByRecursion, all_weaker, contains_from, contains_to, rule_kind_of, RuleKind, Allow, AuditAllow, DontAudit, NeverAllow, SymbolKey, meaning_in, Resolved, atom_of, is_named, name_at, AreApart, and-first, and-second, IsCounted}
 use Rattle.std.specs.Ordering.{ordering_reverse}
 use Rattle.std.specs.declared.cmp.Ordering.{Ordering}
-use Rattle.std.proofs.lemmas.Bool.{ltb-true}
 use Rattle.std.proofs.lemmas.Cmp.{tied_itself}
-use Rattle.std.proofs.lemmas.List.{length-map}
 use Rattle.std.proofs.lemmas.Map.Keys.{Less-from_sorted}
-use Rattle.std.proofs.lemmas.Option.{slice_get-get_or}
 use Rattle.cil_sums.proofs.PairLemmas.{at-most-all, from-mapped, mapped, pairs-map}
-use Rattle.cil_specs.specs.Meaning.{count_of, is_in_table}
-use Rattle.cil_specs.specs.Report.{atom_cmp, AreAtoms, AreChanges}
-use Rattle.cil_specs.specs.Rule.{Atom}
 use Rattle.cil_specs.specs.Statements as spec
 use Rattle.cil_specs.specs.Statements.{allow, auditallow, dontaudit, neverallow}
 use Rattle.cil_specs.proofs.ReportLemmas.{atom_exact, atom_total}
-use Rattle.cil_specs.proofs.ReportLemmasMembers.{AnyByRecursion, all_weaker, contains_from, contains_to}
-use Rattle.cil_text.specs.Image.{rule_kind_of}
-use Rattle.cil_text.specs.declared.statement.RuleKind.{RuleKind}
-use Rattle.cil_text.specs.declared.statement.RuleKind.TheVariants.{Allow, AuditAllow, DontAudit, NeverAllow}
-use Rattle.cil_keyed_lines.specs.declared.symbol_key.SymbolKey.{SymbolKey}
-use Rattle.cil_resolve.specs.Resolved.{meaning_in}
-use Rattle.cil_resolve.specs.declared.resolved.Resolved.{Resolved}
-use Rattle.cil_rule_reach.specs.Named.{atom_of, is_named, name_at}
 use Rattle.cil_symbol_changes.specs.Counts.{has_come, has_risen, AreSoMany}
 use Rattle.cil_symbol_changes.specs.declared.counted_changes.ChangeCounts.{ChangeCounts}
 use Rattle.cil_symbol_changes.proofs.CountLemmas.{both-hold}
-use Rattle.cil_table_updates.specs.Policies.{AreApart}
-use Rattle.cil_table_updates.proofs.GivenLemmas.{and-first, and-second}
 use Rattle.cil_counters.specs.ChangeCounts.{CountsSome}
-use Rattle.cil_counters.specs.Counted.{IsCounted}
 use Rattle.cil_counters.proofs.ChangedLemmas.{counted-atom, counted-listed, table-key}
 
 -- ---- accesses put in order

@@ -1,31 +1,14 @@
 -- The changes between two policies by full names, told by their counters.
 use Rattle.std.proofs.Common.{◌≡◌, ◌↔◌, ℕ, ◌<◌, ◌&&◌, Bool, true, false, not, cond, List, [], length, map, get_or, nat_lt, slice_get, slice_index, Some, Contains, refl, sym, ap, subst, ◌∙◌, inl, inr, arith}
-use Rattle.std.specs.Bool.{IsTrue}
-use Rattle.std.specs.List.Sorted.{IsStrictlySortedBy}
-use Rattle.std.proofs.lemmas.Bool.{and_from, and_parts, both_ways, cases_Bool, cases_lt, lt-ltb, ltb-true, not-true}
-use Rattle.std.proofs.lemmas.Option.{get_or_from_slice_get, slice_get-get_or, slice_get_within}
-use Rattle.cil_specs.specs.Meaning.{count_of, is_in_table}
-use Rattle.cil_specs.specs.Report.{AreAtoms, AreChanges, names_rise}
+use Rattle.cil_counters.proofs.Common.{IsTrue, IsStrictlySortedBy, and_from, and_parts, both_ways, cases_Bool, cases_lt, lt-ltb, ltb-true, not-true, get_or_from_slice_get, slice_get-get_or, slice_get_within, count_of, is_in_table, AreAtoms, AreChanges, names_rise, all_from_contains, any-map, any_from, any_from_map, any_to, contains_from, contains_to, SymbolKey, meaning_in, Resolved, symbol-name, symbol-some, atom_of, is_named, name_at, IsMerged, and-first, and-second, IsCounted, AreRanks}
 use Rattle.cil_specs.specs.Rule as spec
-use Rattle.cil_specs.proofs.ReportLemmasMembers.{all_from_contains, any-map, any_from, any_from_map, any_to, contains_from, contains_to}
-use Rattle.cil_text.specs.declared.statement.RuleKind.{RuleKind}
 use Rattle.cil_accesses.specs.declared.access.AccessNumbers.{AccessNumbers}
 use Rattle.cil_accesses.specs.Chunks.{numbers_cmp}
 use Rattle.cil_accesses.specs.Renumbered.{IsWithin}
-use Rattle.cil_keyed_lines.specs.declared.symbol_key.SymbolKey.{SymbolKey}
-use Rattle.cil_resolve.specs.Resolved.{meaning_in}
-use Rattle.cil_resolve.specs.declared.resolved.Resolved.{Resolved}
-use Rattle.cil_member_updates.proofs.SymbolLemmas.{symbol-name, symbol-some}
-use Rattle.cil_rule_reach.specs.Named.{atom_of, is_named, name_at}
 use Rattle.cil_rules.specs.Atoms.{atom_at, AreNumbered}
-use Rattle.cil_rules.specs.Ranks.{ArePlaces, IsMerged}
 use Rattle.cil_rules.proofs.AtomLemmas.{atoms-ordered}
-use Rattle.cil_rules.proofs.ChangesLemmas.{name_at-place, number-within}
 use Rattle.cil_rules.proofs.TableLemmas.{table-numbered, IsNamed}
 use Rattle.cil_symbol_changes.specs.Numbered.{access_by, IsNew, IsNumbered}
-use Rattle.cil_table_updates.proofs.GivenLemmas.{and-first, and-second}
-use Rattle.cil_counters.specs.Counted.{IsCounted}
-use Rattle.cil_counters.specs.SymbolRanks.{AreRanks}
 use Rattle.cil_counters.proofs.ToldLemmas.{all-named}
 
 -- an access has symbols

@@ -1,25 +1,15 @@
 -- Names of attributes and types that are hit, put together one after the other.
 use Rattle.std.proofs.Common.{◌≡◌, ◌≢◌, ◌⊎◌, ℕ, zero, suc, ◌+◌, ◌-◌, ◌*◌, ◌/◌, ◌%◌, ◌<◌, ◌≤◌, Bool, true, cond, not, List, [], ◌∷◌, ◌++◌, Option, None, Some, length, get_or, take, min, nat_lt, bytes_eq, position, slice_get, is_some, refl, sym, ap, subst, ◌∙◌, inl, inr, arith, take_all, true≢false}
 use Rattle.std.specs.Int.{bit_at}
-use Rattle.std.specs.List.{Contains, IsDistinct}
-use Rattle.std.proofs.lemmas.Bool.{cases_eq, cases_lt, le-ltb, lt-ltb}
+use Rattle.cil_counters.proofs.Common.{Contains, IsDistinct, cases_eq, cases_lt, le-ltb, lt-ltb, list_any_at, sum_by_more, sum_by_more_le, get_or_from_slice_get, same_Some, slice_get_within, bytes_eq-Decides, any-position, differ, found-name, has_turned, AreChangedMembers, AreHit, AreNamed, has_at}
 use Rattle.std.proofs.lemmas.List.Elements.{Contains-append_cases, Contains-append_left, Contains-append_right, Contains-get_or}
-use Rattle.std.proofs.lemmas.List.Folds.{list_any_at}
 use Rattle.std.proofs.lemmas.List.Quantifiers.{all_pairs_push}
-use Rattle.std.proofs.lemmas.List.Sums.{sum_by_more, sum_by_more_le}
 use Rattle.std.proofs.lemmas.Nat.Bits.{bit_at-lt}
-use Rattle.std.proofs.lemmas.Option.{get_or_from_slice_get, same_Some, slice_get_within}
-use Rattle.std.proofs.lemmas.Slice.Eq.{bytes_eq-Decides}
 use Rattle.cil_bind.proofs.NamespaceLemmas.{distinct-place}
-use Rattle.cil_bind.proofs.PositionLemmas.{any-position}
 use Rattle.cil_recorded.specs.Differences.{appeared_at, gone_at}
 use Rattle.cil_recorded.specs.Log.{hit_at}
 use Rattle.cil_recorded.specs.declared.recorded_lines.changes.Change.{Change}
 use Rattle.cil_recorded.proofs.LogLemmas.{hit_off, hit_on, hit_out}
-use Rattle.cil_specs.specs.Sets.{differ}
-use Rattle.cil_symbols.proofs.NameLemmas.{found-name}
-use Rattle.cil_counters.specs.ChangedMembers.{has_turned, AreChangedMembers, AreHit, AreNamed}
-use Rattle.cil_counters.specs.Counted.{has_at}
 
 -- what stands in a list of one is that one
 only : {X : Type 0} (x y : X) → Contains (x ∷ []) y → x ≡ y

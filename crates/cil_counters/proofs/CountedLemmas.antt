@@ -1,36 +1,13 @@
 -- The counters of a policy, when names come and when nothing has a name.
-use Rattle.std.proofs.Common.{◌≡◌, ◌↔◌, ◌||◌, inl, inr, true≢false, ℕ, ◌+◌, ◌<◌, ◌≤◌, ◌&&◌, Bool, true, false, List, [], ◌∷◌, ◌++◌, length, cond, count_by, bytes_eq, nat_lt, slice_get, refl, sym, ap, ◌∙◌, subst, arith, zero-add}
-use Rattle.std.specs.List.{list_all, IsDistinct}
-use Rattle.std.specs.Bool.{IsTrue}
+use Rattle.std.proofs.Common.{◌≡◌, ◌↔◌, ◌||◌, inl, inr, true≢false, ℕ, ◌+◌, ◌<◌, ◌≤◌, ◌&&◌, Bool, true, false, List, [], ◌∷◌, length, cond, count_by, bytes_eq, nat_lt, slice_get, refl, sym, ap, ◌∙◌, subst, arith, zero-add}
+use Rattle.cil_counters.proofs.Common.{IsTrue, cases_lt, sum_by-cons, slice_get-get_or, slice_get_past, AreTheSame, HasSoundSets, SetStatement, AreNumbersOf, SymbolKey, meaning_in, sets_in, Resolved, AreCounts, atom_of, is_named, name_at, AreMembersOf, count_named, symbols_now, AreSettled, AreSymbolsOf, AreTakenBack, IsCounted, IsCountedBy, IsNow, WasBefore}
 use Rattle.std.proofs.Math.Bool.{and-false}
-use Rattle.std.proofs.lemmas.Bool.{cases_lt}
-use Rattle.std.proofs.lemmas.List.Sums.{sum_by-cons}
-use Rattle.std.proofs.lemmas.Option.{slice_get-get_or, slice_get_past}
-use Rattle.cil_specs.specs.Dependence.{AreTheSame}
-use Rattle.cil_specs.specs.Lookup.{has_name}
 use Rattle.cil_specs.specs.Meaning.{Meaning, is_in, keeps_type, gives as rule_gives}
-use Rattle.cil_specs.specs.Members.{keeps_attribute, HasSoundSets}
-use Rattle.cil_specs.specs.Rule.{SetStatement}
-use Rattle.cil_parse.specs.Lexicon.{AreNumbersOf}
-use Rattle.cil_text.specs.declared.statement.RuleKind.{RuleKind}
-use Rattle.cil_keyed_lines.specs.declared.symbol_key.SymbolKey.{SymbolKey}
-use Rattle.cil_resolve.specs.Below.{is_rule_below}
-use Rattle.cil_resolve.specs.Consistent.{is_consistent}
-use Rattle.cil_resolve.specs.Resolved.{meaning_in}
-use Rattle.cil_resolve.specs.Sets.{sets_in}
-use Rattle.cil_resolve.specs.declared.resolved.Resolved.{Resolved}
 use Rattle.cil_member_updates.specs.Counts.{gives_member}
 use Rattle.cil_member_updates.proofs.CountLemmas.{counted-member}
 use Rattle.cil_member_updates.specs.Given.{gives, holds, is_of, of_name}
-use Rattle.cil_member_updates.specs.Policy.{AreCounts}
-use Rattle.cil_member_updates.proofs.GrowthLemmas.{count-more, numbers-more}
-use Rattle.cil_rule_reach.specs.Named.{atom_of, is_named, name_at, AreMembersOf}
-use Rattle.cil_table_updates.specs.Policies.{count_named}
-use Rattle.cil_table_updates.proofs.GivenLemmas.{counted-named}
-use Rattle.cil_table_updates.proofs.PlaceLemmas.{names-apart}
 use Rattle.cil_member_rows.specs.Rows as member_rows
 use Rattle.cil_keyed_lines.specs.Keyed as access_tables
-use Rattle.cil_counters.specs.Counted.{symbols_now, AreSettled, AreSymbolsOf, AreTakenBack, IsCounted, IsCountedBy, IsNow, WasBefore}
 use Rattle.cil_counters.specs.declared.counters.Counters.{Counters}
 use Rattle.cil_counters.specs.declared.policy_symbols.PolicySymbols.{PolicySymbols}
 use Rattle.std.specs.Prelude.{unwrap_or}

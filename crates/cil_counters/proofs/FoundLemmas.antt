@@ -1,23 +1,9 @@
 -- An access that is in the table of one policy alone has a counter that isn't what it was.
 use Rattle.std.proofs.Common.{◌≡◌, ◌≢◌, ℕ, true, List, [], bytes_eq, length, nat_lt, Option, None, Some, position, refl, sym, ap, ◌∙◌}
-use Rattle.std.specs.List.{list_all}
-use Rattle.std.proofs.lemmas.Option.{get_or_from_slice_get}
-use Rattle.cil_specs.specs.Lookup.{has_name}
-use Rattle.cil_specs.specs.Meaning.{count_of, is_in_table, keeps_type}
-use Rattle.cil_specs.specs.Rule.{Atom}
+use Rattle.cil_counters.proofs.Common.{list_all, get_or_from_slice_get, has_name, count_of, is_in_table, keeps_type, Atom, rule_kind_of, RuleKind, Allow, AuditAllow, DontAudit, NeverAllow, SymbolKey, is_rule_below, meaning_in, Resolved, found-name, atom_of, name_at, atom_with, count_at, IsCounted}
 use Rattle.cil_specs.specs.Statements as spec
 use Rattle.cil_specs.specs.Statements.{allow, auditallow, dontaudit, neverallow}
-use Rattle.cil_text.specs.Image.{rule_kind_of}
-use Rattle.cil_text.specs.declared.statement.RuleKind.{RuleKind}
-use Rattle.cil_text.specs.declared.statement.RuleKind.TheVariants.{Allow, AuditAllow, DontAudit, NeverAllow}
-use Rattle.cil_keyed_lines.specs.declared.symbol_key.SymbolKey.{SymbolKey}
-use Rattle.cil_resolve.specs.Below.{is_rule_below}
-use Rattle.cil_resolve.specs.Resolved.{meaning_in}
-use Rattle.cil_resolve.specs.declared.resolved.Resolved.{Resolved}
-use Rattle.cil_symbols.proofs.NameLemmas.{found-name}
-use Rattle.cil_rule_reach.specs.Named.{atom_of, name_at}
 use Rattle.cil_table_updates.specs.Adjusted.{Counter}
-use Rattle.cil_counters.specs.Counted.{atom_with, count_at, IsCounted}
 use Rattle.cil_counters.proofs.ToldLemmas.{told-accesses}
 
 -- a kind of rules as the code has it

@@ -1,5 +1,5 @@
 -- Numbers at which a test holds, one number more.
-use Rattle.std.proofs.Common.{◌≡◌, ◌∙◌, ◌+◌, ℕ, zero, suc, Bool, true, false, List, [], ◌∷◌, ◌++◌, if◌then◌else◌, refl, sym, ap, arith}
+use Rattle.std.proofs.Common.{◌≡◌, ◌∙◌, ◌+◌, ℕ, zero, suc, Bool, true, false, List, [], ◌∷◌, ◌++◌, if◌then◌else◌, refl, ap, arith}
 use Rattle.cil_violations.specs.Rows.{hits}
 
 abbrev last : (ℕ → Bool) → ℕ → List ℕ

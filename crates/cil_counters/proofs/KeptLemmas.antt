@@ -1,35 +1,11 @@
 -- What is counted by symbols, where names come in the place of names that the policy lacks.
 use Rattle.std.proofs.Common.{◌≡◌, ℕ, ◌+◌, ◌*◌, ◌&&◌, Bool, true, false, List, [], ◌∷◌, length, cond, count_by, bytes_eq, get_or, slice_get, Option, None, Some, is_some, position, Contains, refl, sym, ap, ◌∙◌, ◌≤◌, arith, true≢false}
-use Rattle.std.specs.List.{list_all, IsDistinct}
-use Rattle.std.proofs.lemmas.Bool.{and_parts}
-use Rattle.std.proofs.lemmas.List.Sums.{sum_by-cons}
-use Rattle.std.proofs.lemmas.Option.{slice_get_within, get_or_from_slice_get}
-use Rattle.std.proofs.lemmas.Slice.Eq.{bytes_eq-Decides}
-use Rattle.cil_specs.specs.Dependence.{AreTheSame}
-use Rattle.cil_specs.specs.Lookup.{has_name}
-use Rattle.cil_specs.specs.Meaning.{Meaning, is_in, keeps_type}
-use Rattle.cil_specs.specs.Members.{keeps_attribute, HasSoundSets}
-use Rattle.cil_specs.specs.Rule.{SetStatement}
-use Rattle.cil_specs.specs.Sets.{holds_with}
+use Rattle.cil_counters.proofs.Common.{list_all, IsDistinct, and_parts, sum_by-cons, slice_get_within, get_or_from_slice_get, bytes_eq-Decides, AreTheSame, has_name, Meaning, is_in, keeps_type, keeps_attribute, HasSoundSets, SetStatement, holds_with, AreNumbersOf, any-position, SymbolKey, is_rule_below, meaning_in, sets_in, Resolved, found-name, AreCounts, AreKept, symbol-name, symbol-some, counted-named, names-apart, AreSymbolsOf, IsCounted, IsCountedBy}
 use Rattle.cil_specs.proofs.NamesLemmas.{contains-first, contains-other}
-use Rattle.cil_parse.specs.Lexicon.{AreNumbersOf}
-use Rattle.cil_bind.proofs.PositionLemmas.{any-position}
-use Rattle.cil_text.specs.declared.statement.RuleKind.{RuleKind}
-use Rattle.cil_keyed_lines.specs.declared.symbol_key.SymbolKey.{SymbolKey}
-use Rattle.cil_resolve.specs.Below.{is_rule_below}
 use Rattle.cil_resolve.specs.Consistent.{is_consistent}
-use Rattle.cil_resolve.specs.Resolved.{meaning_in}
-use Rattle.cil_resolve.specs.Sets.{sets_in}
-use Rattle.cil_resolve.specs.declared.resolved.Resolved.{Resolved}
 use Rattle.cil_member_updates.specs.Counts.{one_if}
-use Rattle.cil_symbols.proofs.NameLemmas.{found-name}
 use Rattle.cil_member_updates.specs.Given.{gives, holds, is_of, keeps, of_name}
-use Rattle.cil_member_updates.specs.Policy.{AreCounts, AreKept}
 use Rattle.cil_member_updates.proofs.NameLemmas.{named-by, same-symbol}
-use Rattle.cil_member_updates.proofs.SymbolLemmas.{symbol-name, symbol-some}
-use Rattle.cil_table_updates.proofs.GivenLemmas.{counted-named}
-use Rattle.cil_table_updates.proofs.PlaceLemmas.{names-apart}
-use Rattle.cil_counters.specs.Counted.{AreSymbolsOf, IsCounted, IsCountedBy}
 use Rattle.cil_counters.specs.declared.policy_symbols.PolicySymbols.{PolicySymbols}
 use Rattle.cil_counters.proofs.CountedLemmas.{members-counted}
 

@@ -1,3 +1,4 @@
+pub mod Common
 pub mod CountedLemmas
 pub mod SymbolRankLemmas
 pub mod ToldLemmas

@@ -1,18 +1,8 @@
 -- The places of names by their symbols.
-use Rattle.std.proofs.Common.{◌≡◌, ◌⊎◌, ℕ, ◌+◌, ◌<◌, ◌≤◌, List, [], length, set, get_or, map, bytes_eq, position, slice_get, slice_index, None, Some, is_some, refl, sym, ap, ◌∙◌, inl, inr, arith, true≢false}
-use Rattle.std.proofs.lemmas.Bool.{cases_eq, cases_lt}
-use Rattle.std.proofs.lemmas.List.{length-set, get_or-set_same, get_or-set_other}
-use Rattle.std.proofs.lemmas.List.Folds.{list_any_at}
-use Rattle.std.proofs.lemmas.Option.{get_or_from_slice_get, none-some, same_Some, slice_get_within, slice_get-get_or}
-use Rattle.std.proofs.lemmas.Slice.Eq.{bytes_eq-Decides}
-use Rattle.cil_bind.proofs.PositionLemmas.{any-position}
-use Rattle.cil_parse.specs.Lexicon.{AreNumbersOf}
-use Rattle.cil_rules.specs.Ranks.{ArePlaces}
+use Rattle.std.proofs.Common.{◌≡◌, ◌⊎◌, ℕ, ◌+◌, ◌<◌, List, [], length, set, get_or, bytes_eq, position, slice_get, slice_index, None, Some, is_some, sym, ap, ◌∙◌, inl, inr, arith, true≢false}
+use Rattle.cil_counters.proofs.Common.{cases_eq, cases_lt, length-set, get_or-set_same, get_or-set_other, list_any_at, get_or_from_slice_get, same_Some, slice_get_within, slice_get-get_or, bytes_eq-Decides, any-position, AreNumbersOf, ArePlaces, symbol-name, symbol-some, AreApart, ArePut, AreRanks, IsPut}
 use Rattle.cil_rules.proofs.ChangesLemmas.{name_at-place, number-within, places-length}
 use Rattle.cil_symbols.specs.Numbered as numbered
-use Rattle.cil_member_updates.proofs.SymbolLemmas.{symbol-name, symbol-some}
-use Rattle.cil_table_updates.specs.Policies.{AreApart}
-use Rattle.cil_counters.specs.SymbolRanks.{ArePut, AreRanks, IsPut}
 
 -- a name without a symbol stands nowhere
 pub stands-nowhere : (symbols : List (List ℕ)) (s : ℕ) (name : List ℕ) → position (bytes_eq name) symbols ≡ None → slice_get symbols s ≡ Some name → ⊥

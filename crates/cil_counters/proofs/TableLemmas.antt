@@ -1,30 +1,15 @@
 -- The access table of a policy by full names, told by its counters.
-use Rattle.std.proofs.Common.{◌≡◌, ◌↔◌, ℕ, ◌<◌, Bool, false, cond, List, [], length, map, Some, Contains, refl, sym, ap, subst, ◌∙◌, true≢false, arith}
-use Rattle.std.specs.Bool.{IsTrue}
-use Rattle.std.specs.List.Sorted.{IsStrictlySortedBy}
-use Rattle.std.proofs.lemmas.Bool.{and_from, and_parts, lt-ltb, ltb-true}
-use Rattle.std.proofs.lemmas.Option.{slice_get-get_or}
-use Rattle.cil_specs.specs.Meaning.{count_of, is_in_table}
-use Rattle.cil_specs.specs.Report.{is_listed, AreAtoms}
+use Rattle.std.proofs.Common.{◌≡◌, ◌↔◌, ℕ, ◌<◌, false, cond, List, length, map, Contains, refl, sym, ap, subst, ◌∙◌, true≢false, arith}
+use Rattle.cil_counters.proofs.Common.{IsTrue, IsStrictlySortedBy, and_from, and_parts, lt-ltb, ltb-true, count_of, is_in_table, is_listed, AreAtoms, all_from_contains, any-map, any_from, any_from_map, any_to, contains_from, contains_to, rule_kind_of, RuleKind, Allow, AuditAllow, DontAudit, NeverAllow, SymbolKey, meaning_in, Resolved, atom_of, IsCounted, AreRanks}
 use Rattle.cil_specs.specs.Rule as spec
-use Rattle.cil_specs.proofs.ReportLemmasMembers.{all_from_contains, any-map, any_from, any_from_map, any_to, contains_from, contains_to}
-use Rattle.cil_text.specs.Image.{rule_kind_of}
-use Rattle.cil_text.specs.declared.statement.RuleKind.{RuleKind}
-use Rattle.cil_text.specs.declared.statement.RuleKind.TheVariants.{Allow, AuditAllow, DontAudit, NeverAllow}
 use Rattle.cil_accesses.specs.declared.access.AccessNumbers.{AccessNumbers}
 use Rattle.cil_accesses.specs.Chunks.{numbers_cmp}
 use Rattle.cil_accesses.specs.Renumbered.{IsWithin}
-use Rattle.cil_keyed_lines.specs.declared.symbol_key.SymbolKey.{SymbolKey}
-use Rattle.cil_resolve.specs.Resolved.{meaning_in}
-use Rattle.cil_resolve.specs.declared.resolved.Resolved.{Resolved}
-use Rattle.cil_rule_reach.specs.Named.{atom_of}
 use Rattle.cil_rules.specs.Atoms.{atom_at, AreNumbered}
 use Rattle.cil_rules.specs.Rows as rows
 use Rattle.cil_rules.proofs.AtomLemmas.{atoms-ordered}
 use Rattle.cil_symbol_changes.specs.Numbered as numbered
 use Rattle.cil_symbol_changes.specs.Numbered.{access_by, listed, ArePresentNumbered, IsPresent}
-use Rattle.cil_counters.specs.Counted.{IsCounted}
-use Rattle.cil_counters.specs.SymbolRanks.{AreRanks}
 use Rattle.cil_counters.proofs.ChangedLemmas.{counted-atom, counted-known, counted-listed, table-key, IsKnown}
 
 -- what a listing has is counted, and is of a kind that it has

@@ -1,44 +1,15 @@
 -- What the counters of a policy tell by full names.
-use Rattle.std.proofs.Common.{◌≡◌, ℕ, suc, ◌+◌, ◌<◌, ◌==◌, ◌&&◌, ◌||◌, Bool, true, false, List, [], ◌∷◌, length, map, cond, count_by, bytes_eq, nat_lt, slice_get, slice_index_or, Option, None, Some, position, refl, sym, ap, ◌∙◌, inl, inr, arith, true≢false, zero-add}
-use Rattle.std.specs.List.{list_all, list_any}
+use Rattle.std.proofs.Common.{◌≡◌, ℕ, ◌+◌, ◌<◌, ◌==◌, ◌&&◌, ◌||◌, Bool, true, false, List, [], ◌∷◌, length, map, cond, count_by, bytes_eq, nat_lt, slice_get, slice_index_or, Option, None, Some, position, refl, sym, ap, ◌∙◌, inl, inr, true≢false, zero-add}
+use Rattle.cil_counters.proofs.Common.{list_all, list_any, cases_Bool, lt-ltb, ltb-true, list_any_at, sum_by-cons, get_or_from_slice_get, slice_get_within, bytes_eq-Decides, AreTheSame, has_name, aims, count_of, keeps_type, is_member, keeps_attribute, HasSoundSets, kind_index, at_itself, at_element, rule_kind_of, RuleKind, SymbolKey, is_rule_below, meaning_in, name_in, sets_in, Resolved, found-name, symbol-of, atom_of, is_named, name_at, and-first, and-second, atom_with, count_at, has_at, IsCounted}
 use Rattle.std.proofs.Math.Bool.{and-false}
-use Rattle.std.proofs.lemmas.Bool.{cases_Bool, lt-ltb, ltb-true}
-use Rattle.std.proofs.lemmas.List.Folds.{list_any_at}
-use Rattle.std.proofs.lemmas.List.Sums.{sum_by-cons}
-use Rattle.std.proofs.lemmas.Option.{get_or_from_slice_get, slice_get_within}
-use Rattle.std.proofs.lemmas.Slice.Eq.{bytes_eq-Decides}
-use Rattle.cil_specs.specs.Dependence.{AreTheSame}
-use Rattle.cil_specs.specs.Lookup.{has_name}
-use Rattle.cil_specs.specs.Meaning.{aims, count_of, gives, holds, keeps_type}
-use Rattle.cil_specs.specs.Members.{is_member, keeps_attribute, HasSoundSets}
+use Rattle.cil_specs.specs.Meaning.{gives, holds}
 use Rattle.cil_specs.specs.Rule as spec
-use Rattle.cil_specs.specs.Rule.{kind_index, at_itself, at_element}
-use Rattle.cil_text.specs.Image.{rule_kind_of}
-use Rattle.cil_text.specs.declared.statement.RuleKind.{RuleKind}
-use Rattle.cil_keyed_lines.specs.declared.symbol_key.SymbolKey.{SymbolKey}
-use Rattle.cil_resolve.specs.Below.{is_rule_below}
 use Rattle.cil_resolve.specs.Numbers.{rule_of}
-use Rattle.cil_resolve.specs.Resolved.{meaning_in}
-use Rattle.cil_resolve.specs.Sets.{name_in, sets_in}
 use Rattle.cil_resolve.specs.declared.numbered.NumberedRule.{NumberedRule}
-use Rattle.cil_resolve.specs.declared.resolved.Resolved.{Resolved}
 use Rattle.cil_member_updates.proofs.PlaceLemmas.{member-kept}
-use Rattle.cil_symbols.proofs.NameLemmas.{found-name}
-use Rattle.cil_member_updates.proofs.SymbolLemmas.{symbol-of}
-use Rattle.cil_rule_reach.specs.Named.{atom_of, is_named, name_at}
 use Rattle.cil_rule_reach.proofs.NamedLemmas.{is-below}
-use Rattle.cil_table_updates.proofs.GivenLemmas.{and-first, and-second}
-use Rattle.cil_counters.specs.Counted.{atom_with, count_at, has_at, IsCounted}
 use Rattle.cil_counters.proofs.CountedLemmas.{members-counted}
 use Rattle.cil_counters.proofs.SymbolRankLemmas.{stands-nowhere}
-
-none-counted : {X : Type 0} (test : X → Bool) (xs : List X) → ((i : ℕ) (x : X) → slice_get xs i ≡ Some x → test x ≡ false) → count_by test xs ≡ 0
-none-counted test [] none = refl
-none-counted {X = X} test (x ∷ xs) none =
-    sum_by-cons (λ y. cond (test y) 1 0) x xs ∙ ap (λ b. cond b 1 0 + count_by test xs) (none 0 x refl) ∙ zero-add (count_by test xs) ∙ none-counted test xs (λ i y at. none (i + 1) y (next i y at))
-  where
-    next : (i : ℕ) (y : X) → slice_get xs i ≡ Some y → slice_get (x ∷ xs) (i + 1) ≡ Some y
-    next i y at = ap (slice_get (x ∷ xs)) (let s : i + 1 ≡ suc i = omega arith in s) ∙ at
 
 left-false : (a b : Bool) → a ≡ false → (a && b) ≡ false
 left-false a b none = ap (λ x. x && b) none

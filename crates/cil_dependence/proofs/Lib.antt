@@ -1,3 +1,4 @@
+pub mod Common
 pub mod EdgeLemmas
 pub mod ItemsLemmas
 pub mod LeadsLemmas

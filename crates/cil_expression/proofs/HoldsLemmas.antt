@@ -1,11 +1,9 @@
 -- What an expression holds goes by the values of its leaves.
 use Rattle.std.proofs.Common.{◌≡◌, ℕ, Bool, false, not, ◌&&◌, ◌||◌, List, [], Contains, refl, ap, ◌∙◌}
 use Rattle.std.proofs.lemmas.List.Elements.{Contains-append_left, Contains-append_right}
-use Rattle.cil_specs.specs.Expr.{Expr, every, named, opposite, both, either, one_of, nothing, elements, leaves, map_leaves}
+use Rattle.cil_expression.proofs.Common.{Expr, every, named, opposite, both, either, one_of, nothing, elements, leaves, map_leaves, contains-first, holds_by}
 use Rattle.cil_specs.specs.Rule as spec
-use Rattle.cil_specs.proofs.NamesLemmas.{contains-first}
 use Rattle.cil_specs.specs.Sets.{differ, element_holds, expr_holds}
-use Rattle.cil_expression.specs.Holds.{holds_by}
 
 -- An expression with other leaves holds what it holds by the values of those.
 pub holds-mapped : {leaf other : Type 0} (f : leaf → other) (value : other → Bool) (e : Expr leaf) → holds_by value (map_leaves f e) ≡ holds_by (λ l. value (f l)) e

@@ -1,3 +1,4 @@
+pub mod Common
 pub mod EvaluationLemmas
 pub mod HoldsLemmas
 pub mod SameExprLemmas

@@ -2,11 +2,9 @@
 use Rattle.std.proofs.Common.{◌≡◌, Bool, true, false, ◌&&◌, List, [], ◌∷◌, Contains, length, ◌==◌, refl, sym, ap, ◌∙◌, subst, arith}
 use Rattle.std.proofs.Math.Dec.{eqb-suc-zero}
 use lib.Pointwise.{pointwise}
-use Rattle.cil_parse.specs.declared.row.SetNode.{SetNode}
+use Rattle.cil_expression.proofs.Common.{SetNode, contains-first, contains-other, all_same, same_node, AnswersPairs}
 use Rattle.cil_parse.specs.declared.row.SetNode.TheVariants as nodes
 use Rattle.cil_parse.specs.contracts.row.SetNodePartialEq.TheImpl as derived
-use Rattle.cil_specs.proofs.NamesLemmas.{contains-first, contains-other}
-use Rattle.cil_expression.specs.Same.{all_same, same_node, AnswersPairs}
 
 -- what is left of two lists decides whether they are the same
 pub GoesOn : {leaf : Type 0} → (leaf → leaf → Bool → Type 0) → List leaf → List leaf → List leaf → List leaf → Type 0

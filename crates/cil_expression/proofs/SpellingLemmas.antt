@@ -2,12 +2,10 @@
 use Rattle.std.proofs.Common.{◌≡◌, ℕ, zero, suc, ◌+◌, List, [], ◌∷◌, ◌++◌, length, map, refl, sym, ap, ◌∙◌, arith, append_assoc, append-nil}
 use Rattle.std.proofs.lemmas.List.{length-append}
 use Rattle.cil_specs.specs.Names.{Word}
-use Rattle.cil_specs.specs.Expr.{Expr, WordExpr, every, named, opposite, both, either, one_of, nothing, elements, leaves, map_leaves}
+use Rattle.cil_expression.proofs.Common.{Expr, WordExpr, every, named, opposite, both, either, one_of, nothing, elements, leaves, map_leaves, SetNode, with_one, with_two, first_or_nothing, exprs_of, expr_of, nodes_of, IsSpelt, IsWhole}
 use Rattle.cil_specs.proofs.MeansLemmas.{leaves-mapped}
 use Rattle.cil_parse.specs.Forms.{expr_nodes}
-use Rattle.cil_parse.specs.declared.row.SetNode.{SetNode}
 use Rattle.cil_parse.specs.declared.row.SetNode.TheVariants as nodes
-use Rattle.cil_expression.specs.Spelling.{with_one, with_two, first_or_nothing, exprs_of, expr_of, nodes_of, IsSpelt, IsWhole}
 
 -- the nodes of an expression in front of others spell it, and then what those spell
 Spells : {leaf : Type 0} → Expr leaf → Type 0
@@ -132,17 +130,3 @@ pub filled : {leaf : Type 0} (e : WordExpr) (names : List leaf) → length names
 filled e names long =
     let s = nodes-filled e names long in
     record { expr = s.expr; nodes_are = written-nodes e ∙ s.nodes_are; names_are = s.names_are }
-
--- A node of two operands in front of what spells two expressions spells their operation.
-pub two-whole : {leaf : Type 0} (node : SetNode) (op : Expr leaf → Expr leaf → Expr leaf) → ((x y : Expr leaf) → nodes_of (op x y) ≡ node ∷ (nodes_of x ++ nodes_of y))
-    → ((x y : Expr leaf) → leaves (op x y) ≡ leaves x ++ leaves y) → (first second : List SetNode) (names others : List leaf) (spelling : List SetNode) (all : List leaf)
-    → IsWhole first names → IsWhole second others → spelling ≡ node ∷ (first ++ second) → all ≡ names ++ others → IsWhole spelling all
-two-whole node op n l first second names others spelling all x y joined_nodes joined_names =
-    let a = expr_of first names in
-    let b = expr_of second others in
-    whole spelling all
-    (record {
-      expr = op a b;
-      nodes_are = joined_nodes ∙ (λ i. node ∷ (x.nodes_are i ++ y.nodes_are i)) ∙ sym (n a b);
-      names_are = joined_names ∙ (λ i. x.names_are i ++ y.names_are i) ∙ sym (l a b);
-    })

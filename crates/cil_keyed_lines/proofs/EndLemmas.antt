@@ -1,7 +1,7 @@
 -- Keys that are taken out with their lines, and the counters of the others.
 use Rattle.std.proofs.Common.{◌≡◌, ◌≢◌, ◌⊎◌, ℕ, ◌+◌, ◌-◌, ◌*◌, ◌%◌, ◌<◌, ◌≤◌, ◌==◌, Bool, true, false, cond, if◌then◌else◌, List, [], ◌∷◌, ◌++◌, length, get_or, set, take, position, slice_get, Option, None, Some, IfSome, bit_and, w64, refl, sym, ap, ◌∙◌, true≢false, inl, inr, arith, ◌^◌, eq-eqb, ◌||◌}
 use Rattle.std.specs.Int.{bit_not, bit_at}
-use Rattle.std.specs.List.{list_any, IsDistinct, swap_remove}
+use Rattle.cil_keyed_lines.proofs.Common.{list_any, IsDistinct, swap_remove, falls, has_line, hit_at, State, HasCount, AreLeft, lines_in, count_past, hit_nothing, hit_off, hit_on, SymbolKey, count_by, hit_of, is_key, with_key, AreAmong, AreCounted, AreHeld, AreKeyed, ArePaired}
 use Rattle.std.proofs.lemmas.Bool.{cases_eq, cases_lt, ne_eqb}
 use Rattle.std.proofs.lemmas.List.{get_or_default, length-append, length-set, length-take-le, get_or-take, get_or-set_same, get_or-set_other, get_or_at}
 use Rattle.std.proofs.lemmas.List.Folds.{list_any-append, list_any_at}
@@ -10,14 +10,9 @@ use Rattle.std.proofs.lemmas.Nat.{and_le_l}
 use Rattle.std.proofs.lemmas.Option.{none-some, slice_get-get_or}
 use Rattle.cil_lines.proofs.LineLemmas.{some_bit}
 use Rattle.cil_lines.specs.Limit.{CanLower}
-use Rattle.cil_recorded.specs.Log.{falls, has_line, hit_at}
 use Rattle.cil_recorded.specs.Recorded as recorded
-use Rattle.cil_recorded.specs.Recorded.{State, HasCount, AreLeft, lines_in}
 use Rattle.cil_recorded.specs.declared.step.Step.{Step}
-use Rattle.cil_recorded.proofs.LogLemmas.{count_past, hit_nothing, hit_off, hit_on}
 use Rattle.cil_recorded.proofs.PlaceLemmas.{untouched}
-use Rattle.cil_keyed_lines.specs.declared.symbol_key.SymbolKey.{SymbolKey}
-use Rattle.cil_keyed_lines.specs.Keyed.{count_by, hit_of, is_key, with_key, AreAmong, AreCounted, AreHeld, AreKeyed, ArePaired}
 use Rattle.cil_keyed_lines.proofs.KeyedLemmas.{count_absent, count_placed, count_raised, count_reached, count_same, count_shifted, key_placed, no_key, past_raised, past_shifted, placed_at, placed_within, listed_at, swap_of}
 
 -- ---- counters by key

@@ -1,7 +1,7 @@
 -- The counters of keys, by the places of their lines.
 use Rattle.std.proofs.Common.{zero, suc, ◌≡◌, ◌≢◌, ◌⊎◌, ℕ, ◌+◌, ◌/◌, ◌%◌, ◌^◌, ◌<◌, ◌≤◌, ◌==◌, ◌&&◌, Bool, true, false, cond, if◌then◌else◌, nat_lt, List, [], ◌∷◌, ◌++◌, length, get_or, position, slice_get, bit_and, w64, Option, None, Some, Result, Ok, Err, MatchOption, OnOk, OnErr, refl, sym, ap, ◌∙◌, true≢false, inl, inr, arith}
 use Rattle.std.specs.Int.{bit_not}
-use Rattle.std.specs.List.{list_any, position_or_len, IsDistinct}
+use Rattle.cil_keyed_lines.proofs.Common.{list_any, position_or_len, IsDistinct, hit_at, State, hit_in, hit_nothing, hit_off, same_counts, SymbolKey, Keyed, AreKeyed, IsLineOf, IsNoLine, NoneCounted, before_at, count_by, hit_of, is_key, is_kind, now_at, with_key}
 use Rattle.std.specs.Option.{option_map_or}
 use Rattle.std.proofs.lemmas.Bool.{cases_eq, cases_lt, eqb-true, eq-eqb, ltb-false, lt-ltb}
 use Rattle.std.proofs.lemmas.List.{length-append}
@@ -15,16 +15,11 @@ use Rattle.std.specs.Int.Bits.{and_self}
 use Rattle.std.proofs.lemmas.Nat.Bits.{bit_at_and, bit_at_not, bit_at-lt}
 use Rattle.cil_lines.proofs.StepLemmas.{hit-here, hit-there}
 use Rattle.cil_lines.specs.Line.{hit}
-use Rattle.cil_recorded.specs.Log.{hit_at}
 use Rattle.cil_recorded.specs.Recorded as recorded
-use Rattle.cil_recorded.specs.Recorded.{State, lines_in}
-use Rattle.cil_recorded.proofs.LogLemmas.{hit_in, hit_nothing, hit_off, same_counts}
 use Rattle.cil_text.specs.declared.statement.RuleKind.{RuleKind}
 use Rattle.cil_text.specs.declared.statement.RuleKind.TheVariants.{Allow, AuditAllow, DontAudit, NeverAllow}
 use Rattle.cil_text.specs.contracts.statement.RuleKindPartialEq.TheImpl.{eq-value as kind_eq}
 use Rattle.cil_keyed_lines.specs.contracts.symbol_key.SymbolKeyPartialEq.TheImpl.{eq-value as key_eq}
-use Rattle.cil_keyed_lines.specs.declared.symbol_key.SymbolKey.{SymbolKey}
-use Rattle.cil_keyed_lines.specs.Keyed.{Keyed, AreKeyed, IsLineOf, IsNoLine, NoneCounted, before_at, count_by, hit_of, is_key, is_kind, now_at, with_key}
 
 -- ---- keys
 
@@ -268,18 +263,6 @@ module _ (f g : ℕ → ℕ → ℕ) (keys : List SymbolKey) (key : SymbolKey) (
 module _ {E : Type 0} (keys : List SymbolKey) (old new : State) (key : SymbolKey) (place word gone come : ℕ) (at : position (is_key key) keys ≡ Some place) (keyed : AreKeyed keys old)
     (r : Result (Unit {0}) E) (shifted : OnOk r ((l t : ℕ) → recorded.count_now new l t + hit_at place word gone l t ≡ recorded.count_now old l t + hit_at place word come l t))
     (kept : OnErr r ((l t : ℕ) → recorded.count_now new l t ≡ recorded.count_now old l t)) where
-  pub keyed_shifted : lines_in new ≡ lines_in old → ((l t : ℕ) → recorded.count_before new l t ≡ recorded.count_before old l t) → AreKeyed keys new
-  keyed_shifted len before = record {
-    distinct = keyed.distinct;
-    within = omega (arith, len, keyed.within);
-    now = by r shifted kept;
-    before = λ l t behind. before l t ∙ keyed.before l t behind;
-  }
-    where
-      by : (q : Result (Unit {0}) E) → OnOk q ((l t : ℕ) → recorded.count_now new l t + hit_at place word gone l t ≡ recorded.count_now old l t + hit_at place word come l t)
-          → OnErr q ((l t : ℕ) → recorded.count_now new l t ≡ recorded.count_now old l t) → (l t : ℕ) → length keys ≤ l → recorded.count_now new l t ≡ 0
-      by (Ok x) ok err l t behind = past_shifted (recorded.count_now old) (recorded.count_now new) keys key place word gone come at keyed.now ok l t behind
-      by (Err e) ok err l t behind = err l t ∙ keyed.now l t behind
 
 -- ---- the targets that go and those that come
 

@@ -1,10 +1,6 @@
 -- Entries of a digit, in the order of their words.
 use Rattle.std.proofs.Common.{zero, suc, ◌≡◌, ◌≢◌, ℕ, ◌+◌, ◌-◌, ◌<◌, ◌≤◌, ◌==◌, List, [], ◌∷◌, length, get_or, take, set, ltb, false, refl, sym, ap, subst, ◌∙◌, arith, eq-eqb, if◌then◌else◌, inl, inr}
-use Rattle.std.proofs.lemmas.Bool.{cases_eq, ne_eqb, le-ltb}
-use Rattle.std.proofs.lemmas.List.{get_or-set_same, get_or-set_other}
-use Rattle.std.specs.List.{insert}
-use Rattle.cil_lines.specs.declared.digit.Entry.{Entry}
-use Rattle.cil_lines.specs.Digit.{bits_in, Rises, HasEntry, IsEntry, IsGap}
+use Rattle.cil_lines.proofs.Common.{cases_eq, ne_eqb, le-ltb, get_or-set_same, get_or-set_other, insert, Entry, bits_in, Rises, HasEntry, IsEntry, IsGap}
 
 abbrev entry : ℕ → ℕ → Entry
 entry w b = record { word = w; bits = b }

@@ -1,16 +1,8 @@
 -- Places of words without bits, which are given up.
-use Rattle.std.proofs.Common.{zero, suc, ◌≡◌, ◌≢◌, ℕ, ◌+◌, ◌-◌, ◌*◌, ◌<◌, ◌≤◌, ◌==◌, ltb, min, List, [], ◌∷◌, length, get_or, set, take, refl, sym, ap, ◌∙◌, arith, if◌then◌else◌, inl, inr}
-use Rattle.std.proofs.lemmas.Bool.{cases_eq, cases_lt}
-use Rattle.std.proofs.lemmas.List.{get_or-take, length-take-le}
-use Rattle.std.proofs.lemmas.Nat.Bits.{bit_at-zero, same_from_bits}
-use Rattle.std.specs.Int.{bit_at}
-use Rattle.std.specs.List.{remove}
-use Rattle.cil_lines.specs.declared.digit.Entry.{Entry}
-use Rattle.cil_lines.specs.Digit.{Words, bits_in, bits_of, Rises, HasEntry, HasPlace, IsEntry}
-use Rattle.cil_lines.specs.Limit.{limit, limit_of, AreBelow}
-use Rattle.cil_lines.specs.Line.{Counters, value}
+use Rattle.std.proofs.Common.{zero, suc, ◌≡◌, ◌≢◌, ℕ, ◌+◌, ◌-◌, ◌<◌, ◌≤◌, ◌==◌, ltb, min, List, [], ◌∷◌, length, get_or, take, refl, sym, ap, ◌∙◌, arith, if◌then◌else◌, inl, inr}
+use Rattle.cil_lines.proofs.Common.{cases_eq, cases_lt, get_or-take, length-take-le, bit_at-zero, same_from_bits, bit_at, remove, Entry, Words, bits_in, bits_of, Rises, HasEntry, HasPlace, IsEntry, limit, limit_of, AreBelow, value}
 use Rattle.cil_lines.proofs.DigitLemmas.{dense_is, sparse_is}
-use Rattle.cil_lines.proofs.EntryLemmas.{bits-here, bits-there, Rises-from}
+use Rattle.cil_lines.proofs.EntryLemmas.{bits-there, Rises-from}
 use Rattle.cil_lines.proofs.PlaceLemmas.{limit-more, limit-some}
 
 -- ---- entries

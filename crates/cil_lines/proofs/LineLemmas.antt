@@ -1,11 +1,7 @@
 -- Counters by the digits of a line.
 use Rattle.std.proofs.Common.{zero, suc, ◌≡◌, ◌≢◌, ℕ, ◌+◌, ◌-◌, ◌*◌, ◌/◌, ◌%◌, ◌^◌, ◌<◌, ◌≤◌, List, [], ◌∷◌, ◌++◌, length, get_or, take, drop, set, min, refl, sym, ap, subst, ◌∙◌, arith, eq-eqb, if◌then◌else◌, bit_xor, bit_and, bit_or, inl, inr, pow-suc, Option, Some, None, Result, Ok, Err, OnErr}
-use Rattle.std.proofs.lemmas.Bool.{cases_eq, cases_lt, ne_eqb}
-use Rattle.std.proofs.lemmas.Nat.Bits.{bit_at_lowest, bit_at-suc, bit_at_xor, bit_at_and, bit_at_or, bit_at-lt, bit_at-zero, shr_and_one}
-use Rattle.std.specs.Int.{bit_at}
+use Rattle.cil_lines.proofs.Common.{cases_eq, cases_lt, ne_eqb, bit_at_lowest, bit_at-suc, bit_at_xor, bit_at_and, bit_at_or, bit_at-lt, bit_at-zero, shr_and_one, bit_at, Words, bits_of, HasPlace, IsNext, Counters, value, total, count_of, hit, HasRoom, IsPresence}
 use Rattle.std.specs.Int.Bits.{and_zero_r}
-use Rattle.cil_lines.specs.Digit.{Words, bits_of, HasPlace, IsNext}
-use Rattle.cil_lines.specs.Line.{Counters, value, total, count_of, hit, HasRoom, IsPresence}
 
 -- ---- one digit of a list changes
 
@@ -61,12 +57,6 @@ room-next (x ∷ ds) (suc i) w c d within some room = room-next ds i w c d (omeg
 pub room-none : (ds rest : List Words) (w : ℕ) → HasRoom rest w 0 → HasRoom (ds ++ rest) w 0
 room-none [] rest w room = room
 room-none (d ∷ ds) rest w room = inl refl
-
-pub room-end : (ds : List Words) (i w c : ℕ) → length ds ≤ i → HasRoom (drop i ds) w c → c ≡ 0
-room-end [] zero w c past room = room
-room-end [] (suc i) w c past room = room
-room-end (d ∷ ds) zero w c past room = absurd (omega arith)
-room-end (d ∷ ds) (suc i) w c past room = room-end ds i w c (omega arith) room
 
 -- room for a carry from one more digit on
 pub room-more : (ds rest : List Words) (i w c mask : ℕ) (e : Words) → i < length ds → HasPlace e w

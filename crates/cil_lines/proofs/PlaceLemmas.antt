@@ -1,11 +1,7 @@
 -- Places that a digit keeps, and the limits of counters by places.
 use Rattle.std.proofs.Common.{zero, suc, ◌≡◌, ℕ, ◌+◌, ◌*◌, ◌<◌, ◌≤◌, true, false, List, [], ◌∷◌, ◌++◌, length, get_or, set, refl, sym, ap, ◌∙◌, arith, eq-eqb, if◌then◌else◌, inl, inr}
-use Rattle.std.proofs.lemmas.Bool.{cases_eq, cases_lt, cases_Bool, ne_eqb, lt-ltb, le-ltb}
+use Rattle.cil_lines.proofs.Common.{cases_eq, cases_lt, cases_Bool, ne_eqb, lt-ltb, le-ltb, insert, Entry, Words, Rises, HasEntry, HasPlace, has_entry, has_place, limit}
 use Rattle.std.proofs.lemmas.List.{length-set}
-use Rattle.std.specs.List.{insert}
-use Rattle.cil_lines.specs.declared.digit.Entry.{Entry}
-use Rattle.cil_lines.specs.Digit.{Words, Rises, HasEntry, HasPlace}
-use Rattle.cil_lines.specs.Limit.{has_entry, has_place, limit}
 
 abbrev entry : ℕ → ℕ → Entry
 entry w b = record { word = w; bits = b }

@@ -1,10 +1,7 @@
 -- What a search by words finds among entries.
 use Rattle.std.proofs.Common.{◌≡◌, ◌≢◌, ℕ, ◌-◌, ◌<◌, ◌≤◌, List, length, get_or, ltb, max, true, false, ap, ◌∙◌, arith, inl, inr}
-use Rattle.std.proofs.lemmas.Bool.{cases_eq, ltb-true, ltb-false}
-use Rattle.std.proofs.lemmas.List.{get_or_default}
+use Rattle.cil_lines.proofs.Common.{cases_eq, ltb-true, ltb-false, get_or_default, Entry, bits_in, Rises, IsEntry, IsGap, IsLast}
 use Rattle.std.specs.List.Sorted.{IsPartitionPoint, IsNonDecreasingBy}
-use Rattle.cil_lines.specs.declared.digit.Entry.{Entry}
-use Rattle.cil_lines.specs.Digit.{bits_in, Rises, IsEntry, IsGap, IsLast}
 use Rattle.cil_lines.proofs.EntryLemmas.{Rises-strictly, Rises-last, bits_in-gap}
 
 -- the point where words are no longer below one
@@ -88,6 +85,3 @@ last-entry n m es w last d r some is = record {
   this = omega (arith, is);
   below = λ k less all. let lower = all (length es - 1) d (omega arith) in omega (arith, lower, is);
 }
-
-pub last-this : (es : List Entry) (w : ℕ) → length es ≡ 0 → IsLast es w w
-last-this es w none = record { all = λ k d upto. absurd (omega (arith, none)); this = omega arith; below = λ m less all. less }

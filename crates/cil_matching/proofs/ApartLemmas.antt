@@ -1,16 +1,7 @@
 -- Set statements and rules of a resolved policy stand at spots of their own.
 use Rattle.std.proofs.Common.{◌≡◌, ◌∙◌, ℕ, zero, suc, ◌<◌, inl, inr, List, [], ◌∷◌, map, slice_get, AllPairs, Some, refl, sym, ap}
-use Rattle.std.specs.List.Sorted.{IsStrictlySortedBy}
-use Rattle.std.specs.declared.cmp.Ordering.TheVariants.{Less, Equal}
-use Rattle.std.proofs.lemmas.Bool.{cases_order}
-use Rattle.std.proofs.lemmas.Cmp.{tied_itself}
-use Rattle.std.proofs.lemmas.Option.{none-some, same_Some, slice_get_within, get_or_from_slice_get}
-use Rattle.cil_specs.specs.Rule.{Rule, SetStatement, IsSameRule, IsSameSet}
-use Rattle.cil_specs.specs.Violations.{rule_cmp}
-use Rattle.cil_specs.proofs.ViolationLemmas.{rule_total}
-use Rattle.cil_check.proofs.PositionLemmas.{all-at}
+use Rattle.cil_matching.proofs.Common.{IsStrictlySortedBy, Less, Equal, cases_order, tied_itself, none-some, same_Some, slice_get_within, get_or_from_slice_get, Rule, SetStatement, IsSameRule, IsSameSet, rule_cmp, rule_total, all-at, Spot, spot_cmp, set_spot, rule_spot, AreApart}
 use Rattle.cil_resolve.specs.Apart.{StandApart}
-use Rattle.cil_matching.specs.Spot.{Spot, spot_cmp, set_spot, rule_spot, AreApart}
 use Rattle.cil_matching.proofs.MatchedLemmas.{from-mapped}
 
 -- Set statements that are the same stand at one spot.

@@ -1,12 +1,7 @@
 -- Rules say the same by their numbers where they do by their names.
 use Rattle.std.proofs.Common.{◌≡◌, ◌∙◌, ◌==◌, ◌↔◌, ℕ, zero, suc, ◌<◌, Bool, true, false, true≢false, ◌&&◌, nat_lt, List, [], ◌∷◌, length, map, slice_get, slice_index_or, Option, None, Some, refl, sym, ap, arith}
-use Rattle.std.specs.List.{list_all}
-use Rattle.std.proofs.lemmas.Bool.{and_parts, eqb-true, eq-eqb, ltb-true}
-use Rattle.std.proofs.lemmas.List.{length-map}
-use Rattle.std.proofs.lemmas.Option.{slice_get-get_or, get_or_from_slice_get}
+use Rattle.cil_matching.proofs.Common.{list_all, and_parts, eqb-true, eq-eqb, ltb-true, length-map, slice_get-get_or, get_or_from_slice_get, a_type, an_attribute, ResolvedTarget, at_itself, at_element, RuleContent, content_of, kind_index, same-kind, is_that, is_number_of, is_element_by, is_target_by, ArePermissionsBy, SayTheSame, AreNumbers}
 use Rattle.cil_specs.specs.Rule as spec
-use Rattle.cil_specs.specs.Rule.{a_type, an_attribute, ResolvedTarget, at_itself, at_element, RuleContent, content_of, kind_index}
-use Rattle.cil_specs.proofs.ReportLemmas.{same-kind}
 use Rattle.cil_specs.proofs.Runs.{first_true, second_true, both_true}
 use Rattle.cil_text.specs.Image.{rule_kind_of}
 use Rattle.cil_expression.specs.declared.expression.Element.{Element}
@@ -16,8 +11,6 @@ use Rattle.cil_resolve.specs.Numbers.{element_of, resolved_target_of, rule_of}
 use Rattle.cil_resolve.specs.declared.numbered.NumberedRule.{NumberedRule}
 use Rattle.cil_resolve.specs.declared.numbered.ResolvedTarget as numbered
 use Rattle.cil_resolve.specs.declared.numbered.ResolvedTarget.TheVariants as aims
-use Rattle.cil_matching.specs.Content.{is_that, is_number_of, is_element_by, is_target_by, ArePermissionsBy, SayTheSame}
-use Rattle.cil_matching.specs.Matching.{AreNumbers}
 
 that-is : (o : Option (Option ℕ)) (b : ℕ) → is_that o b ≡ true → o ≡ Some (Some b)
 that-is None b e = absurd (true≢false (sym e))

@@ -1,11 +1,7 @@
 -- Places that a walk found, and those that are filled in behind it.
 use Rattle.std.proofs.Common.{◌≡◌, ◌∙◌, ℕ, ◌+◌, ◌<◌, ◌≤◌, inl, inr, List, length, map, set, slice_get, Option, None, Some, sym, ap, subst, arith}
-use Rattle.std.proofs.lemmas.Bool.{cases_eq}
-use Rattle.std.proofs.lemmas.List.{length-set}
-use Rattle.std.proofs.lemmas.Option.{none-some, same_Some}
+use Rattle.cil_matching.proofs.Common.{cases_eq, length-set, none-some, same_Some, AreSameAt, ArePlaces, AreRight, Spot, AreApart}
 use Rattle.cil_optionals.proofs.ListLemmas.{get-set_same, get-set_other}
-use Rattle.cil_matching.specs.Matching.{AreSameAt, ArePlaces, AreRight}
-use Rattle.cil_matching.specs.Spot.{Spot, AreApart}
 use Rattle.cil_matching.proofs.MatchedLemmas.{spot-here, spot-there, to-mapped}
 
 -- So many places are filled in where the first ones had none.
@@ -15,9 +11,6 @@ pub record AreFilled {S : Type 0} (IsSame : S → S → Type 0) (old new : List 
   pub filled : (i j : ℕ) → i < count → AreSameAt IsSame old new i j → slice_get places i ≡ Some (Some j)
 
 module _ {S : Type 0} (IsSame : S → S → Type 0) (old new : List S) where
-  pub filled-none : (places : List (Option ℕ)) → AreRight IsSame old new (length old) places → AreFilled IsSame old new 0 places places
-  filled-none places are = record { are = are; kept = λ i j at. at; filled = λ i j low same. absurd (omega (arith, low)) }
-
   pub filled-all : (count : ℕ) (first places : List (Option ℕ)) → length old ≤ count → AreFilled IsSame old new count first places → ArePlaces IsSame old new (length old) places
   filled-all count first places all filled = record {
     long = filled.are.long;

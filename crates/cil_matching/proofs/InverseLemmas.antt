@@ -1,26 +1,7 @@
 -- Places the other way round.
-use Rattle.std.proofs.Common.{◌≡◌, ◌∙◌, ◌↔◌, ℕ, ◌+◌, ◌<◌, ◌≤◌, inl, inr, List, length, replicate, set, get_or, slice_get, Option, None, Some, refl, sym, ap, arith}
-use Rattle.std.proofs.lemmas.Bool.{cases_eq, cases_lt}
-use Rattle.std.proofs.lemmas.List.{length-replicate, length-set, get_or-replicate}
-use Rattle.std.proofs.lemmas.Option.{none-some, same_Some, slice_get_within, slice_get-get_or, get_or_from_slice_get}
+use Rattle.std.proofs.Common.{◌≡◌, ◌∙◌, ◌↔◌, ℕ, ◌+◌, ◌<◌, ◌≤◌, inl, inr, List, length, set, get_or, slice_get, Option, None, Some, refl, sym, ap, arith}
+use Rattle.cil_matching.proofs.Common.{cases_eq, cases_lt, length-set, none-some, same_Some, slice_get_within, slice_get-get_or, noted, IsInverse}
 use Rattle.cil_optionals.proofs.ListLemmas.{get-set_same, get-set_other}
-use Rattle.cil_matching.specs.Inverse.{noted, IsInverse}
-
--- no number stands anywhere
-pub inverse-none : (count : ℕ) (places : List (Option ℕ)) → IsInverse 0 places (replicate count None)
-inverse-none count places = record { to = λ i j at. absurd (none i j at); from = λ i j low at. absurd (omega (arith, low)) }
-  where
-    the-none : Option ℕ
-    the-none = None
-
-    none : (i j : ℕ) → slice_get (replicate count the-none) j ≡ Some (Some i) → ⊥
-    none i j at =
-        let within = slice_get_within (replicate count the-none) j (Some i) at in
-        let long = length-replicate count the-none in
-        let low : j < count = omega (arith, within, long) in
-        let here = get_or_from_slice_get (replicate count the-none) j (Some i) None at in
-        let there = get_or-replicate count j the-none None low in
-        cc (here, there)
 
 pub noted-length : (back : List (Option ℕ)) (place : Option ℕ) (i : ℕ) → length (noted back place i) ≡ length back
 noted-length back None i = refl

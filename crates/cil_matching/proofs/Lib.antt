@@ -1,3 +1,4 @@
+pub mod Common
 pub mod SpotLemmas
 pub mod InverseLemmas
 pub mod MatchedLemmas

@@ -1,12 +1,7 @@
 -- Statements that stand in two lists.
 use Rattle.std.proofs.Common.{◌≡◌, ◌∙◌, ◌↔◌, ℕ, zero, suc, ◌+◌, ◌<◌, ◌≤◌, inl, inr, Bool, true, false, true≢false, List, ◌∷◌, [], ◌++◌, length, map, position, slice_get, Option, None, Some, option_map, IsTrue, refl, sym, ap, subst, arith}
-use Rattle.std.proofs.lemmas.Bool.{cases_lt}
-use Rattle.std.proofs.lemmas.List.{length-append}
-use Rattle.std.proofs.lemmas.Option.{none-some, same_Some, slice_get_within, slice_get-map}
-use Rattle.cil_check.proofs.PositionLemmas.{get-append, get-last}
+use Rattle.cil_matching.proofs.Common.{cases_lt, length-append, none-some, same_Some, slice_get_within, slice_get-map, get-append, get-last, AreSameAt, AreMatched, ArePlaces, AreRight, Spot, same_spot, AreApart}
 use Rattle.cil_optionals.proofs.DependentLemmas.{got-push}
-use Rattle.cil_matching.specs.Matching.{AreSameAt, AreMatched, ArePlaces, AreRight}
-use Rattle.cil_matching.specs.Spot.{Spot, same_spot, AreApart}
 use Rattle.cil_matching.proofs.SpotLemmas.{found-spot, stands-found}
 
 -- what stands in a list stands where its image does
@@ -27,9 +22,6 @@ mapped-there f (x ∷ xs) zero low = (f x, refl)
 mapped-there f (x ∷ xs) (suc i) low = mapped-there f xs i (omega (arith, low))
 
 module _ {S : Type 0} (IsSame : S → S → Type 0) (old new : List S) where
-  pub places-none : (ahead : List (Option ℕ)) → ahead ≡ [] → ArePlaces IsSame old new 0 ahead
-  places-none ahead none = record { long = ap length none; exact = λ i j low. absurd (omega (arith, low)) }
-
   pub places-next : (count : ℕ) (ahead next : List (Option ℕ)) (place : Option ℕ) → ((j : ℕ) → (place ≡ Some j) ↔ AreSameAt IsSame old new count j) → next ≡ ahead ++ place ∷ []
       → ArePlaces IsSame old new count ahead → ArePlaces IsSame old new (count + 1) next
   places-next count ahead next place is pushed are = subst (ArePlaces IsSame old new (count + 1)) (sym pushed) (record {

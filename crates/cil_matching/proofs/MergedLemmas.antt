@@ -1,14 +1,9 @@
 -- Two lists in one strict order, gone along side by side.
 use Rattle.std.proofs.Common.{◌≡◌, ◌∙◌, ℕ, ◌+◌, ◌<◌, ◌≤◌, inl, inr, List, length, get_or, slice_get, Some, sym, ap, arith}
 use Rattle.std.specs.Cmp.{IsTotalOrder}
-use Rattle.std.specs.List.Sorted.{IsStrictlySortedBy}
+use Rattle.cil_matching.proofs.Common.{IsStrictlySortedBy, Ordering, Less, Equal, Greater, cases_lt, cases_order, same_Some, slice_get_within, slice_get-get_or, get_or_from_slice_get, AreBefore, IsFoundAt, IsMissedAt}
 use Rattle.std.specs.Ordering.{ordering_reverse}
-use Rattle.std.specs.declared.cmp.Ordering.{Ordering}
-use Rattle.std.specs.declared.cmp.Ordering.TheVariants.{Less, Equal, Greater}
-use Rattle.std.proofs.lemmas.Bool.{cases_lt, cases_order}
 use Rattle.std.proofs.lemmas.Map.Keys.{Less-from_sorted}
-use Rattle.std.proofs.lemmas.Option.{same_Some, slice_get_within, slice_get-get_or, get_or_from_slice_get}
-use Rattle.cil_matching.specs.Merged.{AreBefore, IsFoundAt, IsMissedAt}
 
 never-equal : Less ≡ Equal → ⊥
 never-equal e = cc
@@ -27,9 +22,6 @@ in-order R xs i j x y sorted low here there =
     (λ k. R (sym one k) (sym two k)) ∙ Less-from_sorted R xs i j x sorted low (slice_get_within xs j y there)
 
 module _ {X : Type 0} (R : X → X → Ordering) (total : IsTotalOrder R) (old new : List X) where
-  pub before-none : (i : ℕ) → AreBefore R old new i 0
-  before-none i k x y low here there = absurd (omega (arith, low))
-
   -- one more
   pub before-more : (i j : ℕ) (x y : X) → slice_get old i ≡ Some x → slice_get new j ≡ Some y → R y x ≡ Less → AreBefore R old new i j → AreBefore R old new i (j + 1)
   before-more i j x y here there less before k x' y' low here' there' = elim (cases_lt k j) [
@@ -82,17 +74,6 @@ module _ {X : Type 0} (R : X → X → Ordering) (total : IsTotalOrder R) (old n
       let y = get_or new j z in
       let there : slice_get new j ≡ Some y = slice_get-get_or new j z found.within in
       alike-place i j k x y z sorted found.before here there (λ less. never-equal (sym less ∙ found.alike x y here there)) at alike
-
-  -- what a comparison finds
-  pub found-at : (i j : ℕ) (x y : X) → slice_get old i ≡ Some x → slice_get new j ≡ Some y → R y x ≡ Equal → AreBefore R old new i j → IsFoundAt R old new i j
-  found-at i j x y here there alike before = record {
-    within = slice_get_within new j y there;
-    before = before;
-    alike = λ x' y' here' there'.
-        let old_one = same_Some x x' (sym here ∙ here') in
-        let new_one = same_Some y y' (sym there ∙ there') in
-        (λ n. R (sym new_one n) (sym old_one n)) ∙ alike;
-  }
 
   pub missed-at : (i j : ℕ) (x y : X) → IsStrictlySortedBy R new → slice_get old i ≡ Some x → slice_get new j ≡ Some y → R y x ≡ Greater → AreBefore R old new i j → IsMissedAt R old new i j
   missed-at i j x y sorted here there more before = record {

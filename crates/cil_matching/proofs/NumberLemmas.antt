@@ -1,14 +1,7 @@
 -- The numbers of one policy's names in another one.
 use Rattle.std.proofs.Common.{◌≡◌, ◌∙◌, ◌↔◌, ℕ, ◌<◌, List, length, slice_get, slice_index_or, [], Option, None, Some, sym, ap, subst}
-use Rattle.std.specs.List.Sorted.{IsStrictlySortedBy}
-use Rattle.std.specs.declared.cmp.Ordering.TheVariants.{Equal}
-use Rattle.std.proofs.lemmas.Cmp.{tied_itself}
+use Rattle.cil_matching.proofs.Common.{IsStrictlySortedBy, Equal, tied_itself, none-some, same_Some, slice_get-get_or, name_cmp, name_total, AreSameAt, IsFoundAt, IsMissedAt}
 use Rattle.std.proofs.lemmas.Map.Lookups.{exact_bytes}
-use Rattle.std.proofs.lemmas.Option.{none-some, same_Some, slice_get-get_or}
-use Rattle.cil_specs.specs.Report.{name_cmp}
-use Rattle.cil_specs.proofs.ReportLemmas.{name_total}
-use Rattle.cil_matching.specs.Matching.{AreSameAt}
-use Rattle.cil_matching.specs.Merged.{IsFoundAt, IsMissedAt}
 use Rattle.cil_matching.proofs.MergedLemmas.{found-place}
 
 one-alike : (x y : List ℕ) → x ≡ y → name_cmp y x ≡ Equal

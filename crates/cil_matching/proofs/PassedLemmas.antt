@@ -1,26 +1,12 @@
 -- Places that a walk passed over, found by the spots that stand there.
 use Rattle.std.proofs.Common.{◌≡◌, ◌∙◌, ℕ, ◌+◌, inl, inr, false, true≢false, List, [], ◌∷◌, ◌++◌, length, get_or, position, slice_get, Option, None, Some, is_some, refl, sym, ap, arith}
-use Rattle.std.specs.List.{list_any}
+use Rattle.cil_matching.proofs.Common.{list_any, cases_lt, length-append, slice_get_within, slice_get-get_or, get-append, get-last, ArePassed, Spot, same_spot, AreApart}
 use Rattle.std.specs.Option.{option_and_then}
-use Rattle.std.proofs.lemmas.Bool.{cases_lt}
-use Rattle.std.proofs.lemmas.List.{length-append}
-use Rattle.std.proofs.lemmas.Option.{none-some, slice_get_within, slice_get-get_or}
 use Rattle.cil_bind.proofs.PositionLemmas.{any-position}
-use Rattle.cil_check.proofs.PositionLemmas.{get-append, get-last}
 use Rattle.cil_optionals.proofs.DependentLemmas.{got-push}
-use Rattle.cil_matching.specs.Passed.{ArePassed}
-use Rattle.cil_matching.specs.Spot.{Spot, same_spot, AreApart}
 use Rattle.cil_matching.proofs.SpotLemmas.{any-stands, found-spot, stands-found}
 
 module _ (spots : List Spot) (found : List (Option ℕ)) where
-  pub passed-none : (passed : List ℕ) (known : List Spot) → passed ≡ [] → known ≡ [] → ArePassed spots found 0 passed known
-  passed-none passed known one two = record {
-    long = ap length two ∙ sym (ap length one);
-    below = λ k j at. absurd (none-some j (ap (λ l. slice_get l k) (sym one) ∙ at));
-    there = λ k j at. absurd (none-some j (ap (λ l. slice_get l k) (sym one) ∙ at));
-    all = λ j low. absurd (omega (arith, low));
-  }
-
   -- one more that was found
   pub passed-found : (n i : ℕ) (passed : List ℕ) (known : List Spot) → slice_get found i ≡ Some (Some n) → ArePassed spots found n passed known → ArePassed spots found (n + 1) passed known
   passed-found n i passed known at are = record {

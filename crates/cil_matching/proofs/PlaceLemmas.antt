@@ -1,24 +1,11 @@
 -- The places of one policy's rules in another one.
 use Rattle.std.proofs.Common.{◌≡◌, ◌∙◌, ◌↔◌, ℕ, ◌<◌, Bool, true, false, true≢false, List, [], ◌∷◌, length, map, get_or, slice_get, Option, None, Some, IsTrue, sym, ap, subst, arith}
-use Rattle.std.specs.List.Sorted.{IsStrictlySortedBy}
-use Rattle.std.specs.declared.cmp.Ordering.{Ordering}
-use Rattle.std.specs.declared.cmp.Ordering.TheVariants.{Equal}
-use Rattle.std.proofs.lemmas.Cmp.{tied_itself}
-use Rattle.std.proofs.lemmas.List.{length-map}
-use Rattle.std.proofs.lemmas.Option.{none-some, same_Some, slice_get-get_or}
-use Rattle.cil_specs.specs.Rule.{Rule, IsSameRule, content_of}
-use Rattle.cil_specs.specs.Violations.{rule_cmp}
-use Rattle.cil_specs.proofs.ViolationLemmas.{rule_total}
+use Rattle.cil_matching.proofs.Common.{IsStrictlySortedBy, Ordering, Equal, tied_itself, length-map, none-some, same_Some, slice_get-get_or, Rule, IsSameRule, content_of, rule_cmp, rule_total, meaning_in, SayTheSame, AreNumbers, AreSameAt, IsFoundAt, IsMissedAt, Spot, spot_cmp, rule_spot}
 use Rattle.cil_optionals.proofs.GreatestLemmas.{all-got}
 use Rattle.cil_resolve.specs.Below.{is_rule_below}
 use Rattle.cil_resolve.specs.Numbers.{rule_of}
-use Rattle.cil_resolve.specs.Resolved.{meaning_in}
 use Rattle.cil_resolve.specs.declared.numbered.NumberedRule.{NumberedRule}
 use Rattle.cil_resolve.specs.declared.resolved.Resolved.{Resolved}
-use Rattle.cil_matching.specs.Content.{SayTheSame}
-use Rattle.cil_matching.specs.Matching.{AreNumbers, AreSameAt}
-use Rattle.cil_matching.specs.Merged.{IsFoundAt, IsMissedAt}
-use Rattle.cil_matching.specs.Spot.{Spot, spot_cmp, rule_spot}
 use Rattle.cil_matching.proofs.ApartLemmas.{rules-agree}
 use Rattle.cil_matching.proofs.ContentLemmas.{content-tells, is-below}
 use Rattle.cil_matching.proofs.MatchedLemmas.{to-mapped}

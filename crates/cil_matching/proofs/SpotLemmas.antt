@@ -1,21 +1,14 @@
 -- Spots, each found among others.
 use Rattle.std.proofs.Common.{◌≡◌, ◌∙◌, ℕ, ◌==◌, ◌||◌, true, false, true≢false, List, [], ◌∷◌, ◌++◌, map, cond, position, get_or, slice_get, Option, None, Some, is_some, option_map, bytes_eq, suc, refl, sym, ap, if◌then◌else◌}
-use Rattle.std.specs.List.{list_any}
-use Rattle.std.proofs.lemmas.Bool.{eqb-true, eq-eqb}
-use Rattle.std.proofs.lemmas.List.{map-append}
+use Rattle.cil_matching.proofs.Common.{list_any, eqb-true, eq-eqb, map-append, slice_get_within, slice_get-get_or, get_or_from_slice_get, Equal, name_cmp, then_equal, Spot, spot_of, same_spot, spot_cmp, AreApart}
 use Rattle.std.proofs.lemmas.List.Folds.{list_any_at}
 use Rattle.std.proofs.lemmas.List.Quantifiers.{position-Some}
-use Rattle.std.proofs.lemmas.Option.{slice_get_within, slice_get-get_or, get_or_from_slice_get}
 use Rattle.std.proofs.lemmas.Slice.Eq.{bytes_eq-Decides}
 use Rattle.std.specs.Ordering.{nat_cmp}
-use Rattle.std.specs.declared.cmp.Ordering.TheVariants.{Equal}
 use Rattle.std.proofs.lemmas.Map.Lookups.{exact_bytes, exact_unsigned}
-use Rattle.cil_specs.specs.Report.{name_cmp}
-use Rattle.cil_specs.proofs.ReportLemmas.{then_equal}
 use Rattle.indexmap.specs.IndexSet.{insert_key}
 use Rattle.cil_specs.proofs.Runs.{first_true, second_true, both_true}
 use Rattle.cil_bind.proofs.PositionLemmas.{any-position, position-cons}
-use Rattle.cil_matching.specs.Spot.{Spot, spot_of, same_spot, spot_cmp, AreApart}
 use Rattle.cil_matching.specs.declared.positions.Position.{Position}
 use Rattle.cil_matching.specs.contracts.positions.PositionPartialEq.TheImpl as position_eq
 
@@ -33,10 +26,6 @@ tied-spots p q tied =
 
 spot-itself : (p : Spot) → same_spot p p ≡ true
 spot-itself p = both_true (bytes_eq p.module_name p.module_name) (p.offset == p.offset) ((bytes_eq-Decides p.module_name p.module_name).1 refl) (eq-eqb p.offset p.offset refl)
-
--- the derived == of positions
-pub derived-position : (p : Position) → (position_eq.eq-value).it p ≡ (λ q. same_spot (spot_of p) (spot_of q))
-derived-position p = refl
 
 -- a position's place is that of its spot
 pub position-spots : (p : Position) (ks : List Position) → position (λ q. same_spot (spot_of p) (spot_of q)) ks ≡ position (same_spot (spot_of p)) (map spot_of ks)

@@ -1,15 +1,7 @@
 -- The bits of who was a member, when counters move.
-use Rattle.std.proofs.Common.{◌≡◌, ◌≢◌, ℕ, ◌+◌, ◌*◌, ◌/◌, ◌%◌, ◌<◌, ◌≤◌, List, length, min, refl, sym, ap, ◌∙◌, arith, inl, inr}
-use Rattle.std.proofs.lemmas.Bool.{cases_eq}
+use Rattle.std.proofs.Common.{◌≡◌, ◌≢◌, ℕ, ◌+◌, ◌*◌, ◌/◌, ◌<◌, ◌≤◌, List, length, min, sym, ap, ◌∙◌, arith, inl, inr}
+use Rattle.cil_member_rows.proofs.Common.{cases_eq, bit_at, IsPresence, hit_at, State, hit_off, hit_out, bits_at, words_of, rows_in, count_before, count_now, IsHeld}
 use Rattle.std.proofs.lemmas.Nat.Bits.{bit_at-zero}
-use Rattle.std.specs.Int.{bit_at}
-use Rattle.cil_lines.specs.Line.{IsPresence}
-use Rattle.cil_recorded.specs.Log.{hit_at}
-use Rattle.cil_recorded.specs.Recorded.{State}
-use Rattle.cil_recorded.proofs.LogLemmas.{hit_off, hit_out}
-use Rattle.cil_member_rows.specs.Held.{bits_at, words_of}
-use Rattle.cil_member_rows.specs.Rows.{rows_in, count_before, count_now, IsHeld}
-use Rattle.cil_member_rows.proofs.BitLemmas.{none_behind}
 
 -- a word by its number is the word of each of its targets
 pub word_of : (w b : ℕ) → b < 64 → (64 * w + b) / 64 ≡ w
@@ -32,39 +24,6 @@ module _ (held held' : List (List ℕ)) (s s' : State) (is : IsHeld held s) wher
         rows = rows;
         was = λ r w. presence_same (count_before s r) (count_before s' r) w (bits_at held r w) (bits_at held' r w) (is.was r w) (bits r w) (λ b within. before r (64 * w + b));
         room = room;
-      }
-
-  pub held_same : rows_in s' ≤ length held' → ((r : ℕ) → words_of held r ≤ words_of held' r) → ((r w : ℕ) → bits_at held' r w ≡ bits_at held r w)
-      → ((r t : ℕ) → count_now s' r t ≡ count_now s r t) → ((r t : ℕ) → count_before s' r t ≡ count_before s r t) → IsHeld held' s'
-  held_same rows words bits now before = held_on rows bits before (λ r t past. now r t ∙ is.room r t (let more = words r in omega (arith, more, past)))
-
-  -- who was a member lies in the words of its row
-  before_room : (r t : ℕ) → words_of held r ≤ t / 64 → count_before s r t ≡ 0
-  before_room r t past =
-      let w = t / 64 in
-      let b = t % 64 in
-      let within : b < 64 = omega arith in
-      let place : 64 * w + b ≡ t = omega arith in
-      let bit = is.was r w b within in
-      let none = ap (λ n. bit_at n b) (none_behind held r w past) in
-      let here = ap (λ k. min 1 (count_before s r k)) place in
-      omega (arith, bit, none, here, bit_at-zero b)
-
-  pub held_undone : rows_in s' ≤ length held → ((r t : ℕ) → count_now s' r t ≡ count_before s r t) → ((r t : ℕ) → count_before s' r t ≡ count_before s r t) → IsHeld held s'
-  held_undone rows now before =
-      record {
-        rows = rows;
-        was = λ r w. presence_same (count_before s r) (count_before s' r) w (bits_at held r w) (bits_at held r w) (is.was r w) refl (λ b within. before r (64 * w + b));
-        room = λ r t past. now r t ∙ before_room r t past;
-      }
-
-  pub held_settled : rows_in s' ≤ length held' → ((r : ℕ) → words_of held' r ≡ words_of held r) → ((r w : ℕ) → IsPresence (count_now s r) w (bits_at held' r w))
-      → ((r t : ℕ) → count_now s' r t ≡ count_now s r t) → ((r t : ℕ) → count_before s' r t ≡ count_now s r t) → IsHeld held' s'
-  held_settled rows words bits now before =
-      record {
-        rows = rows;
-        was = λ r w. presence_same (count_now s r) (count_before s' r) w (bits_at held' r w) (bits_at held' r w) (bits r w) refl (λ b within. before r (64 * w + b));
-        room = λ r t past. now r t ∙ is.room r t (let same = words r in omega (arith, same, past));
       }
 
   -- counters of a word went down and others up

@@ -1,11 +1,7 @@
 -- The bits at a settling, word by word.
-use Rattle.std.proofs.Common.{◌≡◌, ℕ, ◌+◌, ◌*◌, ◌/◌, ◌<◌, ◌≤◌, List, length, refl, sym, ap, subst, ◌∙◌, arith, inl, inr}
-use Rattle.std.proofs.lemmas.Bool.{cases_eq, cases_lt}
-use Rattle.cil_lines.specs.Line.{IsPresence}
+use Rattle.std.proofs.Common.{◌≡◌, ℕ, ◌+◌, ◌*◌, ◌<◌, ◌≤◌, List, length, refl, sym, ap, subst, ◌∙◌, arith, inl, inr}
+use Rattle.cil_member_rows.proofs.Common.{cases_eq, cases_lt, IsPresence, State, bits_at, words_of, count_now, IsHeld}
 use Rattle.cil_recorded.specs.Places.{step_at, IsUntouched}
-use Rattle.cil_recorded.specs.Recorded.{State, steps_in}
-use Rattle.cil_member_rows.specs.Held.{bits_at, words_of}
-use Rattle.cil_member_rows.specs.Rows.{count_before, count_now, IsHeld}
 use Rattle.cil_member_rows.proofs.BitLemmas.{none_behind}
 use Rattle.cil_member_rows.proofs.HeldLemmas.{presence_none, presence_same, word_of}
 
@@ -16,16 +12,6 @@ pub record IsUpTo (held now : List (List ℕ)) (s : State) (step : ℕ) : Type 0
   pub done : (r w : ℕ) → IsUntouched s step r w → IsPresence (count_now s r) w (bits_at now r w)
 
 module _ (held : List (List ℕ)) (s : State) (is : IsHeld held s) where
-  pub up_to-none : ((r t : ℕ) → IsUntouched s 0 r (t / 64) → count_now s r t ≡ count_before s r t) → IsUpTo held held s 0
-  up_to-none others =
-      record {
-        rows = refl;
-        words = λ r. refl;
-        done = λ r w none.
-            presence_same (count_before s r) (count_now s r) w (bits_at held r w) (bits_at held r w) (is.was r w) refl
-            (λ b within. others r (64 * w + b) (subst (IsUntouched s 0 r) (sym (word_of w b within)) none));
-      }
-
   -- a word that isn't there has no member
   none_there : (r w : ℕ) → words_of held r ≤ w → IsPresence (count_now s r) w 0
   none_there r w past = presence_none (count_now s r) w (λ b within. is.room r (64 * w + b) (let place = word_of w b within in omega (arith, place, past)))
@@ -73,7 +59,3 @@ module _ (held : List (List ℕ)) (s : State) (is : IsHeld held s) where
                   ]
               | inr other ↦ kept r w none (λ e _. other e)
             ]
-
--- no step is behind the last
-pub up_to-all : (held now : List (List ℕ)) (s : State) (r w : ℕ) → IsUpTo held now s (steps_in s) → IsPresence (count_now s r) w (bits_at now r w)
-up_to-all held now s r w was = was.done r w (λ k on within _ _. omega (arith, on, within))

@@ -1,3 +1,4 @@
+pub mod Common
 pub mod BitLemmas
 pub mod HeldLemmas
 pub mod HoldLemmas

@@ -1,32 +1,10 @@
 -- Marks of rows, when counters move.
 use Rattle.std.proofs.Common.{◌≡◌, ◌≢◌, ◌⊎◌, ◌↔◌, ℕ, ◌+◌, ◌/◌, ◌<◌, ◌≤◌, Bool, true, false, IsTrue, List, length, refl, sym, ap, subst, ◌∙◌, arith, inl, inr}
-use Rattle.std.proofs.lemmas.Bool.{cases_eq, true≢false}
-use Rattle.cil_recorded.specs.Log.{hit_at}
-use Rattle.cil_recorded.specs.Recorded.{State}
-use Rattle.cil_recorded.proofs.LogLemmas.{hit_nothing, hit_off, hit_out}
-use Rattle.cil_member_rows.specs.Marks.{mark_at}
-use Rattle.cil_member_rows.specs.Rows.{rows_in, steps_in, count_before, count_now, AreMarked}
+use Rattle.cil_member_rows.proofs.Common.{cases_eq, true≢false, hit_at, State, hit_nothing, hit_off, hit_out, mark_at, rows_in, steps_in, count_before, count_now, AreMarked}
 use Rattle.cil_member_rows.specs.Words.{AreSome, IsOutside}
 use Rattle.cil_member_rows.specs.declared.words.Words.{Words}
 
--- no row has a mark, and no step is left
-pub marked_none : (marks : List Words) (s : State) → rows_in s ≤ length marks → ((r : ℕ) → mark_at marks r ≡ record { first = 0; end = 0 })
-    → ((r t : ℕ) → count_before s r t ≡ count_now s r t) → AreMarked marks s
-marked_none marks s rows none same = record {
-  rows = rows;
-  same = λ r t _. same r t;
-  steps = λ r some. let less = subst AreSome (none r) some in absurd (omega (arith, less));
-}
-
 module _ (marks marks' : List Words) (s s' : State) (is : AreMarked marks s) (rows : rows_in s' ≤ length marks') (before : (r t : ℕ) → count_before s' r t ≡ count_before s r t) where
-  -- neither a mark nor a counter changes
-  pub marked_same : ((r : ℕ) → mark_at marks' r ≡ mark_at marks r) → ((r t : ℕ) → count_now s' r t ≡ count_now s r t) → steps_in s' ≡ steps_in s → AreMarked marks' s'
-  marked_same marks now steps = record {
-    rows = rows;
-    same = λ r t outside. before r t ∙ is.same r t (subst (λ words. IsOutside words (t / 64)) (marks r) outside) ∙ sym (now r t);
-    steps = λ r some. let old = is.steps r (subst AreSome (marks r) some) in omega (arith, old, steps);
-  }
-
   -- counters of a word of a row went down and others up
   module _ (row word gone come : ℕ) (lowered : ℕ → ℕ → ℕ) (step : Bool) (is_step : IsTrue step ↔ (0 < gone + come)) where
     pub marked_shifted : ((w : ℕ) → IsOutside (mark_at marks' row) w → IsOutside (mark_at marks row) w) → (step ≡ true → (w : ℕ) → IsOutside (mark_at marks' row) w → w ≢ word)

@@ -1,13 +1,8 @@
 -- Masks before and after, and what was a member and is.
 use Rattle.std.proofs.Common.{◌≡◌, ℕ, ◌-◌, ◌/◌, ◌%◌, ◌^◌, ◌<◌, bit_and, bit_xor, arith, inl, inr, w64}
-use Rattle.std.proofs.lemmas.Bool.{cases_eq}
+use Rattle.cil_member_rows.proofs.Common.{cases_eq, bit_not, hit, IsPresence, hit_at, hit_in, hit_off, IsChange}
 use Rattle.std.proofs.lemmas.Nat.Bits.{bit_at_and, bit_at_not, bit_at_xor, bit_at-lt}
-use Rattle.std.specs.Int.{bit_not}
-use Rattle.cil_lines.specs.Line.{hit, IsPresence}
 use Rattle.cil_lines.proofs.StepLemmas.{hit-here, hit-there}
-use Rattle.cil_recorded.specs.Log.{hit_at}
-use Rattle.cil_recorded.proofs.LogLemmas.{hit_in, hit_off}
-use Rattle.cil_member_rows.specs.Rows.{IsChange}
 
 -- a target of one mask that isn't in another
 pub hit_without : (word one other t : ℕ) → other < 2 ^ 64 → hit word (bit_and one (bit_not w64 other)) t ≡ hit word one t - hit word other t

@@ -1,13 +1,6 @@
 -- Bits of words.
 use Rattle.std.proofs.Common.{◌≡◌, ◌≢◌, ◌==◌, ◌+◌, ◌*◌, ◌/◌, ◌%◌, ◌^◌, ◌<◌, ◌≤◌, ◌&&◌, ℕ, Bool, true, false, bit_and, bit_or, nat_lt, refl, sym, ap, ◌∙◌, inl, inr, arith, w64, below_more}
-use Rattle.std.proofs.lemmas.Bool.{cases_lt, eq-eqb, ne_eqb, le-ltb}
-use Rattle.std.proofs.lemmas.Nat.Bits.{shr_and_one, bit_at_and, bit_at_or, bit_at_set_same, bit_at-lt, bit_at-pow_same, bit_at-pow_other, bit_at-zero}
-use Rattle.std.proofs.Math.Bool.{and-false}
-use Rattle.std.specs.Int.{bit_at}
-use Rattle.cil_lines.specs.Line.{IsPresence}
-use Rattle.cil_member_updates.specs.Counts.{one_if}
-use Rattle.cil_specs.specs.Sets.{differ}
-use Rattle.cil_member_updates.specs.Bits.{AreBits, AreHeld, Cover}
+use Rattle.cil_member_updates.proofs.Common.{cases_lt, eq-eqb, ne_eqb, le-ltb, shr_and_one, bit_at_and, bit_at_or, bit_at_set_same, bit_at-lt, bit_at-pow_same, bit_at-pow_other, bit_at-zero, and-false, bit_at, IsPresence, one_if, differ, AreBits, AreHeld, Cover}
 
 pub cover-first : (test : ℕ → Bool) (word one other : ℕ) → Cover test word one → Cover test word (bit_or one other)
 cover-first test word one other covers b within none = covers b within (omega (arith, none, bit_at_or one other b))
@@ -19,9 +12,6 @@ cover-second test word one other covers b within none = covers b within (omega (
 pub cover-here : (symbol word bits : ℕ) → bit_at bits (symbol % 64) ≡ 1 → Cover (λ t. symbol == t) word bits
 cover-here symbol word bits set b within none =
     ne_eqb symbol (64 * word + b) (λ e. let at : symbol % 64 ≡ b = omega (arith, e, within) in let same = ap (bit_at bits) at in omega (arith, same, set, none))
-
-pub cover-there : (symbol word bits : ℕ) → symbol / 64 ≢ word → Cover (λ t. symbol == t) word bits
-cover-there symbol word bits other b within none = ne_eqb symbol (64 * word + b) (λ e. other (omega (arith, e, within)))
 
 -- who is present
 pub cover-present : (counts : ℕ → ℕ) (word bits : ℕ) → IsPresence counts word bits → Cover (λ t. nat_lt 0 (counts t)) word bits
@@ -38,12 +28,6 @@ cover-bits test word bits are b within none = by (test (64 * word + b)) (sym (ar
 pub record HeldBelow (visits : ℕ) (test : ℕ → Bool) (word b mask : ℕ) : Type 0 where
   pub below : (k : ℕ) → k < b → bit_at mask k ≡ one_if ((bit_at visits k == 1) && test (64 * word + k))
   pub behind : (k : ℕ) → b ≤ k → bit_at mask k ≡ 0
-
-pub held-none : (visits : ℕ) (test : ℕ → Bool) (word : ℕ) → HeldBelow visits test word 0 0
-held-none visits test word = record {
-  below = λ k low. absurd (omega (arith, low));
-  behind = λ k high. bit_at-zero k;
-}
 
 module _ (visits : ℕ) (test : ℕ → Bool) (word b mask : ℕ) (held : HeldBelow visits test word b mask) where
   -- no bit at a symbol where the test isn't asked for or fails
@@ -75,9 +59,6 @@ module _ (visits : ℕ) (test : ℕ → Bool) (word b mask : ℕ) (held : HeldBe
           ap (bit_at (bit_or mask more)) same
           ∙ omega (arith, bit_at_or mask more b, held.behind b (omega arith), here)
           ∙ ap one_if (is ∙ sym (ap (λ x. x && test (64 * word + b)) (eq-eqb (bit_at visits b) 1 set)) ∙ sym (ap (λ j. (bit_at visits j == 1) && test (64 * word + j)) same))
-
-pub held-all : (visits : ℕ) (test : ℕ → Bool) (word mask : ℕ) → HeldBelow visits test word 64 mask → AreHeld visits test word mask
-held-all visits test word mask held b within = held.below b within
 
 -- without a bit to visit no mask has a bit
 pub held-zero : (visits : ℕ) (test : ℕ → Bool) (word : ℕ) → visits ≡ 0 → AreHeld visits test word 0

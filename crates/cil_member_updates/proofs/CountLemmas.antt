@@ -1,17 +1,10 @@
 -- How many set statements make a type a member.
 use Rattle.std.proofs.Common.{zero-add, ◌≡◌, ℕ, ◌+◌, Bool, true, false, cond, ◌||◌, List, [], ◌∷◌, Contains, count_by, nat_lt, refl, sym, ap, ◌∙◌, subst, true≢false, arith}
-use Rattle.std.specs.List.{list_any}
-use Rattle.std.proofs.lemmas.Bool.{lt-ltb}
+use Rattle.cil_member_updates.proofs.Common.{list_any, lt-ltb, AreTheSame, Meaning, is_member, HasSoundSets, SetStatement, contains-middle, gives_member, gives_count}
 use Rattle.std.proofs.lemmas.List.Sums.{sum_by-cons}
-use Rattle.cil_specs.specs.Dependence.{AreTheSame}
-use Rattle.cil_specs.specs.Meaning.{Meaning}
-use Rattle.cil_specs.specs.Members.{is_member, HasSoundSets}
-use Rattle.cil_specs.specs.Rule.{SetStatement}
 use Rattle.cil_specs.proofs.DependsLemmas.{any-contained}
 use Rattle.cil_specs.proofs.MemberLemmas.{member-fixed}
-use Rattle.cil_specs.proofs.NamesLemmas.{contains-middle}
 use Rattle.cil_specs.proofs.OnceLemmas.{passes-among}
-use Rattle.cil_member_updates.specs.Counts.{gives_member, gives_count}
 
 -- a test of one of the same statements
 any-same : (p : SetStatement → Bool) (sets others : List SetStatement) → AreTheSame sets others → list_any p sets ≡ list_any p others

@@ -1,35 +1,12 @@
 -- Set statements are evaluated at dirty pairs alone, twice at most, and for each member gained at least once.
 use Rattle.std.proofs.Common.{◌≡◌, ◌≢◌, ◌⊎◌, ◌<◌, ◌≤◌, ◌&&◌, ℕ, Bool, true, false, List, [], ◌++◌, get_or, length, map, nat_lt, slice_get, bytes_eq, count_by, Option, None, Some, IsTrue, refl, sym, ap, ◌∙◌, subst, inl, inr, arith, true≢false}
-use Rattle.std.specs.List.{All, AllPairs, Contains, IsDistinct}
-use Rattle.std.proofs.lemmas.Bool.{cases_eq, cases_lt, lt-ltb}
-use Rattle.std.proofs.lemmas.List.{length-append, length-map}
-use Rattle.std.proofs.lemmas.List.Elements.{All-append, All-contains, All-map, Contains-get_or}
-use Rattle.std.proofs.lemmas.Option.{get_or_from_slice_get, none-some, same_Some, slice_get-get_or, slice_get_read}
-use Rattle.std.proofs.lemmas.Slice.Eq.{bytes_eq-Decides}
+use Rattle.cil_member_updates.proofs.Common.{All, AllPairs, Contains, IsDistinct, cases_eq, cases_lt, lt-ltb, length-append, length-map, All-append, All-contains, All-map, Contains-get_or, get_or_from_slice_get, none-some, same_Some, slice_get-get_or, slice_get_read, bytes_eq-Decides, AreMatched, Matched, AreNumbersOf, meaning_in, sets_in, Resolved, one_if, no_set, set_at, AreTheSame, has_name, keeps_type, Meaning, is_member, keeps_attribute, HasSoundSets, IsSameSet, SetStatement, sum_below, across-none, across-some, sum-differs, sum-part, sum-zero, EvaluatesGone, EvaluatesNew, IsKept, MayGo, MayTurn, gives, holds, is_of, given_by, stayed, given}
 use Rattle.cil_delta_specs.specs.Dirty.{AreGained, HasSet, IsDirtyPair}
 use Rattle.cil_delta_specs.specs.Work.{raised, EvaluatesFew}
-use Rattle.cil_matching.specs.Matching.{AreMatched, Matched}
-use Rattle.cil_parse.specs.Lexicon.{AreNumbersOf}
 use Rattle.cil_resolve.specs.Apart.{StandApart}
-use Rattle.cil_resolve.specs.Resolved.{meaning_in}
-use Rattle.cil_resolve.specs.Sets.{sets_in}
-use Rattle.cil_resolve.specs.declared.resolved.Resolved.{Resolved}
-use Rattle.cil_member_updates.specs.Counts.{one_if}
-use Rattle.cil_member_updates.specs.Places.{no_set, set_at}
 use Rattle.cil_member_updates.proofs.CountLemmas.{counted-member}
 use Rattle.cil_member_updates.proofs.PlaceLemmas.{member-kept}
-use Rattle.cil_specs.specs.Dependence.{AreTheSame}
-use Rattle.cil_specs.specs.Lookup.{has_name}
-use Rattle.cil_specs.specs.Meaning.{keeps_type, Meaning}
-use Rattle.cil_specs.specs.Members.{is_member, keeps_attribute, HasSoundSets}
-use Rattle.cil_specs.specs.Rule.{IsSameSet, SetStatement}
-use Rattle.cil_sums.specs.Sums.{sum_below}
 use Rattle.cil_sums.proofs.PairLemmas.{at-most-all, from-mapped, mapped, pairs-append, pairs-map}
-use Rattle.cil_sums.proofs.SumLemmas.{across-none, across-some, sum-differs, sum-part, sum-zero}
-use Rattle.cil_member_updates.specs.Evaluated.{EvaluatesGone, EvaluatesNew, IsKept, MayGo, MayTurn}
-use Rattle.cil_member_updates.specs.Given.{gives, holds, is_of}
-use Rattle.cil_member_updates.specs.Passes.{given_by, stayed}
-use Rattle.cil_member_updates.specs.Policy.{given}
 use Rattle.cil_member_updates.proofs.EvaluatedLemmas.{first-true, second-true}
 use Rattle.cil_member_updates.proofs.GivenLemmas.{count-sum, gives-named}
 use Rattle.cil_member_updates.proofs.NameLemmas.{is-of-named, keeps-name, same-symbol}

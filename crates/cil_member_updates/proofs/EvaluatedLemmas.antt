@@ -1,18 +1,6 @@
 -- Where a set statement is evaluated: at bits of a word, at the symbols of words, and why.
 use Rattle.std.proofs.Common.{◌≡◌, ◌⊎◌, ◌==◌, ◌+◌, ◌*◌, ◌/◌, ◌%◌, ◌<◌, ◌&&◌, ◌||◌, ℕ, Bool, true, false, List, length, bit_and, nat_lt, refl, sym, ap, ◌∙◌, subst, inl, inr, arith, true≢false}
-use Rattle.std.specs.Int.{bit_at}
-use Rattle.std.proofs.lemmas.Bool.{cases_eq, cases_lt, eq-eqb, eqb-true, ltb-true, lt-ltb}
-use Rattle.std.proofs.lemmas.Nat.Bits.{bit_at_and, bit_at-lt, bit_at-zero}
-use Rattle.std.proofs.lemmas.Option.{slice_get_past}
-use Rattle.cil_specs.specs.Meaning.{Meaning}
-use Rattle.cil_specs.specs.Rule.{SetStatement}
-use Rattle.cil_specs.specs.Sets.{differ}
-use Rattle.cil_member_updates.specs.Counts.{one_if}
-use Rattle.cil_sums.specs.Rises.{up_to, RisesBy, RisesWithin}
-use Rattle.cil_sums.proofs.WithinLemmas.{up_to-some, within-both, within-by, within-either, within-map, within-none, within-weaker}
-use Rattle.cil_member_updates.specs.Bits.{AreBits, Cover}
-use Rattle.cil_member_updates.specs.Evaluated.{is_asked, InWord}
-use Rattle.cil_member_updates.specs.Given.{holds}
+use Rattle.cil_member_updates.proofs.Common.{bit_at, cases_eq, cases_lt, eq-eqb, eqb-true, ltb-true, lt-ltb, bit_at_and, bit_at-lt, bit_at-zero, slice_get_past, Meaning, SetStatement, differ, one_if, up_to, RisesBy, RisesWithin, up_to-some, within-both, within-by, within-either, within-map, within-none, within-weaker, AreBits, Cover, is_asked, InWord, holds}
 use Rattle.cil_member_updates.proofs.NameLemmas.{holds-past}
 
 pub both-true : (a b : Bool) → (a && b) ≡ true → (a ≡ true) × (b ≡ true)

@@ -2,16 +2,7 @@
 use Rattle.std.proofs.Common.{◌≡◌, ◌+◌, ◌<◌, ◌≤◌, ◌&&◌, ℕ, zero, suc, Bool, false, cond, List, [], ◌∷◌, length, take, Some, IsTrue, bytes_eq, count_by, get_or, nat_lt, slice_get, sym, ap, ◌∙◌, arith, add-one}
 use Rattle.std.proofs.Math.Seq.{take-length}
 use Rattle.std.proofs.lemmas.List.Sums.{sum_by_more}
-use Rattle.std.proofs.lemmas.Bool.{or_parts}
-use Rattle.cil_specs.specs.Dependence.{has_set, AreInOrder, AreTheSame}
-use Rattle.cil_specs.specs.Meaning.{Meaning}
-use Rattle.cil_specs.specs.Members.{HasSoundSets}
-use Rattle.cil_specs.specs.Rule.{SetStatement}
-use Rattle.cil_specs.specs.Sets.{mentions}
-use Rattle.cil_sums.specs.Sums.{sum_below}
-use Rattle.cil_sums.proofs.SumLemmas.{sum-none, sum-more}
-use Rattle.cil_member_updates.specs.Counts.{one_if, gives_member}
-use Rattle.cil_member_updates.specs.Given.{holds, gives, Tell}
+use Rattle.cil_member_updates.proofs.Common.{or_parts, has_set, AreInOrder, AreTheSame, Meaning, HasSoundSets, SetStatement, mentions, sum_below, sum-none, sum-more, one_if, gives_member, holds, gives, Tell}
 use Rattle.cil_member_updates.proofs.CountLemmas.{counted-member}
 use Rattle.cil_member_updates.proofs.NameLemmas.{is-of-named, holds-named}
 

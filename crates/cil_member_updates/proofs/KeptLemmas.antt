@@ -1,19 +1,7 @@
 -- The kept types by symbols, type by type.
 use Rattle.std.proofs.Common.{◌≡◌, ◌≢◌, ◌+◌, ◌*◌, ◌/◌, ◌%◌, ◌^◌, ◌<◌, ◌≤◌, ◌||◌, ℕ, zero, suc, Bool, true, false, List, [], length, take, replicate, set, Option, None, Some, bytes_eq, bit_or, get_or, slice_get, refl, sym, ap, ◌∙◌, subst, inl, inr, arith, w64, get_or-set_same, get_or-set_other}
-use Rattle.std.specs.List.{list_any, IsDistinct}
-use Rattle.std.specs.Int.{bit_at}
-use Rattle.std.proofs.Math.Bool.{or-true, or-false}
-use Rattle.std.proofs.lemmas.Bool.{cases_eq}
-use Rattle.std.proofs.lemmas.List.{take_all}
+use Rattle.cil_member_updates.proofs.Common.{list_any, IsDistinct, bit_at, or-true, or-false, cases_eq, take_all, bit_at_set_same, bit_at_set_other, bit_at-zero, same_Some, slice_get-get_or, bytes_eq-Decides, Declared, Meaning, one_if, AreBits, of_name, keeps}
 use Rattle.std.proofs.lemmas.List.Folds.{list_any_more}
-use Rattle.std.proofs.lemmas.Nat.Bits.{bit_at_set_same, bit_at_set_other, bit_at-zero}
-use Rattle.std.proofs.lemmas.Option.{same_Some, slice_get-get_or}
-use Rattle.std.proofs.lemmas.Slice.Eq.{bytes_eq-Decides}
-use Rattle.cil_specs.specs.Rule.{Declared}
-use Rattle.cil_specs.specs.Meaning.{Meaning}
-use Rattle.cil_member_updates.specs.Counts.{one_if}
-use Rattle.cil_member_updates.specs.Bits.{AreBits}
-use Rattle.cil_member_updates.specs.Given.{of_name, keeps}
 use Rattle.cil_member_updates.proofs.NameLemmas.{same-symbol, bytes-refl}
 
 -- whether the type of a symbol is among some

@@ -1,10 +1,10 @@
+pub mod Common
 pub mod BitLemmas
 pub mod ComesLemmas
 pub mod CountLemmas
 pub mod DirtyLemmas
 pub mod EvaluatedLemmas
 pub mod GivenLemmas
-pub mod GrowthLemmas
 pub mod KeptLemmas
 pub mod MovedLemmas
 pub mod NameLemmas

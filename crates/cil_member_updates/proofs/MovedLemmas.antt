@@ -1,16 +1,9 @@
 -- Counters moved word by word.
 use Rattle.std.proofs.Common.{◌≡◌, ◌==◌, ◌+◌, ◌*◌, ◌/◌, ◌%◌, ◌<◌, ◌≤◌, ◌&&◌, ℕ, Bool, true, false, refl, sym, ap, ◌∙◌, inl, inr, arith}
-use Rattle.std.proofs.lemmas.Bool.{cases_eq, cases_lt, eq-eqb, ne_eqb}
-use Rattle.std.proofs.lemmas.Nat.Bits.{bit_at-lt}
-use Rattle.std.specs.Int.{bit_at}
-use Rattle.cil_specs.specs.Sets.{differ}
-use Rattle.cil_lines.specs.Line.{hit}
+use Rattle.cil_member_updates.proofs.Common.{cases_eq, cases_lt, eq-eqb, ne_eqb, bit_at-lt, bit_at, differ, hit, IsMoved, AreMoved, one_if, AreHeld, Cover}
 use Rattle.cil_lines.proofs.StepLemmas.{hit-there}
 use Rattle.cil_recorded.specs.Log.{hit_at}
 use Rattle.cil_recorded.proofs.LogLemmas.{hit_in, hit_off, hit_on, hit_out}
-use Rattle.cil_member_updates.specs.Moved.{IsMoved, AreMoved}
-use Rattle.cil_member_updates.specs.Counts.{one_if}
-use Rattle.cil_member_updates.specs.Bits.{AreHeld, Cover}
 
 -- the counters of the words so far
 pub record MovedBelow (word : ℕ) (was is : ℕ → ℕ → ℕ) (old new : ℕ → ℕ → ℕ) : Type 0 where
@@ -62,9 +55,6 @@ module _ (was is : ℕ → ℕ → ℕ) where
     here = λ a t at. omega (arith, shifted a t, agree a t at);
     others = λ a t other. omega (arith, shifted a t, hit_out row word lower a t other, hit_out row word raise a t other);
   }
-
-and-off : (b : Bool) → one_if (false && b) ≡ 0
-and-off b = refl
 
 -- a counter of a mask
 pub hit-held : (row word visits mask : ℕ) (test : ℕ → Bool) → AreHeld visits test word mask → (a t : ℕ) → t / 64 ≡ word

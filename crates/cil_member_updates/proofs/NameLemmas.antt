@@ -1,25 +1,9 @@
 -- Names by their symbols.
 use Rattle.std.proofs.Common.{◌≡◌, ◌≢◌, ◌==◌, ◌+◌, ◌-◌, ◌*◌, ◌<◌, ◌&&◌, ℕ, zero, suc, Bool, true, false, List, [], ◌∷◌, length, Option, None, Some, Contains, IsTrue, below_more, bit_or, bytes_eq, min, nat_lt, slice_get, refl, sym, ap, ◌∙◌, subst, inl, inr, arith, true≢false}
-use Rattle.std.specs.List.{AllByRecursion, IsDistinct}
-use Rattle.std.specs.Int.{bit_at}
-use Rattle.std.proofs.Math.Bool.{and-false}
-use Rattle.std.proofs.lemmas.Bool.{cases_Bool, cases_eq, cases_lt, eq-eqb, ne_eqb, lt-ltb, le-ltb}
-use Rattle.std.proofs.lemmas.Nat.Bits.{bit_at_or}
-use Rattle.std.proofs.lemmas.Option.{none-some, same_Some}
-use Rattle.std.proofs.lemmas.Slice.Eq.{bytes_eq-Decides}
-use Rattle.cil_specs.specs.Expr.{Expr, leaves}
+use Rattle.cil_member_updates.proofs.Common.{AllByRecursion, IsDistinct, bit_at, and-false, cases_Bool, cases_eq, cases_lt, eq-eqb, ne_eqb, lt-ltb, le-ltb, bit_at_or, none-some, same_Some, bytes_eq-Decides, Expr, leaves, Meaning, is_in, keeps_type, is_member, Element, a_type, an_attribute, SetStatement, differ, holds_with, mentions, is_the_attribute, contains-middle, IsPresence, one_if, AreBits, Cover, of_name, keeps, holds, is_of, element_holds, IsUnchanged, Tell}
 use Rattle.cil_specs.specs.Meaning as meanings
-use Rattle.cil_specs.specs.Meaning.{Meaning, is_in, keeps_type}
-use Rattle.cil_specs.specs.Members.{is_member}
-use Rattle.cil_specs.specs.Rule.{Element, a_type, an_attribute, SetStatement}
-use Rattle.cil_specs.specs.Sets.{differ, holds_with, mentions, is_the_attribute}
 use Rattle.cil_specs.proofs.DependsLemmas.{any-contained}
 use Rattle.cil_specs.proofs.OnceLemmas.{passes-among}
-use Rattle.cil_specs.proofs.NamesLemmas.{contains-middle}
-use Rattle.cil_lines.specs.Line.{IsPresence}
-use Rattle.cil_member_updates.specs.Counts.{one_if}
-use Rattle.cil_member_updates.specs.Bits.{AreBits, Cover}
-use Rattle.cil_member_updates.specs.Given.{of_name, keeps, holds, is_of, element_holds, IsUnchanged, Tell}
 use Rattle.cil_member_updates.proofs.BitLemmas.{cover-bits, cover-present}
 
 pub bytes-refl : (x : List ℕ) → bytes_eq x x ≡ true
@@ -169,12 +153,6 @@ module _ (symbols : List (List ℕ)) (before now : ℕ → ℕ → ℕ) where
     where
       alike : an_attribute attribute ≡ an_attribute name → attribute ≡ name
       alike e = cc
-
-  pub unchanged-type : (name : List ℕ) (word bits : ℕ) → IsUnchanged symbols before now (a_type name) word bits
-  unchanged-type name word bits attribute a b is at within none = absurd (apart is)
-    where
-      apart : a_type name ≡ an_attribute attribute → ⊥
-      apart e = cc
 
   pub unchanged-first : (element : Element) (word bits more : ℕ) → IsUnchanged symbols before now element word bits → IsUnchanged symbols before now element word (bit_or bits more)
   unchanged-first element word bits more unchanged attribute a b is at within none = unchanged attribute a b is at within (omega (arith, none, bit_at_or bits more b))

@@ -1,7 +1,6 @@
 -- Two passes over the set statements of two policies, at one attribute and type.
 use Rattle.std.proofs.Common.{◌≡◌, ◌+◌, ◌<◌, ◌≤◌, ℕ, List, Option, arith}
-use Rattle.cil_sums.specs.Sums.{sum_below, alone, across, ArePlaces}
-use Rattle.cil_sums.proofs.SumLemmas.{sum-more, sum-most, sum-part, sum-rest, sum-sides, alone-most}
+use Rattle.cil_member_updates.proofs.Common.{sum_below, alone, across, ArePlaces, sum-more, sum-most, sum-part, sum-rest, sum-sides, alone-most}
 
 module _ (f : ℕ → ℕ) (n : ℕ) (ahead : List (Option ℕ)) where
   -- what a set statement that goes gave is still counted

@@ -1,19 +1,8 @@
 -- Set statements at their places, and what a policy keeps of them.
 use Rattle.std.proofs.Common.{◌≡◌, ℕ, ◌<◌, Bool, true, false, ◌&&◌, ◌||◌, List, [], ◌∷◌, length, bytes_eq, Contains, IsTrue, slice_get, Some, refl, sym, ap, ◌∙◌, subst, true≢false}
-use Rattle.std.specs.List.{list_any}
-use Rattle.std.proofs.lemmas.Bool.{and_parts}
-use Rattle.std.proofs.lemmas.Option.{slice_get-get_or}
-use Rattle.std.proofs.lemmas.Slice.Eq.{bytes_eq-Decides}
-use Rattle.cil_specs.specs.Expr.{named}
-use Rattle.cil_specs.specs.Meaning.{Meaning, holds, keeps_type, is_in}
-use Rattle.cil_specs.specs.Members.{is_member, keeps_attribute, HasSoundSets}
-use Rattle.cil_specs.specs.Rule.{Element, an_attribute, SetStatement}
-use Rattle.cil_specs.specs.Sets.{holds_with}
+use Rattle.cil_member_updates.proofs.Common.{list_any, and_parts, slice_get-get_or, bytes_eq-Decides, named, Meaning, keeps_type, is_in, is_member, keeps_attribute, HasSoundSets, Element, an_attribute, SetStatement, holds_with, contains-first, contains-other, sets_in, Resolved, set_at, no_set}
+use Rattle.cil_specs.specs.Meaning.{holds}
 use Rattle.cil_specs.proofs.MemberLemmas.{member-fixed}
-use Rattle.cil_specs.proofs.NamesLemmas.{contains-first, contains-other}
-use Rattle.cil_resolve.specs.Sets.{sets_in}
-use Rattle.cil_resolve.specs.declared.resolved.Resolved.{Resolved}
-use Rattle.cil_member_updates.specs.Places.{set_at, no_set}
 
 pub set-there : {A : Type 0} (r : Resolved A) (i : ℕ) → i < length (sets_in r) → slice_get (sets_in r) i ≡ Some (set_at r i)
 set-there r i within = slice_get-get_or (sets_in r) i no_set within

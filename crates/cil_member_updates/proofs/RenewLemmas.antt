@@ -1,15 +1,6 @@
 -- What set statements gave that stayed, and what the new ones give.
 use Rattle.std.proofs.Common.{◌≡◌, ◌+◌, ◌<◌, ℕ, false, List, length, Option, None, Some, IsTrue, bytes_eq, count_by, get_or, slice_get, refl, sym, ap, ◌∙◌, subst, arith}
-use Rattle.std.proofs.lemmas.Option.{slice_get_within, get_or_from_slice_get}
-use Rattle.cil_specs.specs.Dependence.{AreInOrder}
-use Rattle.cil_specs.specs.Meaning.{Meaning}
-use Rattle.cil_specs.specs.Rule.{SetStatement, IsSameSet}
-use Rattle.cil_specs.specs.Sets.{mentions}
-use Rattle.cil_sums.specs.Sums.{sum_below, across, ArePlaces}
-use Rattle.cil_sums.proofs.SumLemmas.{across-some, across-none}
-use Rattle.cil_matching.specs.Matching.{Matched, AreMatched, AreSameAt}
-use Rattle.cil_member_updates.specs.Counts.{one_if}
-use Rattle.cil_member_updates.specs.Given.{gives}
+use Rattle.cil_member_updates.proofs.Common.{slice_get_within, get_or_from_slice_get, AreInOrder, Meaning, SetStatement, IsSameSet, mentions, sum_below, across, ArePlaces, across-some, across-none, Matched, AreMatched, AreSameAt, one_if, gives}
 use Rattle.cil_member_updates.proofs.GivenLemmas.{none-behind, gives-other, count-sum}
 use Rattle.cil_member_updates.proofs.PassLemmas.{settled}
 

@@ -1,19 +1,6 @@
 -- A policy by symbols, and the counters of its members.
 use Rattle.std.proofs.Common.{◌≡◌, ◌+◌, ◌<◌, ◌≤◌, ℕ, Bool, List, length, Some, IsTrue, bytes_eq, get_or, nat_lt, slice_get, sym, ap, ◌∙◌, arith}
-use Rattle.cil_specs.specs.Dependence.{AreInOrder, AreTheSame}
-use Rattle.cil_specs.specs.Members.{HasSoundSets}
-use Rattle.cil_specs.specs.Rule.{SetStatement, IsSameSet}
-use Rattle.cil_specs.specs.Sets.{mentions}
-use Rattle.cil_parse.specs.Lexicon.{AreNumbersOf}
-use Rattle.cil_resolve.specs.Resolved.{meaning_in}
-use Rattle.cil_resolve.specs.Sets.{name_in, sets_in, TellsMembers}
-use Rattle.cil_resolve.specs.declared.resolved.Resolved.{Resolved}
-use Rattle.cil_member_updates.specs.Places.{no_set, set_at}
-use Rattle.cil_matching.specs.Matching.{Matched, AreMatched}
-use Rattle.cil_sums.specs.Sums.{sum_below}
-use Rattle.cil_member_updates.specs.Given.{gives, Tell}
-use Rattle.cil_member_updates.specs.Passes.{given_by, gone, stayed}
-use Rattle.cil_member_updates.specs.Policy.{given, AreCounts}
+use Rattle.cil_member_updates.proofs.Common.{AreInOrder, AreTheSame, HasSoundSets, SetStatement, IsSameSet, mentions, AreNumbersOf, meaning_in, name_in, sets_in, TellsMembers, Resolved, no_set, set_at, Matched, AreMatched, sum_below, gives, Tell, given_by, gone, stayed, given, AreCounts}
 use Rattle.cil_member_updates.proofs.GivenLemmas.{count-sum, counts-tell, gives-other, none-behind}
 use Rattle.cil_member_updates.proofs.PassLemmas.{gone-all}
 use Rattle.cil_member_updates.proofs.RenewLemmas.{places, same-attribute, settled-at}

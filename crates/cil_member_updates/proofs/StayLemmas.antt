@@ -1,18 +1,7 @@
 -- A set statement of two policies that holds the same in both.
 use Rattle.std.proofs.Common.{◌≡◌, ◌+◌, ◌*◌, ◌/◌, ◌<◌, ◌≤◌, ◌%◌, ◌&&◌, ℕ, Bool, true, false, List, Some, bytes_eq, slice_get, refl, sym, ap, ◌∙◌, arith, inl, inr}
-use Rattle.std.specs.List.{IsDistinct}
-use Rattle.std.proofs.lemmas.Bool.{true≢false}
-use Rattle.std.proofs.lemmas.Nat.Bits.{bit_at-zero}
-use Rattle.cil_specs.specs.Meaning.{Meaning}
-use Rattle.cil_specs.specs.Rule.{an_attribute, SetStatement}
-use Rattle.cil_specs.specs.Sets.{differ}
-use Rattle.cil_member_updates.specs.Counts.{one_if}
-use Rattle.cil_member_rows.specs.Words.{IsOutside}
+use Rattle.cil_member_updates.proofs.Common.{IsDistinct, true≢false, bit_at-zero, Meaning, an_attribute, SetStatement, differ, one_if, IsOutside, Cover, IsMovedAt, gives, holds, is_of, of_name, IsUnchanged, IsMoved}
 use Rattle.cil_member_rows.specs.declared.words.Words.{Words}
-use Rattle.cil_member_updates.specs.Bits.{Cover}
-use Rattle.cil_member_updates.specs.Evaluated.{IsMovedAt}
-use Rattle.cil_member_updates.specs.Given.{gives, holds, is_of, of_name, IsUnchanged}
-use Rattle.cil_member_updates.specs.Moved.{IsMoved}
 use Rattle.cil_member_updates.proofs.NameLemmas.{unchanged-row}
 
 -- the attribute of a row whose counters of a word are the same before and now
@@ -47,10 +36,3 @@ module _ (symbols : List (List ℕ)) (old new : Meaning) (s r : SetStatement) (w
       alike true false e = e
       alike false true e = sym e
       alike false false e = refl
-
-  -- so no counter of the word moves
-  pub stay-moved : s.attribute ≡ r.attribute → (count : ℕ → ℕ → ℕ) → IsMoved word (λ a t. one_if (gives symbols old a t s)) (λ a t. one_if (gives symbols new a t r)) count count
-  stay-moved same count = record {
-    here = λ a t at. ap (λ n. count a t + n) (stay-gives same a t at);
-    others = λ a t other. refl;
-  }

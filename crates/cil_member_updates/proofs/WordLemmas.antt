@@ -1,21 +1,9 @@
 -- What a set statement gives at the types of a word, and the masks of it.
 use Rattle.std.proofs.Common.{◌≡◌, ◌==◌, ◌+◌, ◌/◌, ◌%◌, ◌≤◌, ◌&&◌, ℕ, Bool, List, length, Some, bytes_eq, slice_get, refl, sym, ap, ◌∙◌, inl, inr, arith}
-use Rattle.std.specs.List.{IsDistinct}
-use Rattle.std.specs.Int.{bit_at}
-use Rattle.std.proofs.Math.Bool.{and-false}
-use Rattle.std.proofs.lemmas.Bool.{cases_eq, eq-eqb, ne_eqb}
-use Rattle.std.proofs.lemmas.Option.{slice_get_past}
-use Rattle.cil_lines.specs.Line.{hit}
+use Rattle.cil_member_updates.proofs.Common.{IsDistinct, bit_at, and-false, cases_eq, eq-eqb, ne_eqb, slice_get_past, hit, Meaning, SetStatement, differ, one_if, AreHeld, Cover, IsMoved, nothing, holds, is_of, gives}
 use Rattle.cil_lines.proofs.StepLemmas.{hit-none}
 use Rattle.cil_recorded.specs.Log.{hit_at}
 use Rattle.cil_recorded.proofs.LogLemmas.{hit_in, hit_nothing}
-use Rattle.cil_specs.specs.Meaning.{Meaning}
-use Rattle.cil_specs.specs.Rule.{SetStatement}
-use Rattle.cil_specs.specs.Sets.{differ}
-use Rattle.cil_member_updates.specs.Counts.{one_if}
-use Rattle.cil_member_updates.specs.Bits.{AreHeld, Cover}
-use Rattle.cil_member_updates.specs.Moved.{IsMoved, nothing}
-use Rattle.cil_member_updates.specs.Given.{holds, is_of, gives}
 use Rattle.cil_member_updates.proofs.MovedLemmas.{hit-held, hit-most, moved-by, visited, visited-same}
 use Rattle.cil_member_updates.proofs.NameLemmas.{is-of-row, holds-past}
 

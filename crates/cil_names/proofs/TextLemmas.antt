@@ -1,5 +1,5 @@
 -- Keys that are told apart by their texts, seen as the list of these.
-use Rattle.std.proofs.Common.{◌≡◌, ◌⊎◌, inl, inr, ℕ, ◌+◌, ◌<◌, ◌≤◌, zero, suc, Bool, true, false, not, ◌||◌, nat_lt, List, [], ◌∷◌, ◌++◌, length, map, cond, Option, Some, None, is_some, option_map, get_or, slice_get, position, bytes_eq, refl, sym, ap, ◌∙◌, add-one, arith, true≢false, if◌then◌else◌, IsTrue}
+use Rattle.std.proofs.Common.{◌≡◌, ℕ, ◌+◌, ◌<◌, ◌≤◌, suc, Bool, true, false, not, ◌||◌, nat_lt, List, [], ◌∷◌, ◌++◌, length, map, cond, Some, None, option_map, get_or, slice_get, position, bytes_eq, refl, sym, ap, ◌∙◌, add-one, arith, true≢false, if◌then◌else◌, IsTrue}
 use Rattle.std.specs.List.{list_any, position_or_len, AllByRecursion, IsDistinct}
 use Rattle.std.specs.Ordering.{nat_cmp, is_lt, is_eq, ordering_reverse}
 use Rattle.std.specs.declared.cmp.Ordering.{Ordering}
@@ -47,14 +47,6 @@ pub found-name : (names : List (List ℕ)) (name : List ℕ) (n : ℕ) → posit
 found-name names name n is =
     let (within, equal, first) = position-Some (bytes_eq name) names n [] is in
     slice_get-get_or names n [] within ∙ ap Some (sym ((bytes_eq-Decides name (get_or names n [])).0 equal))
-
--- With a name the names stay, or it comes last.
-pub with_name-either : (names : List (List ℕ)) (name : List ℕ) → (with_name names name ≡ names) ⊎ (with_name names name ≡ names ++ name ∷ [])
-with_name-either names name = by (has_name names name)
-  where
-    by : (b : Bool) → ((if b then names else names ++ name ∷ []) ≡ names) ⊎ ((if b then names else names ++ name ∷ []) ≡ names ++ name ∷ [])
-    by true = inl refl
-    by false = inr refl
 
 module _ {K : Type 0} (text : K → List ℕ) where
   -- the texts of keys

@@ -1,43 +1,14 @@
 -- Needs of statements.
 use Rattle.std.proofs.Common.{◌≡◌, inl, inr, ℕ, zero, suc, ◌+◌, ◌<◌, ◌≤◌, ◌==◌, Bool, true, false, not, ◌&&◌, ◌||◌, nat_lt, List, [], ◌∷◌, ◌++◌, map, length, get_or, slice_get, take, Option, Some, None, is_some, IfSome, refl, sym, ap, ◌∙◌, subst, arith, add-one, append_assoc, append-nil, if◌then◌else◌}
 use Rattle.cil_parse.specs.Forms.{kind_of}
-use Rattle.std.specs.List.{list_all, list_any}
-use Rattle.std.specs.Option.{option_to_list}
-use Rattle.std.proofs.lemmas.Bool.{eq-eqb, lt-ltb}
-use Rattle.std.proofs.lemmas.List.{length-map, take_all}
-use Rattle.std.proofs.lemmas.List.Folds.{list_all-append}
-use Rattle.std.proofs.lemmas.Option.{none-some, same_Some, slice_get_within, slice_get_cases, slice_get_read}
-use Rattle.cil_specs.specs.Names.{Word}
-use Rattle.cil_specs.specs.Statements.{Form, block, optional, type_name, type_alias, alias_actual, type_attribute, attribute_set, common, class, class_common, class_order, rule, itself, the_named}
+use Rattle.cil_optionals.proofs.Common.{list_all, list_any, option_to_list, eq-eqb, lt-ltb, length-map, take_all, list_all-append, none-some, same_Some, slice_get_within, slice_get_cases, slice_get_read, Word, Form, block, optional, type_name, type_alias, alias_actual, type_attribute, attribute_set, common, class, class_common, class_order, rule, itself, the_named, Placed, Table, types, classes, scopes, holds_of, leads, outward, references, PolicyFault, twice, is_unfound, IsFaultOf, Optionals, is_within, restricted, AreApart, Statements, read, Spells, texts_of, NumberedWord, read-text, read-within, both_true, IsLead, table_of, Row, Policy, NamedModule, rows-length, take-next, is_met, meeting, has_node, IsInnermost, declared_table, declared_text, is_naming, is_provided, is_plain, AreNodesOf, further_out, IsReady, is_need_of, are_found, optional_at, row_optional, AddsNeed, Asks, IsOf, LeadsOutside, Need}
 use Rattle.cil_specs.specs.Expr.{leaves}
-use Rattle.cil_specs.specs.Joined.{Placed}
-use Rattle.cil_specs.specs.Lookup.{Table, types, classes, scopes, holds_of, leads, outward, references}
-use Rattle.cil_specs.specs.PolicyFault.{PolicyFault, twice, is_unfound, IsFaultOf}
-use Rattle.cil_specs.specs.Kept.{Optionals, is_within, restricted, AreApart}
-use Rattle.cil_specs.specs.Statements.{Statements}
-use Rattle.cil_parse.specs.Builder.{read}
 use Rattle.cil_parse.specs.Flat.{FlatStatement, flat}
-use Rattle.cil_parse.specs.Parsed.{Spells, texts_of}
 use Rattle.cil_parse.specs.View.{IsShown}
 use Rattle.cil_parse.specs.declared.parsed.ParsedModule.{ParsedModule}
-use Rattle.cil_parse.specs.declared.row.NumberedWord.{NumberedWord}
 use Rattle.cil_parse.specs.declared.table.Table as code
 use Rattle.cil_parse.specs.declared.view.StatementView.{StatementView}
-use Rattle.cil_bind.proofs.ScopeLemmas.{read-text, read-within}
-use Rattle.cil_specs.proofs.Runs.{both_true}
 use Rattle.cil_bind.specs.Binding.{AreLeads, AreBound}
-use Rattle.cil_bind.specs.Lookup.{IsLead, table_of}
-use Rattle.cil_bind.specs.declared.rows.Row.{Row}
-use Rattle.cil_bind.specs.declared.policy.Policy.{Policy}
-use Rattle.cil_bind.specs.declared.joined.NamedModule.{NamedModule}
-use Rattle.cil_bind.proofs.DeclareLemmas.{rows-length}
-use Rattle.cil_bind.proofs.PositionLemmas.{take-next}
-use Rattle.cil_optionals.specs.Needs.{is_met, meeting, has_node}
-use Rattle.cil_bind.specs.Nested.{IsInnermost}
-use Rattle.cil_optionals.specs.Nodes.{declared_table, declared_text, is_naming, is_provided, is_plain, AreNodesOf}
-use Rattle.cil_optionals.specs.Providers.{further_out, IsReady}
-use Rattle.cil_optionals.specs.Asks.{is_need_of, are_found, optional_at, row_optional, AddsNeed, Asks, IsOf, LeadsOutside}
-use Rattle.cil_optionals.specs.declared.greatest.Need.{Need}
 use Rattle.cil_optionals.proofs.FoundLemmas.{leads-found}
 use Rattle.cil_optionals.proofs.ProviderLemmas.{row-within, place-provided, provided-by, naming-declaration, HasRow, row-of}
 
@@ -69,10 +40,6 @@ meets-other p parsed all table found q plain lead row ready e is it at set has n
     ap (λ b. holds_of (λ s. if b then is_provided (restricted set all) s else is_within set s) lead) it
     ∙ ap (holds_of (is_within set)) (sym found_it.is ∙ here.at)
     ∙ sym (row-within p.rows.items all set has ready.nested nodes.optionals_are q row here.s here.row_at here.at)
-
--- and nothing meets what leads nowhere
-pub meets-none : (all : List Placed) (table : Table) (lead : Option Placed) (test : Placed → Bool) → IsLead table all None lead → holds_of test lead ≡ false
-meets-none all table lead test is = ap (holds_of test) (sym is.is)
 
 -- the number of the optional around a statement
 pub around-low : {A : Type 0} (p : Policy A) (parsed : List (NamedModule A)) (all : List Placed) (q : ℕ) (row : Row) → IsReady p parsed all → q < length p.rows.items → row ≡ get_or p.rows.items q row → row.optional < length p.rows.items + 1

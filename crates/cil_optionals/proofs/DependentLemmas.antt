@@ -1,15 +1,8 @@
 -- Which needs each node can meet.
 use Rattle.std.proofs.Common.{◌≡◌, ◌⊎◌, inl, inr, ℕ, ◌+◌, ◌<◌, ◌≤◌, zero, suc, false, true, ltb, leb, List, [], ◌∷◌, ◌++◌, length, get_or, Option, None, Some, slice_get, All, Contains, IfSome, refl, length-append, sym, ap, ◌∙◌, subst, arith}
 use Rattle.std.specs.List.Sorted.{IsPartitionPoint}
-use Rattle.std.specs.Option.{option_to_list}
-use Rattle.std.proofs.lemmas.Bool.{cases_lt, ltb-true, ltb-false, leb-true, leb-false}
-use Rattle.std.proofs.lemmas.List.Elements.{All-append, All-weaker, Contains-append_cases, Contains-append_left, Contains-append_right, Contains-push_cases}
-use Rattle.std.proofs.lemmas.Option.{slice_get_within, slice_get-get_or, get_or_from_slice_get, same_Some}
+use Rattle.cil_optionals.proofs.Common.{option_to_list, cases_lt, ltb-true, ltb-false, leb-true, leb-false, All-append, All-weaker, Contains-append_cases, Contains-append_left, Contains-append_right, Contains-push_cases, slice_get_within, slice_get-get_or, get_or_from_slice_get, same_Some, meeting, dependent, dependents_of_node, IsDependent, AreDependents, AreReopened, Dependent, Need}
 use Rattle.cil_specs.proofs.NamesLemmas.{contains-first}
-use Rattle.cil_optionals.specs.Needs.{meeting}
-use Rattle.cil_optionals.specs.Dependents.{dependent, dependents_of_node, IsDependent, AreDependents, AreReopened}
-use Rattle.cil_optionals.specs.declared.dependents.Dependent.{Dependent}
-use Rattle.cil_optionals.specs.declared.greatest.Need.{Need}
 
 -- what came behind others for a node is of its need
 pub node-within : (old : List Dependent) (node : Option ℕ) (n o i : ℕ) → IsDependent (old ++ dependents_of_node node n) o i → IsDependent old o i ⊎ (i ≡ n)
@@ -94,16 +87,6 @@ pub record AreOpenedTo (dependents : List Dependent) (start end place : ℕ) (ol
   pub long : length more + start ≡ place
   pub each : (k : ℕ) (d : Dependent) → start ≤ k → k < place → slice_get dependents k ≡ Some d → Contains more d.need
   pub from : (i : ℕ) → Contains more i → (k : ℕ) × (d : Dependent) × (start ≤ k) × (k < end) × (slice_get dependents k ≡ Some d) × (d.need ≡ i)
-
-pub opened-none : (dependents : List Dependent) (start end : ℕ) (waiting : List ℕ) (none : waiting ≡ waiting ++ []) → AreOpenedTo dependents start end start waiting waiting
-opened-none dependents start end waiting none = record {
-  more = [];
-  is = none;
-  few = omega arith;
-  long = omega arith;
-  each = λ k d from below at. absurd (omega (arith, from, below));
-  from = λ i has. absurd (omega (arith, has.1));
-}
 
 pub opened-more : (dependents : List Dependent) (start end place : ℕ) (old mid new : List ℕ) (d : Dependent) → end ≤ length dependents → place < end → slice_get dependents place ≡ Some d → new ≡ mid ++ d.need ∷ []
     → AreOpenedTo dependents start end place old mid → AreOpenedTo dependents start end (place + 1) old new

@@ -1,18 +1,7 @@
 -- What a reference leads to in a restricted policy, by what it leads to in the whole.
 use Rattle.std.proofs.Common.{◌≡◌, ℕ, Bool, true, false, ◌||◌, cond, List, [], ◌∷◌, find, Option, Some, None, is_some, refl, sym, ap, ◌∙◌, true≢false, if◌then◌else◌}
-use Rattle.std.specs.Option.{option_or, option_and_then}
-use Rattle.std.proofs.lemmas.Option.{none-some, same_Some}
-use Rattle.std.proofs.lemmas.Slice.Eq.{bytes_eq-Decides}
-use Rattle.cil_specs.specs.Names.{Word, components}
-use Rattle.cil_specs.specs.Statements.{Form, block, optional, type_name, type_alias, type_attribute, common, class}
-use Rattle.cil_specs.specs.Joined.{Placed}
-use Rattle.cil_specs.specs.Lookup.{Table, types, classes, commons, scopes, declared_in, is_word, same_namespace, word_text, declares, declaration, has_block, outward, nearest_block, inside, from_namespace, leads, is_global, holds_of}
-use Rattle.cil_specs.specs.PolicyFault.{PolicyFault, twice, IsFaultOf}
-use Rattle.cil_specs.specs.Kept.{Optionals, is_within, restricted, AreApart}
-use Rattle.cil_specs.proofs.Runs.{first_true, second_true}
-use Rattle.cil_specs.proofs.DeclaredLemmas.{declared-once, declared-within, one-namespace}
+use Rattle.cil_optionals.proofs.Common.{option_or, option_and_then, none-some, same_Some, bytes_eq-Decides, Word, components, Form, block, optional, type_name, type_alias, type_attribute, common, class, Placed, Table, types, classes, commons, scopes, declared_in, is_word, same_namespace, word_text, declares, declaration, has_block, outward, nearest_block, inside, from_namespace, leads, is_global, holds_of, PolicyFault, twice, IsFaultOf, Optionals, is_within, restricted, AreApart, first_true, second_true, declared-once, declared-within, one-namespace, declared_table, declared_text, is_naming, is_provided, is_single, is_plain}
 use Rattle.cil_specs.proofs.RestrictedLemmas.{has_block-restricted, nearest_block-restricted}
-use Rattle.cil_optionals.specs.Nodes.{declared_table, declared_text, is_naming, is_provided, is_single, is_plain}
 
 -- the table in which a statement declares a word
 pub table-of : (table : Table) (form : Form) (w : Word) → declared_in table form ≡ Some w → table ≡ declared_table form

@@ -1,27 +1,13 @@
 -- Taking away optionals whose needs aren't met leaves the greatest set.
-use Rattle.std.proofs.Common.{◌≡◌, ◌⊎◌, inl, inr, ℕ, ◌+◌, ◌*◌, ◌<◌, ◌≤◌, Bool, true, false, not, ◌&&◌, ◌||◌, nat_lt, List, [], ◌∷◌, ◌++◌, length, get_or, set, replicate, count_by, Option, None, Some, slice_get, All, Contains, IfSome, IsTrue, cond, refl, length-append, sym, ap, ◌∙◌, subst, arith, true≢false}
-use Rattle.std.specs.List.{list_all, list_any, range_with_len}
-use Rattle.std.specs.Option.{option_to_list}
-use Rattle.std.proofs.lemmas.Bool.{and_parts, or_cases, or_parts, or_left, or_right, not-true, not-false, cases_eq, ltb-true}
-use Rattle.std.proofs.lemmas.List.{get_or-set_other, get_or-set_same, get_or-replicate}
-use Rattle.std.proofs.lemmas.List.Elements.{All-append, All-same, All-contains, All-pop, Contains-get_or, Contains-push_cases, Contains-append_left, Contains-append_right}
+use Rattle.std.proofs.Common.{◌≡◌, ◌⊎◌, inl, inr, ℕ, ◌+◌, ◌*◌, ◌<◌, ◌≤◌, Bool, true, false, not, ◌||◌, nat_lt, List, [], ◌∷◌, ◌++◌, length, get_or, set, replicate, count_by, Some, slice_get, All, Contains, IsTrue, cond, length-append, sym, ap, ◌∙◌, subst, arith, true≢false}
+use Rattle.cil_optionals.proofs.Common.{list_all, list_any, range_with_len, and_parts, or_cases, or_parts, or_left, or_right, not-true, not-false, cases_eq, ltb-true, get_or-set_other, get_or-set_same, get_or-replicate, All-append, All-same, All-contains, All-pop, Contains-get_or, Contains-push_cases, Contains-append_left, Contains-append_right, slice_get-get_or, slice_get_within, get_or_from_slice_get, same_Some, Need, is_met, are_met, is_need_below, meeting, IsDependent, AreDependents, AreReopened, Dependent}
 use Rattle.std.proofs.lemmas.List.FromFn.{get_or-range_with_len, length-range_with_len}
 use Rattle.std.proofs.lemmas.List.Sums.{AllPass-from_list_all, list_all-from_AllPass, sum_by-set}
-use Rattle.std.proofs.lemmas.Option.{slice_get-get_or, slice_get_within, get_or_from_slice_get, same_Some}
 use Rattle.cil_specs.proofs.NamesLemmas.{contains-first, contains-other}
-use Rattle.cil_optionals.specs.declared.greatest.Need.{Need}
-use Rattle.cil_optionals.specs.Needs.{is_met, are_met, is_need_below, has_node, meeting}
-use Rattle.cil_optionals.specs.Dependents.{IsDependent, AreDependents, AreReopened}
-use Rattle.cil_optionals.specs.declared.dependents.Dependent.{Dependent}
 
 -- what holds of all elements holds of the one at a place
 pub all-got : {X : Type 0} (p : X → Bool) (xs : List X) (i : ℕ) (x : X) → list_all p xs ≡ true → slice_get xs i ≡ Some x → p x ≡ true
 all-got p xs i x all at = subst (λ y. p y ≡ true) (get_or_from_slice_get xs i x x at) (AllPass-from_list_all p xs all i x (slice_get_within xs i x at))
-
--- those that can meet a need have numbers below this one
-pub from-below : (n : ℕ) (need : Need) → is_need_below n need ≡ true → All (λ o. o < n) (meeting need)
-from-below n need below k d low =
-    ltb-true (get_or (meeting need) k d) n (AllPass-from_list_all (λ o. nat_lt o n) (meeting need) (and_parts (nat_lt need.optional n) _ (and_parts (nat_lt 0 need.optional) _ below).1).1 k d low)
 
 -- the set of the optionals that are kept
 abbrev pub has_kept : List Bool → ℕ → Bool
@@ -137,53 +123,6 @@ above-taken count kept needs i need below above at unmet has met n le is = elim 
 -- the optional of a need that isn't met is kept
 pub unmet-kept : (has : ℕ → Bool) (need : Need) → is_met has need ≡ false → has need.optional ≡ true
 unmet-kept has need unmet = not-false (has need.optional) (or_parts (not (has need.optional)) (list_any has (meeting need)) unmet).0
-
--- what the test of a need says
-pub tested : (has : ℕ → Bool) (need : Need) → (has need.optional && (not (has_node has need.first) && not (has_node has need.second))) ≡ not (is_met has need)
-tested has need = by (has need.optional) need.first need.second
-  where
-    by : (b : Bool) (first second : Option ℕ) → (b && (not (has_node has first) && not (has_node has second))) ≡ not (not b || list_any has (option_to_list first ++ option_to_list second))
-    by false first second = refl
-    by true None None = refl
-    by true None (Some m) = one (has m)
-      where
-        one : (c : Bool) → not c ≡ not (c || false)
-        one true = refl
-        one false = refl
-    by true (Some n) None = one (has n)
-      where
-        one : (c : Bool) → (not c && true) ≡ not (c || false)
-        one true = refl
-        one false = refl
-    by true (Some n) (Some m) = two (has n) (has m)
-      where
-        two : (c d : Bool) → (not c && not d) ≡ not (c || (d || false))
-        two true d = refl
-        two false true = refl
-        two false false = refl
-
--- the nodes that can meet a need are below what it is below
-pub meeting-below : (n : ℕ) (need : Need) → is_need_below n need ≡ true → (need.optional < n) × IfSome need.first (λ o. o < n) × IfSome need.second (λ o. o < n)
-meeting-below n need below = (
-  ltb-true need.optional n (and_parts (nat_lt need.optional n) _ rest).0,
-  first need.first need.second nodes,
-  second need.first need.second nodes,
-)
-  where
-    rest : (nat_lt need.optional n && list_all (λ o. nat_lt o n) (meeting need)) ≡ true
-    rest = (and_parts (nat_lt 0 need.optional) _ below).1
-
-    nodes : list_all (λ o. nat_lt o n) (meeting need) ≡ true
-    nodes = (and_parts (nat_lt need.optional n) _ rest).1
-
-    first : (a b : Option ℕ) → list_all (λ o. nat_lt o n) (option_to_list a ++ option_to_list b) ≡ true → IfSome a (λ o. o < n)
-    first None b all = tt
-    first (Some o) b all = ltb-true o n (and_parts (nat_lt o n) _ all).0
-
-    second : (a b : Option ℕ) → list_all (λ o. nat_lt o n) (option_to_list a ++ option_to_list b) ≡ true → IfSome b (λ o. o < n)
-    second a None all = tt
-    second None (Some o) all = ltb-true o n (and_parts (nat_lt o n) _ all).0
-    second (Some m) (Some o) all = ltb-true o n (and_parts (nat_lt o n) _ (and_parts (nat_lt m n) _ all).1).0
 
 pub tested-met : (kept lent : List Bool) (need : Need) (result : Bool) → lent ≡ kept → result ≡ not (is_met (has_kept lent) need) → result ≡ false → is_met (has_kept kept) need ≡ true
 tested-met kept lent need result same tests is = not-false (is_met (has_kept kept) need) (sym (tests ∙ ap (λ k. not (is_met (has_kept k) need)) same) ∙ is)

@@ -1,31 +1,8 @@
 -- The marked optionals are those that a policy keeps.
 use Rattle.std.proofs.Common.{◌≡◌, inl, inr, ℕ, zero, suc, ◌+◌, ◌-◌, ◌<◌, ◌≤◌, ◌==◌, Bool, true, false, not, ◌&&◌, ◌||◌, nat_lt, List, [], ◌∷◌, ◌++◌, length, get_or, replicate, take, slice_get, position, Option, Some, None, is_some, bytes_eq, Contains, refl, sym, ap, ◌∙◌, subst, arith, true≢false, if◌then◌else◌}
-use Rattle.std.specs.List.{list_all, list_any}
-use Rattle.std.specs.Option.{option_or}
-use Rattle.std.proofs.lemmas.Bool.{cases_lt, lt-ltb, ltb-true, eqb-true, eq-eqb}
-use Rattle.std.proofs.lemmas.List.Quantifiers.{position-Some}
-use Rattle.std.proofs.lemmas.List.{get_or-take, get_or-replicate}
-use Rattle.std.proofs.lemmas.List.Folds.{list_all-append}
-use Rattle.std.proofs.lemmas.Option.{none-some, same_Some, slice_get_within, slice_get_cases, slice_get_read, get_or_from_slice_get}
-use Rattle.std.proofs.lemmas.Slice.Eq.{bytes_eq-Decides}
-use Rattle.cil_specs.specs.Statements.{is_optional}
-use Rattle.cil_specs.specs.Joined.{Placed}
-use Rattle.cil_specs.specs.Lookup.{Table, declares, declaration, outward, holds_of}
-use Rattle.cil_specs.specs.PolicyFault.{PolicyFault, twice, missing_words, IsFaultOf}
-use Rattle.cil_specs.specs.Kept.{Optionals, is_within, is_member, is_directly_in, has_innermost, is_optional_at, restricted, IsGood, AreKept, AreApart}
-use Rattle.cil_specs.proofs.Runs.{first_true, second_true, both_true}
+use Rattle.cil_optionals.proofs.Common.{list_all, list_any, option_or, cases_lt, lt-ltb, ltb-true, eqb-true, eq-eqb, position-Some, get_or-take, get_or-replicate, list_all-append, none-some, same_Some, slice_get_within, slice_get_cases, slice_get_read, get_or_from_slice_get, bytes_eq-Decides, is_optional, Placed, Table, declares, declaration, outward, holds_of, PolicyFault, twice, missing_words, IsFaultOf, Optionals, is_within, is_member, is_directly_in, has_innermost, is_optional_at, restricted, IsGood, AreKept, AreApart, first_true, second_true, both_true, rows-length, Row, any-position, is_met, are_met, is_need_below, meeting, IsInnermost, AreNested, mark_at, set_of, ShowsKept, declared_table, declared_text, is_naming, is_provided, AreOptionalsOf, AreNodesOf, further_out, IsDeclaration, IsProvidedBy, AreProviders, is_need_within, AreFoundWithin, AreOthers, Need}
 use Rattle.cil_bind.specs.Policy.{AreMarked}
 use Rattle.cil_bind.specs.Rows.{AreRows}
-use Rattle.cil_bind.proofs.DeclareLemmas.{rows-length}
-use Rattle.cil_bind.specs.declared.rows.Row.{Row}
-use Rattle.cil_bind.proofs.PositionLemmas.{any-position}
-use Rattle.cil_optionals.specs.Needs.{is_met, are_met, is_need_below, meeting}
-use Rattle.cil_bind.specs.Nested.{IsInnermost, AreNested}
-use Rattle.cil_optionals.specs.Nested.{mark_at, set_of, ShowsKept}
-use Rattle.cil_optionals.specs.Nodes.{declared_table, declared_text, is_naming, is_provided, AreOptionalsOf, AreNodesOf}
-use Rattle.cil_optionals.specs.Providers.{further_out, IsDeclaration, IsProvidedBy, AreProviders}
-use Rattle.cil_optionals.specs.Others.{is_need_within, AreFoundWithin, AreOthers}
-use Rattle.cil_optionals.specs.declared.greatest.Need.{Need}
 use Rattle.cil_optionals.proofs.FoundLemmas.{IsNamed, declared-named, found-passes}
 use Rattle.cil_optionals.proofs.ProviderLemmas.{provided-by, naming-declaration}
 

@@ -1,20 +1,9 @@
 -- Permissions of lists that classes are known to have.
 use Rattle.std.proofs.Common.{◌≡◌, ℕ, ◌&&◌, Bool, List, [], ◌∷◌, map, get_or, slice_get, Option, Some, refl, sym, ap, ◌∙◌, subst}
-use Rattle.std.specs.List.{list_all}
-use Rattle.std.proofs.lemmas.Option.{same_Some, get_or_from_slice_get}
-use Rattle.cil_specs.specs.Names.{Word}
-use Rattle.cil_specs.specs.Joined.{Placed}
-use Rattle.cil_specs.specs.Lookup.{texts}
-use Rattle.cil_parse.specs.Builder.{read}
+use Rattle.cil_optionals.proofs.Common.{list_all, same_Some, get_or_from_slice_get, Word, Placed, texts, read, NumberedWord, NamedModule, Policy, Row, IsOf, IsReady}
 use Rattle.cil_parse.specs.declared.parsed.ParsedModule.{ParsedModule}
-use Rattle.cil_parse.specs.declared.row.NumberedWord.{NumberedWord}
 use Rattle.cil_bind.specs.Scope.{IsFrom}
-use Rattle.cil_bind.specs.declared.joined.NamedModule.{NamedModule}
-use Rattle.cil_bind.specs.declared.policy.Policy.{Policy}
-use Rattle.cil_bind.specs.declared.rows.Row.{Row}
 use Rattle.cil_bind.proofs.FromLemmas.{from-at}
-use Rattle.cil_optionals.specs.Asks.{IsOf}
-use Rattle.cil_optionals.specs.Providers.{IsReady}
 
 some-words : (a b : List Word) → map {B = Option Word} Some a ≡ map Some b → a ≡ b
 some-words [] [] same = refl

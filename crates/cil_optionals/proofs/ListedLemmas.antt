@@ -1,21 +1,10 @@
 -- What is listed and given the other way round.
 use Rattle.std.proofs.Common.{◌≡◌, ℕ, zero, suc, ◌<◌, ◌==◌, ◌&&◌, ◌||◌, Bool, true, false, List, [], ◌∷◌, ◌++◌, length, set, position, replicate, get_or, slice_get, Option, Some, None, is_some, Vec, Result, Ok, Err, OnOk, OnErr, bytes_eq, refl, sym, ap, ◌∙◌, true≢false, arith, inl, inr, if◌then◌else◌}
-use Rattle.std.specs.List.{list_any}
-use Rattle.std.specs.Option.{option_or, option_and_then}
-use Rattle.std.proofs.lemmas.Bool.{eqb-true, eq-eqb, ne_eqb, cases_eq}
-use Rattle.std.proofs.lemmas.List.Folds.{list_any-append}
-use Rattle.std.proofs.lemmas.List.Quantifiers.{position-Some}
-use Rattle.std.proofs.lemmas.Option.{none-some, same_Some}
+use Rattle.cil_optionals.proofs.Common.{list_any, option_or, option_and_then, eqb-true, eq-eqb, ne_eqb, cases_eq, list_any-append, position-Some, none-some, same_Some, bytes_eq-Decides, first_true, second_true, has_name, with_name, at_if, position-append, any-position, lists, places_in, commons_at, listers_at, has_gift, given_at, IsInverse, AreAnswers, AreRecent, Permission}
 use Rattle.std.proofs.Math.Bool.{or-false}
-use Rattle.std.proofs.lemmas.Slice.Eq.{bytes_eq-Decides}
 use Rattle.indexmap.specs.IndexSet.{insert_key}
-use Rattle.cil_specs.proofs.Runs.{first_true, second_true}
-use Rattle.cil_specs.specs.Lookup.{has_name, with_name}
-use Rattle.cil_bind.proofs.PositionLemmas.{at_if, position-append, any-position}
-use Rattle.cil_optionals.specs.Given.{lists, places_in, commons_at, listers_at, has_gift, given_at, IsInverse, AreAnswers, AreRecent}
 use Rattle.cil_optionals.specs.declared.listed.Gift.{Gift}
 use Rattle.cil_optionals.specs.declared.listed.Listed.{Listed}
-use Rattle.cil_optionals.specs.declared.listed.Permission.{Permission}
 use Rattle.cil_optionals.specs.contracts.listed.GiftPartialEq.TheImpl as gift_eq
 use Rattle.cil_optionals.specs.contracts.listed.PermissionPartialEq.TheImpl as permission_eq
 use Rattle.cil_optionals.proofs.ListLemmas.{get-set_same, get-set_other}

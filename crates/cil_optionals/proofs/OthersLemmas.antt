@@ -1,30 +1,11 @@
 -- What statements and optionals inside others need.
 use Rattle.std.proofs.Common.{◌≡◌, ◌≢◌, inl, inr, ℕ, zero, suc, ◌+◌, ◌<◌, ◌≤◌, ◌==◌, Bool, true, false, not, ◌&&◌, ◌||◌, nat_lt, cond, List, [], ◌∷◌, ◌++◌, map, filter, length, get_or, slice_get, Some, None, refl, sym, ap, ◌∙◌, subst, arith, true≢false}
-use Rattle.std.specs.List.{list_all, list_any}
-use Rattle.std.proofs.lemmas.Bool.{cases_lt, lt-ltb, eqb-true}
-use Rattle.std.proofs.lemmas.List.Folds.{list_all-append}
-use Rattle.std.proofs.lemmas.Option.{same_Some, slice_get_within}
-use Rattle.cil_specs.specs.Statements.{is_optional}
-use Rattle.cil_specs.specs.Joined.{Placed}
-use Rattle.cil_specs.specs.Lookup.{references, named_permissions}
-use Rattle.cil_specs.specs.PolicyFault.{is_unfound, is_lacking, missing_words}
-use Rattle.cil_specs.specs.Kept.{Optionals, is_within, restricted, AreApart}
+use Rattle.cil_optionals.proofs.Common.{list_all, list_any, cases_lt, lt-ltb, eqb-true, list_all-append, same_Some, slice_get_within, is_optional, Placed, references, named_permissions, is_unfound, is_lacking, missing_words, Optionals, is_within, restricted, AreApart, first_true, second_true, both_true, Row, is_met, are_met, meeting, IsInnermost, AreNested, is_need_of, are_found, are_there, AddsNeed, Asks, IsOf, is_need_within, AreOthersTo, AreOthers, Need, IsReady, Word, Policy, NamedModule}
 use Rattle.cil_specs.proofs.KeptLemmas.{nil-append}
-use Rattle.cil_specs.proofs.Runs.{first_true, second_true, both_true}
-use Rattle.cil_bind.specs.declared.rows.Row.{Row}
-use Rattle.cil_optionals.specs.Needs.{is_met, are_met, meeting}
-use Rattle.cil_bind.specs.Nested.{IsInnermost, AreNested}
-use Rattle.cil_optionals.specs.Asks.{is_need_of, are_found, are_there, AddsNeed, Asks, IsOf}
-use Rattle.cil_optionals.specs.Others.{is_need_within, AreOthersTo, AreOthers}
-use Rattle.cil_optionals.specs.declared.greatest.Need.{Need}
 use Rattle.cil_optionals.proofs.KeptLemmas.{place-of, contains-place}
 use Rattle.cil_optionals.proofs.ProviderLemmas.{row-within, HasRow, innermost-low}
 use Rattle.cil_optionals.proofs.AsksLemmas.{asks-same, asks-need}
-use Rattle.cil_optionals.specs.Providers.{IsReady}
-use Rattle.cil_specs.specs.Names.{Word}
 use Rattle.cil_specs.proofs.RestrictedLemmas.{lacking-restricted}
-use Rattle.cil_bind.specs.declared.policy.Policy.{Policy}
-use Rattle.cil_bind.specs.declared.joined.NamedModule.{NamedModule}
 use Rattle.cil_bind.proofs.FromLemmas.{from-at, from-within, is-there}
 
 -- no words are missing where all names are found

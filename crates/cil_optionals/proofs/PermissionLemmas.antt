@@ -1,32 +1,12 @@
 -- The permissions of classes.
 use Rattle.std.proofs.Common.{◌≡◌, ℕ, zero, suc, ◌+◌, ◌<◌, ◌≤◌, ◌==◌, ◌&&◌, ◌||◌, not, Bool, true, false, List, [], ◌∷◌, ◌++◌, map, flat_map, length, take, position, get_or, slice_get, Option, Some, None, bytes_eq, refl, sym, ap, ◌∙◌, true≢false, add-one, arith, inl, inr, if◌then◌else◌}
-use Rattle.std.specs.List.{list_all, list_any}
-use Rattle.std.proofs.lemmas.Option.{none-some, same_Some, get_or_from_slice_get, slice_get-get_or}
-use Rattle.std.proofs.lemmas.Bool.{eqb-true, eq-eqb, ne_eqb, cases_eq}
-use Rattle.std.proofs.lemmas.List.{take_all}
-use Rattle.std.proofs.lemmas.List.Folds.{list_any-append}
-use Rattle.std.proofs.lemmas.List.Quantifiers.{position-Some}
+use Rattle.cil_optionals.proofs.Common.{list_all, list_any, none-some, same_Some, get_or_from_slice_get, slice_get-get_or, eqb-true, eq-eqb, ne_eqb, cases_eq, take_all, list_any-append, position-Some, bytes_eq-Decides, Word, Form, class_common, rule, itself, the_named, Placed, is_lacking, first_true, second_true, both_true, one-namespace, IsFirstOf, IsLead, names-next, spread, own-listed, none-listed, take-length, take-last, any-last, NumberedWord, are_there, lists, commons_at, gift, given_at, last_bound, is_rule, gives_common, lists_at, common_passes, gives_passing, permissions_in, IsUpTo, SeenPermissions, HavePermissions, Permission}
 use Rattle.std.proofs.Math.Bool.{or-false}
-use Rattle.std.proofs.lemmas.Slice.Eq.{bytes_eq-Decides}
 use Rattle.indexmap.specs.IndexSet.{insert_key}
-use Rattle.cil_specs.specs.Names.{Word}
-use Rattle.cil_specs.specs.Statements.{Form, class_common, rule, itself, the_named}
-use Rattle.cil_specs.specs.Joined.{Placed}
 use Rattle.cil_specs.specs.Lookup.{Table, classes, commons, declared_in, declares, same_namespace, is_word, is_same, word_text, holds_of, leads, references, named_permissions, texts, own_permissions, has_name, listed_by, gives_common as gives_common_to, common_permissions, permissions_of}
-use Rattle.cil_specs.specs.PolicyFault.{is_lacking}
-use Rattle.cil_specs.proofs.Runs.{first_true, second_true, both_true}
-use Rattle.cil_specs.proofs.DeclaredLemmas.{one-namespace}
 use Rattle.cil_bind.specs.Binding.{AreLeads}
-use Rattle.cil_bind.specs.Lookup.{IsFirstOf, IsLead}
-use Rattle.cil_bind.proofs.PermissionLemmas.{names-next, spread, own-listed, none-listed}
-use Rattle.cil_bind.proofs.PositionLemmas.{take-length, take-last, any-last}
 use Rattle.cil_bind.specs.Listing.{lists_own}
 use Rattle.cil_parse.specs.Forms.{kind_of, permissions_in as listed_in}
-use Rattle.cil_parse.specs.declared.row.NumberedWord.{NumberedWord}
-use Rattle.cil_optionals.specs.Asks.{are_there}
-use Rattle.cil_optionals.specs.Given.{lists, commons_at, gift, given_at, last_bound, is_rule, gives_common, lists_at, common_passes, gives_passing, permissions_in, IsUpTo}
-use Rattle.cil_optionals.specs.Permissions.{SeenPermissions, HavePermissions}
-use Rattle.cil_optionals.specs.declared.listed.Permission.{Permission}
 use Rattle.cil_optionals.specs.declared.listed.Listed.{Listed}
 use Rattle.cil_optionals.specs.contracts.listed.PermissionPartialEq.TheImpl as permission_eq
 
@@ -62,9 +42,6 @@ pub words-next : (list : List Word) (k : ℕ) (w : Word) (place i : ℕ) (name :
 words-next list k w place i name first old new at so_far added =
     added ∙ ap (λ b. b || (i == place && bytes_eq name w.text)) so_far ∙ spread first (i == place) (has_name (texts (take k list)) name) (bytes_eq name w.text)
     ∙ ap (λ b. first || (i == place && b)) (sym (names-next list k w name at))
-
-pub words-none : (list : List Word) (place i : ℕ) (name : List ℕ) (first : Bool) → first ≡ (first || (i == place && has_name (texts (take 0 list)) name))
-words-none list place i name first = sym (ap (λ b. first || b) (and-false (i == place)) ∙ or-false first)
 
 -- what is read behind the end of words
 abbrev pub no_word : NumberedWord

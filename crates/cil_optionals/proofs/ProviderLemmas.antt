@@ -1,31 +1,9 @@
 -- What the nodes of names need is met by what is found.
 use Rattle.std.proofs.Common.{◌≡◌, ◌⊎◌, inl, inr, ℕ, zero, suc, ◌+◌, ◌<◌, ◌≤◌, Bool, true, false, not, ◌&&◌, ◌||◌, nat_lt, cond, List, [], ◌∷◌, ◌++◌, length, get_or, slice_get, find, Option, Some, None, is_some, refl, sym, ap, ◌∙◌, subst, arith, true≢false, if◌then◌else◌}
-use Rattle.std.specs.List.{list_all, list_any}
-use Rattle.std.proofs.lemmas.Bool.{cases_lt, lt-ltb}
-use Rattle.std.proofs.lemmas.Option.{none-some, same_Some, slice_get_within, slice_get_cases, slice_get_read}
-use Rattle.std.proofs.lemmas.List.Folds.{list_all-append}
-use Rattle.std.proofs.lemmas.Slice.Eq.{bytes_eq-Decides}
-use Rattle.cil_specs.specs.Names.{Word}
-use Rattle.cil_specs.specs.Statements.{Form, block, optional, type_name, type_alias, alias_actual, type_attribute, attribute_set, common, class, class_common, class_order, rule}
-use Rattle.cil_specs.specs.Joined.{Placed}
-use Rattle.cil_specs.specs.Lookup.{Table, scopes, declared_in, is_word, same_namespace, word_text, declares, declaration, outward, holds_of}
-use Rattle.cil_specs.specs.PolicyFault.{PolicyFault, twice, IsFaultOf}
-use Rattle.cil_specs.specs.Kept.{Optionals, is_within, restricted, AreApart}
-use Rattle.cil_specs.proofs.Runs.{first_true, second_true, both_true}
-use Rattle.cil_specs.proofs.DeclaredLemmas.{AtMostOne, declared-once}
-use Rattle.cil_bind.specs.Lookup.{namespace_at, word_at, table_of, IsLead}
+use Rattle.cil_optionals.proofs.Common.{list_all, list_any, cases_lt, lt-ltb, none-some, same_Some, slice_get_within, slice_get_cases, slice_get_read, list_all-append, bytes_eq-Decides, Word, Form, block, optional, type_name, type_alias, alias_actual, type_attribute, attribute_set, common, class, class_common, class_order, rule, Placed, Table, scopes, declared_in, is_word, same_namespace, word_text, declares, declaration, outward, holds_of, PolicyFault, twice, IsFaultOf, Optionals, is_within, restricted, AreApart, first_true, second_true, both_true, AtMostOne, declared-once, namespace_at, word_at, table_of, IsLead, Row, Policy, NamedModule, same_namespace-refl, row-at, rows-length, is_met, are_met, is_need_below, meeting, IsInnermost, AreNested, declared_table, declared_text, is_naming, is_provided, AreOptionalsOf, AreNodesOf, further_out, alternatives, IsReady, IsDeclaration, IsProvidedBy, AreProviders, Need}
 use Rattle.cil_bind.specs.Rows.{IsRow, IsDeclared}
-use Rattle.cil_bind.specs.declared.rows.Row.{Row}
-use Rattle.cil_bind.specs.declared.policy.Policy.{Policy}
-use Rattle.cil_bind.specs.declared.joined.NamedModule.{NamedModule}
-use Rattle.cil_bind.proofs.DeclareLemmas.{same_namespace-refl, row-at, rows-length}
 use Rattle.cil_parse.specs.declared.table.Table as code
 use Rattle.cil_parse.specs.declared.table.Table.TheVariants.{Types, Classes, Commons, Scopes}
-use Rattle.cil_optionals.specs.Needs.{is_met, are_met, is_need_below, meeting}
-use Rattle.cil_bind.specs.Nested.{IsInnermost, AreNested}
-use Rattle.cil_optionals.specs.Nodes.{declared_table, declared_text, is_naming, is_provided, AreOptionalsOf, AreNodesOf}
-use Rattle.cil_optionals.specs.Providers.{further_out, alternatives, IsReady, IsDeclaration, IsProvidedBy, AreProviders}
-use Rattle.cil_optionals.specs.declared.greatest.Need.{Need}
 use Rattle.cil_optionals.proofs.FoundLemmas.{either-some, table-of, naming-of, declaration-within, outward-provided}
 
 -- the number of the innermost optional is that of a place of the policy, or 0

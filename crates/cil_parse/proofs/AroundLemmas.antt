@@ -1,9 +1,8 @@
 -- The statements of a module one behind the other are those of the joined policy.
 use Rattle.std.proofs.Common.{◌≡◌, ℕ, zero, suc, ◌+◌, ◌≤◌, List, [], ◌∷◌, ◌++◌, length, slice_get, Some, refl, sym, ap, subst, ◌∙◌, append_assoc, append-nil, add-one, length-append, arith}
-use Rattle.cil_specs.specs.Statements.{Form, block, optional, type_name, type_alias, alias_actual, type_attribute, attribute_set, common, class, class_common, class_order, rule, Statements, no_more, statement}
+use Rattle.cil_parse.proofs.Common.{Form, block, optional, type_name, type_alias, alias_actual, type_attribute, attribute_set, common, class, class_common, class_order, rule, Statements, no_more, statement, FlatStatement, block_inside, optional_inside, count, flat}
 use Rattle.cil_specs.specs.Joined.{Placed, placed, namespace_inside, optionals_inside}
-use Rattle.cil_parse.specs.Flat.{FlatStatement, block_inside, optional_inside, count, flat}
-use Rattle.cil_parse.specs.Around.{IsBlockOf, IsOptionalOf, IsPlacedAs, ArePlacedAs}
+use Rattle.cil_parse.specs.Around.{IsBlockOf, IsOptionalOf, ArePlacedAs}
 use Rattle.cil_parse.proofs.FlatLemmas.{length-flat}
 
 block-later : (all : List Placed) (low high n : ℕ) (namespace : List (List ℕ)) → low ≤ high → IsBlockOf all low n namespace → IsBlockOf all high n namespace
@@ -101,14 +100,3 @@ placed-part name all before after namespace optionals in_block in_optional n (st
 -- the statements of a module are those of its joined policy
 pub placed-flat : (name : List ℕ) (s : Statements) → ArePlacedAs (placed name [] [] s) 0 (flat 0 0 0 s) (placed name [] [] s)
 placed-flat name s = placed-part name (placed name [] [] s) [] [] [] [] 0 0 0 s (sym (append-nil _)) refl refl refl
-
--- one of them
-pub placed-at : (all : List Placed) (index : ℕ) (list : List FlatStatement) (statements : List Placed) (i : ℕ) (f : FlatStatement) → ArePlacedAs all index list statements → slice_get list i ≡ Some f
-    → (s : Placed) × (slice_get statements i ≡ Some s) × IsPlacedAs all (index + i) f s
-placed-at all index [] statements i f are here = cc
-placed-at all index (g ∷ list) [] i f are here = absurd are
-placed-at all index (g ∷ list) (s ∷ statements) zero f are here =
-    (s, refl, subst (λ g. IsPlacedAs all (index + 0) g s) (let e : g ≡ f = cc in e) (subst (λ k. IsPlacedAs all k g s) (let e : index ≡ index + 0 = omega arith in e) are.0))
-placed-at all index (g ∷ list) (s ∷ statements) (suc i) f are here =
-    let (found, at, is) = placed-at all (index + 1) list statements i f are.1 here in
-    (found, at, subst (λ k. IsPlacedAs all k f found) (let e : index + 1 + i ≡ index + suc i = omega arith in e) is)

@@ -1,20 +1,10 @@
 -- Words and nodes that come to what was gone over.
 use Rattle.std.proofs.Common.{◌≡◌, ℕ, suc, ◌+◌, ◌<◌, List, [], ◌∷◌, ◌++◌, map, length, get_or, drop, take, Option, Some, None, slice_get, refl, sym, ap, subst, ◌∙◌, append_assoc, append-nil, add-one}
-use Rattle.std.specs.Option.{option_map}
+use Rattle.cil_parse.proofs.Common.{option_map, map-append, take_more, Word, with_name, leaves, place_of, word_of, expr_of, texts_in, Keeps, IsLexicon, expr_nodes, words_in, read, row_of, IsAt, Adds, AddsExpr, Builder, NumberedWord}
 use Rattle.std.proofs.Math.Seq.{drop-cons}
-use Rattle.std.proofs.lemmas.List.{map-append, take_more}
-use Rattle.cil_specs.specs.Names.{Word}
-use Rattle.cil_specs.specs.Lookup.{with_name}
-use Rattle.cil_specs.specs.Expr.{leaves}
-use Rattle.cil_text.specs.Image.{place_of, word_of, expr_of}
 use Rattle.cil_text.specs.Expr.{exprs_of}
 use Rattle.cil_text.specs.declared.statement.Expr as code
 use Rattle.cil_text.specs.declared.word.Word as code_words
-use Rattle.cil_parse.specs.Lexicon.{texts_in, Keeps, IsLexicon}
-use Rattle.cil_parse.specs.Forms.{expr_nodes, words_in}
-use Rattle.cil_parse.specs.Builder.{read, row_of, IsAt, Adds, AddsExpr}
-use Rattle.cil_parse.specs.declared.builder.Builder.{Builder}
-use Rattle.cil_parse.specs.declared.row.NumberedWord.{NumberedWord}
 use Rattle.cil_parse.specs.declared.row.SetNode.{SetNode}
 use Rattle.cil_parse.specs.declared.row.SetNode.TheVariants as nodes
 use Rattle.cil_parse.proofs.LexiconLemmas.{each-keeps, each-append, lists-keep, with_name-keeps}
@@ -50,18 +40,6 @@ adds-word old new text n word found is texts lexicon words nodes rows = record {
         open_nodes = ap (λ s. s.1) nodes ∙ at.open_nodes ∙ sym (append-nil in_front);
         rows = ap (λ r. map row_of r.items) rows ∙ at.rows;
       };
-}
-
-pub adds-node : {A : Type 0} (old new : Builder A) (node : SetNode) → new.lexicon ≡ old.lexicon → new.words ≡ old.words → new.nodes ≡ (old.nodes.0, old.nodes.1 ++ node ∷ []) → new.rows ≡ old.rows → Adds old new [] (node ∷ [])
-adds-node old new node lexicon words nodes rows = record {
-  goes = λ list before in_front at. record {
-    is_lexicon = subst IsLexicon (sym lexicon) at.is_lexicon;
-    closed_words = ap (λ w. map (map (read (texts_in new.lexicon))) w.0) words ∙ ap (λ l. map (map (read (texts_in l))) old.words.0) lexicon ∙ at.closed_words;
-    open_words = ap (λ w. map (read (texts_in new.lexicon)) w.1) words ∙ ap (λ l. map (read (texts_in l)) old.words.1) lexicon ∙ at.open_words ∙ ap (map Some) (sym (append-nil before));
-    closed_nodes = ap (λ s. s.0) nodes ∙ at.closed_nodes;
-    open_nodes = ap (λ s. s.1) nodes ∙ ap (λ l. l ++ node ∷ []) at.open_nodes;
-    rows = ap (λ r. map row_of r.items) rows ∙ at.rows;
-  };
 }
 
 -- one word more of those of a list

@@ -1,18 +1,13 @@
 -- Statements one behind the other.
 use Rattle.std.proofs.Common.{◌≡◌, ℕ, suc, ◌+◌, ◌<◌, List, [], ◌∷◌, ◌++◌, Vec, length, get_or, take, refl, sym, ap, ◌∙◌, append_assoc, append-nil, arith, length-append, false, if◌then◌else◌}
-use Rattle.std.proofs.lemmas.List.{take_more}
-use Rattle.cil_specs.specs.Statements.{Statements, no_more, statement}
-use Rattle.cil_text.specs.Image.{statement_then, row_statements, statements_of}
-use Rattle.cil_text.specs.Form.{form_of, at_of, has_body}
+use Rattle.cil_parse.proofs.Common.{take_more, Statements, no_more, statement, statement_then, row_statements, statements_of, form_of, at_of, has_body, Statement, Block', Optional', TypeName, TypeAlias, TypeAliasActual, TypeAttribute, TypeAttributeSet, Common, Class, ClassCommon, ClassOrder, Rule, FlatStatement, block_inside, optional_inside, count, flat}
 use Rattle.cil_text.specs.declared.place.Place as code
 use Rattle.cil_text.specs.declared.word.Word as words
-use Rattle.cil_text.specs.declared.statement.Statement.{Statement, Block', Optional', TypeName, TypeAlias, TypeAliasActual, TypeAttribute, TypeAttributeSet, Common, Class, ClassCommon, ClassOrder, Rule}
 use Rattle.cil_text.specs.declared.statement.Statement.TheVariants.{Block, Optional}
 use Rattle.cil_text.specs.declared.statement.Statement.TheViews.{size-Statement, sized-Block, sized-Optional}
 use denote.Param.Weighed.{most, at_most}
 use Rattle.cil_text.proofs.Rows.{block_then, optional_then}
 use Rattle.cil_text.proofs.Bodies.{leaf_then}
-use Rattle.cil_parse.specs.Flat.{FlatStatement, block_inside, optional_inside, count, flat}
 
 -- the statements inside one
 inside_of : {A : Type 0} → Statement A → Statements

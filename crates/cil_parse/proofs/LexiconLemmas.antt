@@ -1,14 +1,8 @@
 -- Numbers of names that stay, and those that come.
-use Rattle.std.proofs.Common.{◌≡◌, ℕ, zero, suc, Bool, true, false, not, true≢false, ◌||◌, List, [], ◌∷◌, ◌++◌, map, Bor, Option, Some, slice_get, bytes_eq, refl, sym, ap, subst, ◌∙◌, if◌then◌else◌}
-use Rattle.std.specs.List.{list_any}
-use Rattle.std.specs.Option.{option_map}
-use Rattle.std.proofs.lemmas.List.{map-append}
-use Rattle.std.proofs.lemmas.Option.{slice_get-map}
-use Rattle.std.proofs.lemmas.Slice.Eq.{bytes_eq-Decides}
+use Rattle.std.proofs.Common.{◌≡◌, ℕ, zero, suc, Bool, true, false, not, true≢false, List, [], ◌∷◌, ◌++◌, map, Bor, Option, Some, slice_get, bytes_eq, refl, sym, ap, subst, ◌∙◌, if◌then◌else◌}
+use Rattle.cil_parse.proofs.Common.{map-append, has_name, with_name, seen, Keeps, AreNumbersOf}
 use Rattle.indexmap.specs.IndexSet.{insert_key}
-use Rattle.cil_specs.specs.Lookup.{has_name, with_name}
 use Rattle.cil_names.proofs.TextLemmas.{stored-text, with_name-texts}
-use Rattle.cil_parse.specs.Lexicon.{seen, Keeps, AreNumbersOf}
 
 abbrev pub Name : Type 0
 Name = Bor (List ℕ)

@@ -1,21 +1,8 @@
 -- What a parsed module shows.
 use Rattle.std.proofs.Common.{◌≡◌, ℕ, ◌<◌, List, [], map, length, get_or, Some, slice_get, sym, ap, ◌∙◌, arith, map-id}
-use Rattle.std.specs.Option.{option_map}
-use Rattle.std.proofs.lemmas.List.{length-map}
-use Rattle.std.proofs.lemmas.Option.{same_Some, slice_get-map, slice_get-get_or}
-use Rattle.cil_specs.specs.Names.{components}
-use Rattle.cil_specs.specs.Statements.{Statements}
-use Rattle.cil_text.specs.Image.{place_of}
-use Rattle.cil_parse.specs.Lexicon.{texts_in, AreNumbersOf, AreSplit}
-use Rattle.cil_parse.specs.Forms.{words_in, nodes_in, kind_of}
-use Rattle.cil_parse.specs.Flat.{FlatStatement, flat, count}
-use Rattle.cil_parse.specs.Builder.{read, row_of, row_for, IsAt}
+use Rattle.cil_parse.proofs.Common.{option_map, length-map, same_Some, slice_get-map, slice_get-get_or, components, Statements, place_of, texts_in, AreNumbersOf, AreSplit, words_in, nodes_in, kind_of, FlatStatement, flat, count, read, row_of, row_for, IsAt, IsShown, Builder, StatementView, Row}
 use Rattle.cil_parse.specs.Parsed.{texts_of, statement_count, Spells, IsOwned}
-use Rattle.cil_parse.specs.View.{IsShown}
-use Rattle.cil_parse.specs.declared.builder.Builder.{Builder}
 use Rattle.cil_parse.specs.declared.parsed.ParsedModule.{ParsedModule}
-use Rattle.cil_parse.specs.declared.view.StatementView.{StatementView}
-use Rattle.cil_parse.specs.declared.row.Row.{Row}
 use Rattle.cil_parse.proofs.FlatLemmas.{length-flat}
 
 pub same-length : {X Y Z : Type 0} (f : X → Z) (g : Y → Z) (xs : List X) (ys : List Y) → map f xs ≡ map g ys → length xs ≡ length ys

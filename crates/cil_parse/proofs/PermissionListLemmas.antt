@@ -1,27 +1,10 @@
 -- The lists of permissions of statements by their numbers.
 use Rattle.std.proofs.Common.{◌≡◌, ℕ, zero, suc, ◌+◌, ◌<◌, List, [], ◌∷◌, ◌++◌, map, length, get_or, take, drop, Option, Some, None, slice_get, refl, sym, ap, ◌∙◌, arith}
-use Rattle.std.proofs.lemmas.List.{drop-map}
-use Rattle.std.specs.Option.{option_map}
-use Rattle.std.proofs.lemmas.List.{length-map, get_or-map}
-use Rattle.std.proofs.lemmas.Option.{same_Some, slice_get_within, get_or_from_slice_get}
-use Rattle.cil_text.specs.Image.{place_of}
-use Rattle.cil_parse.specs.Flat.{flat}
+use Rattle.cil_parse.proofs.Common.{drop-map, option_map, length-map, get_or-map, same_Some, slice_get_within, get_or_from_slice_get, place_of, flat, Statements, Word, texts, itself, the_named, Form, block, optional, type_name, type_alias, alias_actual, type_attribute, attribute_set, common, class, class_common, class_order, rule, read, kind_of, words_in, permissions_in, FlatStatement, permission_words, permission_texts, IsShown, NumberedWord, Row, StatementView}
 use Rattle.cil_parse.specs.Parsed.{texts_of, permission_lists_of, statement_count, Spells}
 use Rattle.cil_parse.specs.declared.parsed.ParsedModule.{ParsedModule}
 use Rattle.cil_parse.proofs.ParsedLemmas.{same-length, same-at, shown}
-use Rattle.cil_specs.specs.Statements.{Statements}
-use Rattle.cil_specs.specs.Names.{Word}
-use Rattle.cil_specs.specs.Lookup.{texts}
-use Rattle.cil_specs.specs.Statements.{itself, the_named, Form, block, optional, type_name, type_alias, alias_actual, type_attribute, attribute_set, common, class, class_common, class_order, rule}
-use Rattle.cil_parse.specs.Builder.{read}
-use Rattle.cil_parse.specs.Forms.{kind_of, words_in, permissions_in}
-use Rattle.cil_parse.specs.Flat.{FlatStatement}
-use Rattle.cil_parse.specs.PermissionLists.{permission_words, permission_texts}
-use Rattle.cil_parse.specs.View.{IsShown}
-use Rattle.cil_parse.specs.declared.row.NumberedWord.{NumberedWord}
-use Rattle.cil_parse.specs.declared.row.Row.{Row}
 use Rattle.cil_parse.specs.declared.row.StatementKind.TheVariants as kinds
-use Rattle.cil_parse.specs.declared.view.StatementView.{StatementView}
 
 -- the text of a word that is read
 text-read : (all : List (List ℕ)) (w : NumberedWord) (x : Word) → read all w ≡ Some x → get_or all w.text [] ≡ x.text

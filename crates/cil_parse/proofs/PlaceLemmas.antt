@@ -1,18 +1,9 @@
 -- Statements that come to what was gone over.
 use Rattle.std.proofs.Common.{◌≡◌, ℕ, ◌+◌, ◌<◌, List, [], ◌∷◌, ◌++◌, Vec, length, get_or, take, refl, sym, ap, subst, ◌∙◌, append_assoc, append-nil, length-append, false}
-use Rattle.std.proofs.lemmas.List.{length-map}
-use Rattle.cil_specs.specs.Statements.{no_more}
-use Rattle.cil_text.specs.Image.{statement_then, statements_of}
-use Rattle.cil_text.specs.Form.{form_of, has_body}
+use Rattle.cil_parse.proofs.Common.{length-map, no_more, statement_then, statements_of, form_of, has_body, Statement, FlatStatement, flat, IsAt, Closes, Puts, Places, top, row_of, row_for, AddsForm, Builder, Around, Row}
 use Rattle.cil_text.specs.declared.place.Place as code
 use Rattle.cil_text.specs.declared.word.Word as words
-use Rattle.cil_text.specs.declared.statement.Statement.{Statement}
 use Rattle.cil_text.specs.declared.statement.Statement.TheVariants.{Block, Optional}
-use Rattle.cil_parse.specs.Flat.{FlatStatement, flat}
-use Rattle.cil_parse.specs.Builder.{IsAt, Closes, Puts, Places, top, row_of, row_for, AddsForm}
-use Rattle.cil_parse.specs.declared.builder.Builder.{Builder}
-use Rattle.cil_parse.specs.declared.row.Around.{Around}
-use Rattle.cil_parse.specs.declared.row.Row.{Row}
 use Rattle.cil_parse.proofs.FlatLemmas.{head_of, flat-next, flat-leaf, flat-block, flat-optional}
 
 pub places-none : {A : Type 0} (b : Builder A) (around : Around) → Places b b around no_more

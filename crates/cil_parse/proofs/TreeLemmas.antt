@@ -3,14 +3,9 @@ use Rattle.std.proofs.Common.{◌≡◌, ◌<◌, List, [], ◌∷◌, ◌++◌,
 use Rattle.std.proofs.Math.Seq.{take-append_seam, take-append-add, get_or-append_seam}
 use Rattle.cil_specs.specs.TextFault.{TextFault}
 use Rattle.cil_specs.specs.Trees.{Trees, none, are_lists}
-use Rattle.cil_text.specs.Image.{statements_of}
-use Rattle.cil_text.specs.Walk.{IsInFront, IsFirstAmong}
-use Rattle.cil_text.specs.declared.statement.Statement.{Statement}
+use Rattle.cil_parse.proofs.Common.{statements_of, IsInFront, IsFirstAmong, Statement, Places, Builder, Around}
 use Rattle.cil_text.proofs.WalkLemmas.{AreFound, found_start, found_more, found_end}
-use Rattle.cil_parse.specs.Builder.{Places}
 use Rattle.cil_parse.specs.FromTrees.{PlacesTrees}
-use Rattle.cil_parse.specs.declared.builder.Builder.{Builder}
-use Rattle.cil_parse.specs.declared.row.Around.{Around}
 use Rattle.cil_parse.proofs.PlaceLemmas.{places-none, places-next}
 
 -- one statement more

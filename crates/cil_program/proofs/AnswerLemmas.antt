@@ -1,20 +1,14 @@
 -- What answers an edit and a batch.
 use Rattle.std.proofs.Common.{◌≡◌, ◌++◌, List, codes, decimal, Option, Some, Result, Ok, Err, IfOk, IfErr, refl, ap, sym, ◌∙◌, subst}
-use Rattle.cil_specs.specs.Report.{Changes}
+use Rattle.cil_program.proofs.Common.{Changes, Store, a_batch, an_edit, changed_by, refused, Step, makes, commits, Answer, answer_of, a_line, Batch, HeldEdits, all_held, IsHeld, makes_all, state_of, by_the_edit, by_holding, by_the_batch, edit_of, refusal_of, counts_line, Does, AnswersBatch, Makes}
 use Rattle.cil_counters.specs.ChangeCounts.{AreCountsOf, CountsSome}
 use Rattle.cil_symbol_changes.specs.declared.counted_changes.ChangeCounts.{ChangeCounts}
-use Rattle.cil_store_specs.specs.Store.{Store}
 use Rattle.cil_store_specs.specs.Next as spec
-use Rattle.cil_store_specs.specs.Run.{a_batch, an_edit, changed_by, refused, Step}
-use Rattle.cil_store_specs.specs.Script.{makes, commits}
-use Rattle.cil_store_specs.specs.Answers.{Answer, answer_of, a_line, Batch, HeldEdits, all_held, IsHeld, makes_all, state_of, by_the_edit, by_holding, by_the_batch}
 use Rattle.cil_store_specs.specs.Answers as answers
-use Rattle.cil_store.specs.Edits.{edit_of, name_of, refusal_of}
+use Rattle.cil_store.specs.Edits.{name_of}
 use Rattle.cil_store.specs.declared.edit.Edit.{Edit}
 use Rattle.cil_store.specs.declared.edit.Edit.TheVariants.{Install, Remove, Enable, Disable}
 use Rattle.cil_store.specs.declared.refusal.Refusal.{Refusal}
-use Rattle.cil_program.specs.Reply.{counts_line}
-use Rattle.cil_program.specs.Session.{Does, AnswersBatch, Makes}
 
 -- an edit has one name
 pub same-name : (edit : Edit) → name_of edit ≡ answers.name_of (edit_of edit)

@@ -1,15 +1,10 @@
 -- The batch of a session.
 use Rattle.std.proofs.Common.{◌≡◌, ◌++◌, ◌∷◌, [], ℕ, ◌+◌, ◌≤◌, ◌||◌, Bool, true, false, nat_le, List, length, take, min, nat_lt, Option, Some, None, Ok, Err, refl, ap, sym, ◌∙◌, subst, length-append, length-take, arith}
-use Rattle.std.specs.List.{sum_by}
+use Rattle.cil_program.proofs.Common.{sum_by, take_all, Edit, install, remove, enable, disable, held_bytes, is_too_long, Batch, all_held, IsHeld, holds, passes_the_limits, has_no_memory, held_as, name_of, given_up, held_of, opened, held_answer, CanHold, IsOpen, Adds, IsGiven, TooLong, Memory}
 use Rattle.std.proofs.lemmas.Bool.{leb-true}
 use Rattle.std.proofs.lemmas.Bool.Decides.{nat_tests}
-use Rattle.std.proofs.lemmas.List.{take_all}
 use Rattle.std.proofs.lemmas.List.Sums.{sum_by-append, sum_by-cons}
-use Rattle.cil_store_specs.specs.Next.{Edit, install, remove, enable, disable, held_bytes, is_too_long}
-use Rattle.cil_store_specs.specs.Answers.{Batch, all_held, IsHeld, holds, passes_the_limits, has_no_memory, held_as, name_of}
-use Rattle.cil_program.specs.Batch.{given_up, held_of, opened, held_answer, CanHold, IsOpen, Adds, IsGiven}
 use Rattle.cil_program.specs.declared.script.batch.NotHeld.{NotHeld}
-use Rattle.cil_program.specs.declared.script.batch.NotHeld.TheVariants.{TooLong, Memory}
 
 -- a batch counts as much of an edit as it holds of it
 pub held-size : (edit : Edit) → held_bytes (held_as edit) ≡ held_bytes edit
@@ -83,13 +78,6 @@ has-room begin fault edits held len (b, found) size can =
     let c = can b found in
     let none = none-given_up fault edits c.0 (sym (ap (λ d. d.held) o.is) ∙ c.1) in
     subst (λ es. is_too_long (es ++ held ∷ []) ≡ false) none.1 (c.2 held size)
-
--- and all edits are held
-pub all-kept : (begin : Option ℕ) (fault : Option NotHeld) (edits : List Edit) (len : ℕ) → IsOpen (opened begin fault edits) → CanHold (opened begin fault edits) len → fault ≡ None
-all-kept begin fault edits len (b, found) can =
-    let o = opened-is begin fault edits b found in
-    let c = can b found in
-    (none-given_up fault edits c.0 (sym (ap (λ d. d.held) o.is) ∙ c.1)).0
 
 pub added : (begin : Option ℕ) (fault : Option NotHeld) (edits after : List Edit) (edit held : Edit) (len : ℕ) (done : Unit {0}) → held_as edit ≡ held → held_bytes held ≡ len → CanHold (opened begin fault edits) len → after ≡ edits ++ held ∷ []
     → Adds (opened begin fault edits) (opened begin fault after) edit (Ok done)

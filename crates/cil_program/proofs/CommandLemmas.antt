@@ -1,9 +1,6 @@
 -- The words of the lines that are no command's.
-use Rattle.std.proofs.Common.{◌≡◌, ℕ, true, List, [], ◌∷◌, ◌++◌, length, get_or, codes, decimal, refl, ap, sym, ◌∙◌, subst, arith}
-use Rattle.std.specs.List.{list_all, join_with_byte}
-use Rattle.cil_store_specs.specs.Next.{install, remove, enable, disable}
-use Rattle.cil_store_specs.specs.Script.{Command, makes, words_of, line_of, IsGoodName, IsShortNumber, HasGoodWords}
-use Rattle.cil_store_specs.proofs.WordLemmas.{is_no_space, number_of, text_of, command-of, first-is, other_words, same-words, plain-no-space, shown-plain, digits-plain}
+use Rattle.std.proofs.Common.{◌≡◌, ℕ, true, List, [], ◌∷◌, ◌++◌, length, get_or, codes, decimal, refl, ap, ◌∙◌, subst, arith}
+use Rattle.cil_program.proofs.Common.{list_all, join_with_byte, install, remove, Command, makes, words_of, line_of, IsGoodName, IsShortNumber, HasGoodWords, is_no_space, number_of, text_of, command-of, first-is, other_words, same-words, plain-no-space, shown-plain, digits-plain}
 
 -- what stands on the line of an install behind its first word
 pub record IsInstallRest (rest : List ℕ) : Type 0 where
@@ -49,22 +46,6 @@ remove-rest rest command good e =
     let words = subst HasGoodWords is good in
     let both = first-is (codes "remove") rest command good refl e in
     record { name = name; priority = priority; good_name = words.0; short_priority = words.1; is = both.1 ∙ ap (λ c. join_with_byte 32 (other_words c)) is }
-
--- of an enabling or a disabling stands a name
-pub enable-rest : (rest : List ℕ) (command : Command) → HasGoodWords command → codes "enable" ++ 32 ∷ rest ≡ line_of command → IsGoodName rest
-enable-rest rest command good e =
-    let is : command ≡ makes (enable (get_or (words_of command) 1 [])) = command-of (codes "enable") rest command good refl e in
-    subst IsGoodName (sym ((first-is (codes "enable") rest command good refl e).1 ∙ ap (λ c. join_with_byte 32 (other_words c)) is)) (subst HasGoodWords is good)
-
-pub disable-rest : (rest : List ℕ) (command : Command) → HasGoodWords command → codes "disable" ++ 32 ∷ rest ≡ line_of command → IsGoodName rest
-disable-rest rest command good e =
-    let is : command ≡ makes (disable (get_or (words_of command) 1 [])) = command-of (codes "disable") rest command good refl e in
-    subst IsGoodName (sym ((first-is (codes "disable") rest command good refl e).1 ∙ ap (λ c. join_with_byte 32 (other_words c)) is)) (subst HasGoodWords is good)
-
--- a list of no length is empty
-pub empty-list : (xs : List ℕ) → length xs ≡ 0 → xs ≡ []
-empty-list [] e = refl
-empty-list (x ∷ xs) e = absurd (omega (arith, e))
 
 -- the words of the line of an install behind its first word
 pub install-words : (first rest : List ℕ) (r : IsInstallRest (first ++ 32 ∷ rest)) → list_all is_no_space first ≡ true → (first ≡ r.name) × (rest ≡ decimal r.priority ++ 32 ∷ decimal r.size)

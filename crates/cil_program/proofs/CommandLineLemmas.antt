@@ -1,8 +1,6 @@
 -- Beginnings of texts that sinks take.
 use Rattle.std.proofs.Common.{ℕ, List, [], length, Option, Result, Ok, Err, OnErr, sym, subst, arith}
-use Rattle.std.proofs.lemmas.List.{take_all}
-use Rattle.cil_stream.specs.Device.{Gains, GainsFront}
-use Rattle.cil_stream.proofs.Gaining.{gains-none}
+use Rattle.cil_program.proofs.Common.{take_all, Gains, GainsFront, gains-none}
 
 -- nothing begins nothing
 pub front-none : (old : Option (List ℕ)) → GainsFront old old []

@@ -1,13 +1,8 @@
 -- Where the text of an install is short.
 use Rattle.std.proofs.Common.{◌≡◌, ℕ, Bool, true, List, [], ◌∷◌, ◌++◌, length, drop, get_or, replicate, inl, inr, IsTrue, ap, sym, ◌∙◌, append_assoc, length-append, arith}
-use Rattle.std.proofs.lemmas.List.{length-replicate}
-use Rattle.std.specs.List.{list_all}
-use Rattle.cil_store_specs.specs.Next.{install}
-use Rattle.cil_store_specs.specs.Script.{Command, makes, words_of, line_of, behind, HasGoodWords, IsNoCommand}
-use Rattle.cil_store_specs.proofs.WordLemmas.{stays, line-stays, lines-same, number_of, number-decimal, text_of, text-length, command-is, kind_of_word, command_by}
+use Rattle.cil_program.proofs.Common.{length-replicate, list_all, install, Command, makes, words_of, line_of, behind, HasGoodWords, IsNoCommand, line-stays, lines-same, number_of, number-decimal, text_of, text-length, command-is, kind_of_word, command_by, IsShort, AreGoodWords, install_line}
+use Rattle.cil_store_specs.proofs.WordLemmas.{stays}
 use Rattle.cil_store_specs.proofs.LineLemmas.{same-lines, has-feed, command-line}
-use Rattle.cil_program.specs.Input.{IsShort}
-use Rattle.cil_program.specs.Session.{AreGoodWords, install_line}
 
 -- texts of one length at the front of one list
 same-front : (first other rest more : List ℕ) → length first ≡ length other → first ++ rest ≡ other ++ more → rest ≡ more

@@ -1,18 +1,11 @@
 -- Bytes that are read one piece after another.
 use Rattle.std.proofs.Common.{IsTrue, Result, Ok, Err, IfOk, inl, inr, false, true, Bool, ◌≡◌, ◌≢◌, ℕ, ◌+◌, ◌-◌, ◌<◌, ◌≤◌, ◌^◌, min, nat_le, not, true≢false, List, [], ◌∷◌, ◌++◌, length, take, drop, OnErr, append-nil, length-take, length-drop, count_by, refl, ap, sym, ◌∙◌, subst, append_assoc, length-append, arith}
-use Rattle.std.specs.List.{list_all}
-use Rattle.std.proofs.lemmas.List.{take_all, take-append-le, take-append-drop, length-take-le}
+use Rattle.cil_program.proofs.Common.{list_all, take_all, take-append-le, take-append-drop, length-take-le, list_all-append, SourceFault, Account, Gives, HasEnded, has_ended, gains-both, gains-none, both_true, Held, Takes, Fits, HasRead, HasStopped, IsOther, IsWholeText, IsShort, stays}
 use Rattle.std.proofs.lemmas.List.Sums.{sum_by-append, count_by-le-length}
-use Rattle.std.proofs.lemmas.List.Folds.{list_all-append}
 use Rattle.std.proofs.lemmas.Bool.{eqb-true, le-leb, leb-true}
 use Rattle.std.proofs.lemmas.Bool.Decides.{nat_tests}
 use lib.Seq.{take-nil, drop-nil}
 use Rattle.cil_specs.specs.Place.{is_line_feed}
-use Rattle.cil_stream.specs.declared.source.SourceFault.{SourceFault}
-use Rattle.cil_stream.specs.Device.{Account, Gives, HasEnded, has_ended}
-use Rattle.cil_stream.proofs.Gaining.{gains-both, gains-none}
-use Rattle.cil_specs.proofs.Runs.{both_true}
-use Rattle.cil_program.specs.Input.{Held, Takes, Fits, HasRead, HasStopped, IsOther, IsWholeText, IsShort, stays}
 
 gives-both : (was mid is : Account) (first second : List ℕ) → Gives was mid first → Gives mid is second → Gives was is (first ++ second)
 gives-both was mid is first second a b = record {

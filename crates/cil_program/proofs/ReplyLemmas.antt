@@ -1,18 +1,9 @@
 -- The lines of reports, one after another.
 use Rattle.std.proofs.Common.{◌≡◌, ℕ, zero, suc, ◌+◌, ◌<◌, List, [], ◌∷◌, ◌++◌, length, map, flat_map, codes, take, Option, Some, None, Result, Ok, Err, IsErr, ◌≤◌, sym, ap, ◌∙◌, subst, length-append, arith}
-use Rattle.std.specs.List.{slice_get}
-use Rattle.std.proofs.lemmas.List.{length-map}
-use Rattle.std.proofs.lemmas.List.Folds.{flat_map-map}
+use Rattle.cil_program.proofs.Common.{slice_get, length-map, flat_map-map, HasFailed, Gains, GainsFront, Store, install_of, disable, makes, commits, command_bytes, end_line, dump_edits, dump_commands, dump_text, gains-both, gains-then_front, front-longer, gains-pieces_more, gains-pieces_front, failed-later, Writes, edit_command, install_command, disable_command}
 use Rattle.std.proofs.lemmas.Grind.{flat_map-append}
 use Rattle.std.proofs.lemmas.Option.{slice_get_within, get_or_from_slice_get}
 use Rattle.cil_stream.specs.declared.sink.SinkFault.{SinkFault}
-use Rattle.cil_stream.specs.Device.{HasFailed, Gains, GainsFront}
-use Rattle.cil_store_specs.specs.Store.{Store}
-use Rattle.cil_store_specs.specs.Next.{install_of, disable}
-use Rattle.cil_store_specs.specs.Script.{makes, commits, command_bytes, end_line, dump_edits, dump_commands, dump_text}
-use Rattle.cil_stream.proofs.Gaining.{gains-both, gains-then_front, front-longer, gains-pieces_more, gains-pieces_front, failed-later}
-use Rattle.cil_program.specs.Reply.{Writes}
-use Rattle.cil_program.specs.Dump.{edit_command, install_command, disable_command}
 
 -- the line of the next one
 pub line-more : {X : Type 0} (f : X → List ℕ) (old mid new : Option (List ℕ)) (xs : List X) (i : ℕ) (x : X) → Some x ≡ slice_get xs i → Gains old mid (flat_map f (take i xs)) → Gains mid new (f x) → Gains old new (flat_map f (take (i + 1) xs))

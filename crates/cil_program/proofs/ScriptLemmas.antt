@@ -1,23 +1,12 @@
 -- A session, one turn after another.
 use Rattle.std.proofs.Common.{◌≡◌, ◌≢◌, ℕ, ◌+◌, ◌-◌, ◌^◌, ◌<◌, ◌≤◌, ◌||◌, Bool, true, false, List, [], ◌∷◌, ◌++◌, length, take, drop, Some, flat_map, count_by, IsTrue, inl, inr, ◌==◌, refl, ap, sym, ◌∙◌, subst, append_assoc, append-nil, length-append, if◌then◌else◌, arith}
-use Rattle.std.specs.List.{list_any, AllByRecursion}
-use Rattle.std.proofs.lemmas.List.Folds.{list_any-append}
+use Rattle.cil_program.proofs.Common.{list_any, AllByRecursion, list_any-append, append_cancel_left, take-append-drop, Account, Gains, GainsFront, Gives, IsSound, IsLeft, has_ended, Store, Answer, state_of, Answers, lines_of, AnswersAll, Command, line_of, behind, command_bytes, IsCommand, Commands, End, ends, stops, whole, without_end, last_line, IsSession, last_end, all_accepted, some_refused, BeginsWith, whole_ones, all_of_it, all_whole, but_for_the_last, IsCutByWrite, gains-both, gains-none, Fits, Moment, Progress, Standing, Leaves, LeavesByRead, LeavesByWrite, status_of, Advances, outcome_of, after_answer, HasAnswered, HasBegun, IsTurn, IsTurnCut, Read, Write, Status}
 use Rattle.std.proofs.lemmas.Grind.{flat_map-append}
-use Rattle.std.proofs.lemmas.List.{append_cancel_left, take-append-drop}
 use Rattle.std.specs.Option.{option_map}
-use Rattle.cil_stream.specs.Device.{Account, Gains, GainsFront, Gives, IsSound, IsLeft, has_ended}
-use Rattle.cil_store_specs.specs.Store.{Store}
-use Rattle.cil_store_specs.specs.Answers.{Answer, state_of, Answers, lines_of, AnswersAll}
-use Rattle.cil_store_specs.specs.Script.{Command, line_of, behind, command_bytes, IsCommand, Commands, End, ends, stops, whole, without_end, last_line}
 use Rattle.cil_store_specs.specs.Session as spec
-use Rattle.cil_store_specs.specs.Session.{IsSession, last_end, all_accepted, some_refused, BeginsWith, whole_ones, all_of_it, all_whole, but_for_the_last, IsCutByWrite}
-use Rattle.cil_stream.proofs.Gaining.{gains-both, gains-none}
 use Rattle.cil_store_specs.proofs.RunLemmas.{line_behind, answers-more}
-use Rattle.cil_program.specs.Input.{Fits}
-use Rattle.cil_program.specs.Session.{Moment, Progress, Standing, Leaves, LeavesByRead, LeavesByWrite, status_of, Advances, outcome_of, after_answer, HasAnswered, HasBegun, IsReadOf, IsTurn, IsTurnCut}
-use Rattle.cil_program.specs.declared.script.session.SessionFault.TheVariants.{Read, Write}
+use Rattle.cil_program.specs.Session.{IsReadOf}
 use Rattle.cil_program.specs.declared.script.session.Turn.TheVariants as turns
-use Rattle.cil_program.specs.declared.script.session.Status.{Status}
 use Rattle.cil_program.specs.declared.script.session.Status.TheVariants as statuses
 use Rattle.cil_program.proofs.InputLemmas.{ended-now}
 use Rattle.cil_program.proofs.SessionLemmas.{stands, advances-both}

@@ -1,24 +1,13 @@
 -- A line of a script, and a turn of a session.
 use Rattle.std.proofs.Common.{◌≡◌, ◌≢◌, ℕ, ◌+◌, ◌≤◌, Bool, true, false, List, [], ◌∷◌, ◌++◌, length, IsTrue, IfErr, IsErr, IsErrAnd, Option, Result, Ok, Err, inl, inr, refl, ap, sym, ◌∙◌, subst, append_assoc, append-nil, length-append, true≢false, arith}
-use Rattle.std.specs.List.{list_all}
-use Rattle.std.proofs.lemmas.List.Folds.{list_all-append}
+use Rattle.cil_program.proofs.Common.{list_all, list_all-append, HasEnded, has_ended, install, remove, enable, disable, Answer, Answers, Command, makes, begins, commits, aborts, asks_rules, asks_violations, asks_dropped, asks_modules, asks_dump, line_of, behind, HasGoodWords, IsCommand, MayLackItsEnd, IsNoCommand, BeginsNoCommand, both_true, Fits, EndsLine, stays, Writes, Moment, Progress, Advances, outcome_of, HasAnswered, HasBegun, Tries, HasTold, HasToldSome, Does, AreGoodWords, install_line, IsInstallOutcome, IsInstallCut, IsWhole, IsBad, IsOutcome, IsLineCut, IsTurn, IsTurnCut, LineFeed, LastByte, SessionFault, Read, Write}
 use Rattle.cil_stream.specs.declared.sink.SinkFault.{SinkFault}
-use Rattle.cil_stream.specs.Device.{HasEnded, has_ended}
-use Rattle.cil_store_specs.specs.Next.{install, remove, enable, disable}
-use Rattle.cil_store_specs.specs.Answers.{Answer, Answers}
-use Rattle.cil_store_specs.specs.Script.{Command, makes, begins, commits, aborts, asks_rules, asks_violations, asks_dropped, asks_modules, asks_dump, line_of, behind, HasGoodWords, IsCommand, MayLackItsEnd, IsNoCommand}
-use Rattle.cil_store_specs.specs.Session.{BeginsNoCommand}
-use Rattle.cil_store_specs.proofs.LineLemmas.{has-feed, command-line, no-line-command, no-last-command, no-long-command}
-use Rattle.cil_specs.proofs.Runs.{both_true}
-use Rattle.cil_program.specs.Input.{Fits, EndsLine, stays}
-use Rattle.cil_program.specs.Reply.{Writes}
-use Rattle.cil_program.specs.Session.{Moment, Progress, Advances, Stops, outcome_of, HasAnswered, HasBegun, Tries, HasTold, HasToldSome, Does, AreGoodWords, install_line, IsInstallOutcome, IsInstallCut, IsWhole, IsBad, IsOutcome, IsLineCut, IsReadOf, IsTurn, IsTurnCut}
+use Rattle.cil_store_specs.proofs.LineLemmas.{no-line-command, no-last-command, no-long-command}
+use Rattle.cil_program.specs.Session.{IsReadOf}
 use Rattle.cil_program.specs.declared.script.input.LineEnd.{LineEnd}
-use Rattle.cil_program.specs.declared.script.input.LineEnd.TheVariants.{LineFeed, LastByte, TooLong}
+use Rattle.cil_program.specs.declared.script.input.LineEnd.TheVariants.{TooLong}
 use Rattle.cil_program.specs.declared.script.session.Outcome.{Outcome}
 use Rattle.cil_program.specs.declared.script.session.Outcome.TheVariants.{Accepted, Refused, NoCommand}
-use Rattle.cil_program.specs.declared.script.session.SessionFault.{SessionFault}
-use Rattle.cil_program.specs.declared.script.session.SessionFault.TheVariants.{Read, Write}
 use Rattle.cil_program.specs.declared.script.session.Turn.TheVariants as turns
 use Rattle.cil_program.proofs.InputLemmas.{reads-none, reads-both, stops-later, ended-within}
 use Rattle.cil_program.proofs.EndLemmas.{no-text-command}
@@ -75,12 +64,6 @@ good-words : (end : LineEnd) (line read : List ℕ) (now : Moment) (command : Co
 good-words LineFeed line read now command is short = (is.0, omega (arith, short, ap length is.1))
 good-words LastByte line read now command is short = (is.0, omega (arith, short, ap length is.2))
 good-words TooLong line read now command is short = absurd is
-
--- no end is forgotten at a line
-pub outcome-ends : (outcome : Outcome) (number : ℕ) (end : LineEnd) (line : List ℕ) (old now : Moment) (before after : Progress) → IsOutcome outcome number end line old now before after → old.account.ends ≤ now.account.ends
-outcome-ends NoCommand number end line old now before after is = is.1.takes.gives.ends
-outcome-ends Accepted number end line old now before after is = is.2.takes.gives.ends
-outcome-ends Refused number end line old now before after is = is.2.takes.gives.ends
 
 -- the bytes of a line are some
 some-bytes : (end : LineEnd) (line bytes more : List ℕ) (ended : Bool) (held : List ℕ) → (end ≡ LastByte → line ≢ []) → EndsLine end line bytes ended held → bytes ++ more ≢ []
@@ -244,19 +227,6 @@ turn-none number end line bytes old mid now before after reads ends_line stay so
     subst (λ l. l ≢ []) (sym (append_assoc bytes read (now.held.bytes ++ more))) (some-bytes end line bytes (read ++ (now.held.bytes ++ more)) (has_ended mid.account) mid.held.bytes some ends_line),
     bad-line end line bytes read more mid now ends_line stay bad no_more,
   ),
-  same,
-)
-
--- the script ended
-pub turn-end : (line bytes : List ℕ) (old now : Moment) (before after : Progress) → Advances old now bytes → EndsLine LastByte line bytes (has_ended now.account) now.held.bytes → line ≡ [] → HasEnded old.account now.account → after ≡ before → IsTurn turns.End old now before after
-turn-end line bytes old now before after reads ends_line empty ended same = (subst (Advances old now) (ends_line.0 ∙ empty) reads, ended, ends_line.2, same)
-
--- the source failed in a line
-pub cut-in_line : (line : List ℕ) (old now : Moment) (before after : Progress) → Stops old now line → list_all stays line ≡ true → after ≡ before → IsTurnCut Read old now before after
-cut-in_line line old now before after stops all same = (
-  line,
-  stops,
-  λ command more is e. has-feed (line_of command) (behind command ++ more) (sym (ap (list_all stays) (e ∙ command-line command more)) ∙ all),
   same,
 )
 

@@ -1,17 +1,11 @@
 -- Steps that have ended, and the lines that stay.
 use Rattle.std.proofs.Common.{◌≡◌, ◌≢◌, ◌⊎◌, ℕ, zero, suc, ◌+◌, ◌*◌, ◌/◌, ◌%◌, ◌<◌, ◌^◌, arith, bit_and, w64, ◌==◌, List, [], ◌∷◌, ◌++◌, Bool, true, false, ◌||◌, cond, get_or, set, refl, sym, ap, ◌∙◌, true≢false, eq-eqb, eqb-true, inl, inr}
-use Rattle.std.proofs.lemmas.Bool.{cases_eq, ne_eqb}
-use Rattle.std.specs.Int.{bit_at, bit_not}
+use Rattle.cil_recorded.proofs.Common.{cases_eq, ne_eqb, bit_at, bit_not, bit_at_and, bit_at_not, bit_at-lt, IsPresence, IsSingle, append-nil, Step, falls, has_line, hit_at}
 use Rattle.std.proofs.lemmas.Nat.{and_le_l}
-use Rattle.std.proofs.lemmas.Nat.Bits.{bit_at_and, bit_at_not, bit_at-lt}
 use Rattle.std.proofs.lemmas.List.Folds.{list_any-append}
-use Rattle.cil_lines.specs.Line.{IsPresence, IsSingle}
 use Rattle.cil_lines.proofs.LineLemmas.{some_bit}
 use Rattle.cil_recorded.proofs.LogLemmas.{hit_on}
-use Rattle.std.proofs.lemmas.List.{append-nil}
 use Rattle.std.proofs.lemmas.List.Elements.{filter-append}
-use Rattle.cil_recorded.specs.declared.step.Step.{Step}
-use Rattle.cil_recorded.specs.Log.{falls, has_line, hit_at}
 
 or_none : (a b : Bool) → (a || (b || false)) ≡ false → (a ≡ false) × (b ≡ false)
 or_none false false is = (refl, refl)

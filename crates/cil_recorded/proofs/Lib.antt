@@ -1,3 +1,4 @@
+pub mod Common
 pub mod LogLemmas
 pub mod TurnLemmas
 pub mod PlaceLemmas

@@ -1,22 +1,14 @@
 -- What a step does to the counters that its log leads back to.
 use Rattle.std.proofs.Common.{zero, suc, ◌≡◌, ◌≢◌, ℕ, ◌+◌, ◌-◌, ◌*◌, ◌/◌, ◌%◌, ◌^◌, ◌<◌, ◌≤◌, List, [], ◌∷◌, ◌++◌, length, set, reverse, Bool, true, false, MatchBool, if◌then◌else◌, min, count_ones, bit_and, refl, sym, ap, subst, ◌∙◌, arith, eq-eqb, inl, inr, le_of_eq, pow-suc, w64}
-use Rattle.std.proofs.lemmas.Bool.{cases_eq, ne_eqb, le-ltb}
+use Rattle.cil_recorded.proofs.Common.{cases_eq, ne_eqb, le-ltb, reverse-append, get_or-set_other, sum_by_push, bit_at_and, bit_at_not, bit_at-lt, bit_at_lowest, bit_at-suc, bit_at, bit_not, Counters, count_of, hit, IsPresence, IsSingle, Step, came_by, hit_at, taken_back, undone, went_by, CanUndo, count_in, limit_in, IsSound, sum_below, moved}
 use Rattle.std.proofs.lemmas.Grind.{get_or-set_at}
-use Rattle.std.proofs.lemmas.List.{reverse-append, get_or-set_other}
-use Rattle.std.proofs.lemmas.List.Sums.{sum_by_push}
-use Rattle.std.proofs.lemmas.Nat.Bits.{bit_at_and, bit_at_not, bit_at-lt, bit_at_lowest, bit_at-suc}
 use Rattle.std.proofs.Math.ListN.{get_or-eq_default}
-use Rattle.std.specs.Int.{bit_at, bit_not}
 use Rattle.std.specs.Int.Count.{ones, ones_step}
 use Rattle.cil_lines.proofs.DigitLemmas.{no_bits}
 use Rattle.cil_lines.proofs.LineLemmas.{nothing}
 use Rattle.cil_lines.proofs.PlaceLemmas.{limit-some}
 use Rattle.cil_lines.proofs.StepLemmas.{hit-here, hit-there, hit-none}
-use Rattle.cil_lines.specs.Line.{Counters, count_of, hit, IsPresence, IsSingle}
 use Rattle.cil_lines.specs.Limit.{has_place, limit, limit_of, CanRaise, CanLower}
-use Rattle.cil_recorded.specs.declared.step.Step.{Step}
-use Rattle.cil_recorded.specs.Log.{came_by, hit_at, taken_back, undone, went_by, CanUndo}
-use Rattle.cil_recorded.specs.Recorded.{count_in, limit_in, IsSound, sum_below, moved}
 
 -- ---- targets of a line
 
@@ -275,10 +267,6 @@ sound_append lines x log none sound = sound_same lines (lines ++ x ∷ []) log s
 pub before_none : (lines : List Counters) (log : List Step) → length log ≡ 0 → (l t : ℕ) → undone (reverse log) (count_in lines) l t ≡ count_in lines l t
 before_none lines [] none l t = refl
 before_none lines (s ∷ ss) none l t = absurd (omega arith)
-
-pub empty_log : (log : List Step) → length log ≡ 0 → log ≡ []
-empty_log [] none = refl
-empty_log (s ∷ ss) none = absurd (omega arith)
 
 -- one line changes
 module _ (lines : List Counters) (line word mask : ℕ) (x : Counters) (within : line < length lines) where

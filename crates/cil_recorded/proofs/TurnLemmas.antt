@@ -1,14 +1,8 @@
 -- Turns and changes in the order of their words.
 use Rattle.std.proofs.Common.{◌≡◌, ◌≢◌, ℕ, Bool, true, false, if◌then◌else◌, ◌+◌, ◌-◌, ◌*◌, ◌/◌, ◌%◌, ◌^◌, ◌<◌, ◌≤◌, List, [], ◌∷◌, ◌++◌, bit_xor, bit_and, min, refl, sym, arith, inl, inr, Result, Ok, Err, IfOk}
-use Rattle.std.proofs.lemmas.Bool.{cases_eq}
-use Rattle.std.proofs.lemmas.List.Sums.{sum_by-cons}
-use Rattle.std.proofs.lemmas.Nat.Bits.{bit_at_xor, bit_at_and, bit_at-lt}
+use Rattle.cil_recorded.proofs.Common.{cases_eq, sum_by-cons, bit_at_xor, bit_at_and, bit_at-lt, Turn, Ascends, alone_at, appeared_at, balance_at, gone_at, key_of, low_at, turn_key, came_by, came_in, hit_at, turned_by, turned_in, went_by, went_in, IsTurned, Step}
 use Rattle.cil_recorded.proofs.LogLemmas.{hit_on, hit_off, hit_out}
 use Rattle.cil_recorded.specs.declared.recorded_lines.changes.Change.{Change}
-use Rattle.cil_recorded.specs.declared.turn.Turn.{Turn}
-use Rattle.cil_recorded.specs.Differences.{Ascends, alone_at, appeared_at, balance_at, gone_at, key_of, low_at, turn_key}
-use Rattle.cil_recorded.specs.Log.{came_by, came_in, hit_at, turned_by, turned_in, went_by, went_in, IsTurned}
-use Rattle.cil_recorded.specs.declared.step.Step.{Step}
 
 -- words of lines that differ have numbers that differ
 pub key_is : (a b x y : ℕ) → x < 2 ^ 64 → y < 2 ^ 64 → key_of a x ≡ key_of b y → (a ≡ b) × (x ≡ y)

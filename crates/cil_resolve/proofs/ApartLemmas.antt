@@ -1,29 +1,11 @@
 -- The set statements of a policy in order stand apart, and so do those that an order lists.
-use Rattle.std.proofs.Common.{◌≡◌, ◌≢◌, ◌∙◌, inl, inr, ℕ, zero, suc, ◌+◌, ◌<◌, ◌≤◌, ◌^◌, List, [], ◌∷◌, ◌++◌, length, map, flat_map, get_or, Option, Some, None, slice_get, All, AllPairs, Contains, eqb-true, refl, sym, ap, subst, arith}
-use Rattle.std.specs.List.{cons_option}
-use Rattle.std.specs.Ordering.{ordering_reverse}
-use Rattle.std.specs.declared.cmp.Ordering.TheVariants.{Less, Greater}
-use Rattle.std.proofs.lemmas.Bool.{cases_order}
+use Rattle.std.proofs.Common.{◌≡◌, ◌≢◌, ◌∙◌, inl, inr, ℕ, suc, ◌+◌, ◌<◌, ◌≤◌, ◌^◌, List, [], ◌∷◌, ◌++◌, length, map, flat_map, get_or, Option, Some, None, slice_get, All, AllPairs, Contains, eqb-true, refl, sym, ap, subst, arith}
+use Rattle.cil_resolve.proofs.Common.{cons_option, ordering_reverse, Less, Greater, cases_order, nat_list_cmp_total, get_or-map, length-append, length-map, All-contains, Contains-get_or, recursion_from_All, Contains-from_any, get_or_from_slice_get, slice_get_within, Placed, name_cmp, SetStatement, sets_of, set_statement_of, Form, attribute_set, flat-contains, all-contained, contains-cases, contains-first, contains-mapped, offsets_in, IsBefore, AreOrdered, set_of, sets_at, IsSetOrder, NumberedSet}
 use Rattle.std.proofs.lemmas.Bool.Decides.{Decides-eqb}
-use Rattle.std.proofs.lemmas.Cmp.{nat_list_cmp_total}
-use Rattle.std.proofs.lemmas.List.{get_or-map, length-append, length-map}
-use Rattle.std.proofs.lemmas.List.Elements.{All-contains, Contains-get_or, recursion_from_All}
 use Rattle.std.proofs.lemmas.List.Kept.{AllPairs-cons}
 use Rattle.std.proofs.lemmas.Map.Made.{IsDistinct-from_AllPairs}
 use Rattle.std.proofs.lemmas.Map.Steps.{length-le_from_distinct_below}
-use Rattle.std.proofs.lemmas.Map.Views.{Contains-from_any}
-use Rattle.std.proofs.lemmas.Option.{get_or_from_slice_get, slice_get_within}
-use Rattle.cil_specs.specs.Joined.{Placed}
-use Rattle.cil_specs.specs.Report.{name_cmp}
-use Rattle.cil_specs.specs.Rule.{SetStatement, sets_of, set_statement_of}
-use Rattle.cil_specs.specs.Statements.{Form, attribute_set}
-use Rattle.cil_specs.proofs.MeansLemmas.{flat-contains}
-use Rattle.cil_specs.proofs.NamesLemmas.{all-contained, contains-cases, contains-first, contains-mapped}
-use Rattle.cil_bind.specs.Ordered.{offsets_in, IsBefore, AreOrdered}
 use Rattle.cil_resolve.specs.Apart.{StandApart}
-use Rattle.cil_resolve.specs.Numbers.{set_of}
-use Rattle.cil_resolve.specs.SetOrder.{sets_at, IsSetOrder}
-use Rattle.cil_resolve.specs.declared.numbered.NumberedSet.{NumberedSet}
 use Rattle.cil_resolve.proofs.SetNameLemmas.{at-set}
 use Rattle.cil_resolve.proofs.SetOrderLemmas.{at-length}
 

@@ -1,28 +1,12 @@
 -- The commons of classes.
-use Rattle.std.proofs.Common.{◌≡◌, ℕ, zero, suc, Bool, true, false, ◌&&◌, ◌||◌, List, [], ◌∷◌, ◌++◌, flat_map, filter, append_assoc, slice_get, position, Contains, Option, Some, None, is_some, option_map, refl, sym, ap, ◌∙◌, subst, true≢false, append-nil, if◌then◌else◌, cond}
-use Rattle.std.specs.List.{find, list_any}
-use Rattle.std.specs.Option.{option_and_then}
-use Rattle.std.proofs.lemmas.Option.{none-some, same_Some}
-use Rattle.cil_specs.specs.Names.{Word}
-use Rattle.cil_specs.specs.Statements.{Form, block, optional, type_name, type_alias, alias_actual, type_attribute, attribute_set, common, class, class_common, class_order, rule}
-use Rattle.cil_specs.specs.Joined.{Placed}
-use Rattle.cil_specs.specs.Lookup.{commons, classes, references, leads, gives_common, is_same, holds_of, common_permissions, permissions_of, own_permissions, texts, listed_by, declared_in}
-use Rattle.cil_specs.specs.PolicyFault.{second_common, has_earlier_common, common_words}
-use Rattle.cil_specs.proofs.NamesLemmas.{contains-first}
-use Rattle.std.proofs.Math.Bool.{or-false}
-use Rattle.std.proofs.lemmas.List.Folds.{list_any-append}
-use Rattle.cil_parse.specs.Forms.{kind_of}
-use Rattle.cil_check.specs.Ordered.{IsFaultless}
-use Rattle.cil_check.specs.Permissions.{lists_own}
+use Rattle.std.proofs.Common.{◌≡◌, ℕ, Bool, true, false, ◌||◌, List, [], ◌∷◌, ◌++◌, flat_map, filter, append_assoc, slice_get, position, Contains, Option, Some, None, is_some, refl, sym, ap, ◌∙◌, subst, true≢false, append-nil, if◌then◌else◌, cond}
+use Rattle.cil_resolve.proofs.Common.{find, list_any, option_and_then, Word, Form, block, optional, type_name, type_alias, alias_actual, type_attribute, attribute_set, common, class, class_common, class_order, rule, Placed, commons, classes, references, leads, gives_common, is_same, holds_of, common_permissions, permissions_of, own_permissions, texts, listed_by, declared_in, second_common, has_earlier_common, common_words, contains-first, or-false, list_any-append, kind_of, IsFaultless, lists_own, IsFirstOf, none-there, common_in, common_of}
 use Rattle.cil_check.proofs.FirstsLemmas.{same-test}
 use Rattle.cil_check.proofs.PositionLemmas.{any-same}
 use Rattle.cil_resolve.proofs.FaultlessLemmas.{contains-filter, no-faulty}
-use Rattle.cil_bind.specs.Lookup.{IsFirstOf}
 use Rattle.cil_check.specs.Associations.{first_at, gives, HasFirsts}
 use Rattle.cil_check.specs.declared.firsts.Association.TheVariants.{Common}
 use Rattle.std.proofs.lemmas.List.Quantifiers.{position-Some}
-use Rattle.cil_check.proofs.WordLemmas.{none-there}
-use Rattle.cil_resolve.specs.Lowering.{common_in, common_of}
 use Rattle.cil_resolve.proofs.ElementLemmas.{find-place, find-holds}
 
 common-form : (policy : List Placed) (s : Placed) (namespace : List (List ℕ)) (form : Form) → gives_common policy s namespace form ≡ true → (the_class the_common : Word) × (form ≡ class_common the_class the_common)

@@ -1,21 +1,8 @@
 -- Optionals of a bound policy.
 use Rattle.std.proofs.Common.{◌≡◌, ℕ, true, false, not, ◌&&◌, if◌then◌else◌, ◌∷◌, ◌<◌, List, [], length, map, get_or, slice_get, Some, refl, sym, ap, ◌∙◌, subst}
-use Rattle.std.proofs.lemmas.Option.{same_Some, slice_get-get_or}
-use Rattle.cil_specs.specs.Names.{Word}
-use Rattle.cil_specs.specs.Statements.{Form, block, optional, type_name, type_alias, alias_actual, type_attribute, attribute_set, common, class, class_common, class_order, rule, is_optional}
-use Rattle.cil_specs.specs.Joined.{Placed}
-use Rattle.cil_specs.specs.Lookup.{scopes, full_name}
-use Rattle.cil_specs.specs.Rule.{declared_as}
-use Rattle.cil_specs.specs.Kept.{Optionals}
-use Rattle.cil_bind.specs.Policy.{IsBoundTo}
+use Rattle.cil_resolve.proofs.Common.{same_Some, slice_get-get_or, Word, Form, block, optional, type_name, type_alias, alias_actual, type_attribute, attribute_set, common, class, class_common, class_order, rule, is_optional, Placed, scopes, full_name, declared_as, Optionals, IsBoundTo, NamedModule, Row, row-at, from-at, dropped_if, name_in}
 use Rattle.cil_bind.specs.Scope.{IsFrom}
-use Rattle.cil_bind.specs.declared.joined.NamedModule.{NamedModule}
 use Rattle.cil_bind.specs.declared.policy.Policy.{Policy}
-use Rattle.cil_bind.specs.declared.rows.Row.{Row}
-use Rattle.cil_bind.proofs.DeclareLemmas.{row-at}
-use Rattle.cil_bind.proofs.FromLemmas.{from-at}
-use Rattle.cil_resolve.specs.Dropped.{dropped_if}
-use Rattle.cil_resolve.specs.FullNames.{name_in}
 use Rattle.cil_resolve.proofs.FullNamesLemmas.{space_name_of, name-here}
 use Rattle.cil_resolve.proofs.StatementLemmas.{mapped-at}
 

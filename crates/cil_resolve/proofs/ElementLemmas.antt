@@ -1,32 +1,12 @@
 -- What names of rules lead to: types, attributes, and aliases with their types.
-use Rattle.std.proofs.lemmas.Bool.{cases_order}
-use Rattle.std.proofs.lemmas.List.{get_or_append_left, get_or_push}
+use Rattle.cil_resolve.proofs.Common.{cases_order, get_or_append_left, get_or_push, find, option_and_then, unwrap_or, lt-ltb, none-some, same_Some, Word, Form, block, optional, type_name, type_alias, alias_actual, type_attribute, attribute_set, common, class, class_common, class_order, rule, itself, Placed, Table, types, declared_in, declared_name, full_name, word_text, same_namespace, holds_of, gives_actual, actual_statement, actual_in, actual_of, is_type, is_alias, is_attribute, is_word, references, leads, kinds_asked, a_type, an_attribute, name_or_none, element_at, first_true, contains-first, contains-other, kind_of, IsLead, IsFirstOf, IsFaultless, numbered_id, is_numbered, full_name_or, full_name_of, IsElement, HaveElements, is_set, number_in, HavePlaces, Element}
 use Rattle.std.proofs.Common.{◌≡◌, ◌⊎◌, inl, inr, ◌+◌, ◌++◌, arith, ℕ, ◌<◌, suc, Bool, true, false, not, ◌&&◌, List, [], ◌∷◌, length, get_or, slice_get, Contains, Option, Some, None, is_some, option_map, position, cond, refl, sym, ap, ◌∙◌, subst, true≢false}
-use Rattle.std.specs.List.{find}
-use Rattle.std.specs.Option.{option_and_then, unwrap_or}
-use Rattle.std.proofs.lemmas.Bool.{lt-ltb}
-use Rattle.std.proofs.lemmas.Option.{none-some, same_Some}
-use Rattle.cil_specs.specs.Names.{Word}
-use Rattle.cil_specs.specs.Statements.{Form, block, optional, type_name, type_alias, alias_actual, type_attribute, attribute_set, common, class, class_common, class_order, rule, itself, the_named}
-use Rattle.cil_specs.specs.Joined.{Placed}
-use Rattle.cil_specs.specs.Lookup.{Table, types, declared_in, declared_name, full_name, word_text, same_namespace, holds_of, gives_actual, gives_common, actual_statement, actual_in, actual_of, is_type, is_alias, is_attribute, is_word, references, leads}
-use Rattle.cil_specs.specs.PolicyFault.{kinds_asked}
-use Rattle.cil_specs.specs.Rule.{a_type, an_attribute, name_or_none, element_at, element_or_none, is_class}
-use Rattle.cil_specs.proofs.Runs.{first_true}
-use Rattle.cil_specs.proofs.NamesLemmas.{contains-first, contains-other}
-use Rattle.cil_parse.specs.Forms.{kind_of}
 use Rattle.cil_parse.specs.declared.row.StatementKind.{StatementKind}
 use Rattle.cil_parse.specs.declared.row.StatementKind.TheVariants as kinds
-use Rattle.cil_bind.specs.Lookup.{IsLead, IsFirstOf}
 use Rattle.cil_check.specs.Associations.{first_at, gives, HasFirsts}
-use Rattle.cil_check.specs.Ordered.{IsFaultless}
-use Rattle.cil_check.specs.declared.firsts.Association.TheVariants.{Actual, Common}
+use Rattle.cil_check.specs.declared.firsts.Association.TheVariants.{Actual}
 use Rattle.cil_check.proofs.FirstsLemmas.{first-itself}
 use Rattle.cil_bind.proofs.PositionLemmas.{position-cons}
-use Rattle.cil_resolve.specs.FullNames.{numbered_id, is_numbered, full_name_or, full_name_of}
-use Rattle.cil_resolve.specs.Lowering.{IsElement, HaveElements, is_set}
-use Rattle.cil_resolve.specs.Numbering.{number_in, HavePlaces}
-use Rattle.cil_expression.specs.declared.expression.Element.{Element}
 use Rattle.cil_expression.specs.declared.expression.Element.TheVariants as elements
 use Rattle.cil_resolve.proofs.FaultlessLemmas.{word-found, kind-found}
 use Rattle.cil_resolve.proofs.NumberLemmas.{number-is}

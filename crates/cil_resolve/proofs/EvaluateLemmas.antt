@@ -1,41 +1,14 @@
 -- The evaluation of set statements by the numbers of names.
-use Rattle.std.proofs.Common.{◌≡◌, ◌==◌, ℕ, ◌<◌, ◌⊎◌, inl, inr, Bool, true, false, ◌&&◌, true≢false, nat_lt, List, [], ◌∷◌, map, length, get_or, slice_get, Contains, Option, Some, None, Ordering, Less, Equal, is_lt, option_map, bytes_eq, IsTrue, refl, sym, ap, subst, ◌∙◌, eq-eqb}
-use Rattle.std.specs.List.{list_all, list_any}
-use Rattle.std.specs.List.Sorted.{IsStrictlySortedBy}
-use Rattle.std.proofs.lemmas.Bool.{cases_order, eqb-true, ltb-true}
-use Rattle.std.proofs.lemmas.Slice.Eq.{bytes_eq-Decides}
-use Rattle.cil_specs.specs.Expr.{Expr, leaves, map_leaves}
+use Rattle.std.proofs.Common.{◌≡◌, ◌==◌, ℕ, ◌<◌, Bool, true, false, ◌&&◌, nat_lt, List, map, length, slice_get, Contains, Option, Some, None, option_map, bytes_eq, refl, sym, ap, ◌∙◌}
+use Rattle.cil_resolve.proofs.Common.{list_all, list_any, ltb-true, bytes_eq-Decides, Expr, leaves, map_leaves, SetStatement, element_holds, holds_with, mentions, is_the_attribute, Meaning, keeps_type, is_in, holds, is_member, none-some, same_Some, slice_get-map, first_true, second_true, any-contained, leaves-mapped, in-known, contains-map, expr_in, Element, «Type», Attribute, is_element_below, is_set_below, element_of, set_of, meaning_in, sets_at, NumberedSet}
 use Rattle.cil_specs.specs.Rule as spec
-use Rattle.cil_specs.specs.Rule.{SetStatement}
-use Rattle.cil_specs.specs.Sets.{element_holds, holds_with, mentions, is_the_attribute}
-use Rattle.cil_specs.specs.Meaning.{Meaning, keeps_type, is_in, holds}
-use Rattle.cil_specs.specs.Members.{is_member}
-use Rattle.cil_specs.specs.Report.{name_cmp, names_rise}
-use Rattle.std.proofs.lemmas.Cmp.{tied_itself}
-use Rattle.std.proofs.lemmas.Map.Keys.{Less-from_sorted}
-use Rattle.std.proofs.lemmas.Option.{none-some, same_Some, slice_get-map}
 use Rattle.cil_specs.proofs.ExistsLemmas.{of-all}
-use Rattle.cil_specs.proofs.Runs.{first_true, second_true}
-use Rattle.cil_specs.proofs.DependsLemmas.{any-contained}
-use Rattle.cil_specs.proofs.MeansLemmas.{leaves-mapped}
-use Rattle.cil_specs.proofs.MemberLemmas.{in-known}
-use Rattle.cil_specs.proofs.NamesLemmas.{contains-map}
-use Rattle.cil_specs.proofs.ReportLemmas.{name_total, sorted_from_names_rise}
-use Rattle.cil_bind.proofs.DeclareLemmas.{same-bool}
-use Rattle.cil_expression.specs.Expression.{expr_in}
 use Rattle.cil_expression.specs.Holds.{holds_by, Answers}
-use Rattle.cil_expression.specs.declared.expression.Element.{Element}
-use Rattle.cil_expression.specs.declared.expression.Element.TheVariants.{«Type», Attribute}
 use Rattle.cil_expression.proofs.HoldsLemmas.{holds-agree, holds-bound, holds-mapped, expr-holds}
-use Rattle.cil_resolve.specs.Below.{is_element_below, is_set_below}
-use Rattle.cil_resolve.specs.Numbers.{element_of, set_of}
-use Rattle.cil_resolve.specs.Resolved.{meaning_in}
 use Rattle.cil_resolve.specs.Sets.{name_in, sets_in, IsAnswer, TellsMembers}
-use Rattle.cil_resolve.specs.SetOrder.{sets_at}
 use Rattle.cil_resolve.proofs.SetOrderLemmas.{from-order}
 use Rattle.cil_resolve.proofs.RisingNames.{same-name}
 use Rattle.cil_resolve.proofs.StatementLemmas.{contained}
-use Rattle.cil_resolve.specs.declared.numbered.NumberedSet.{NumberedSet}
 use Rattle.cil_resolve.specs.declared.resolved.Resolved.{Resolved}
 
 module _ {A : Type 0} (r : Resolved A) where

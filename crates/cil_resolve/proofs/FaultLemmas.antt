@@ -1,7 +1,7 @@
 -- Faults of the code, as those of the definitions.
 use Rattle.std.proofs.Common.{◌≡◌, sym, subst}
 use Rattle.cil_specs.specs.PolicyFault as spec
-use Rattle.cil_check.specs.Image.{PolicyFaultIs, IsFoundFault}
+use Rattle.cil_check.specs.Image.{IsFoundFault}
 use Rattle.cil_check.specs.declared.fault.PolicyFault.{PolicyFault}
 use Rattle.cil_check.specs.declared.fault.PolicyFault.TheVariants.{Memory, Found}
 pub use Rattle.cil_check.proofs.CheckLemmas.{found-fault, memory-fault, fault-weaker}
@@ -10,8 +10,3 @@ pub use Rattle.cil_check.proofs.CheckLemmas.{found-fault, memory-fault, fault-we
 pub fault-is : (fault : PolicyFault) (P : spec.PolicyFault → Type 0) (made : spec.PolicyFault) → IsFoundFault fault (λ f. f ≡ made) → P made → IsFoundFault fault P
 fault-is Memory P made is p = is
 fault-is (Found kind module_name at word) P made is p = subst P (sym is) p
-
--- what follows from what holds of a fault that is found
-pub found-weaker : (fault : PolicyFault) (P Q : spec.PolicyFault → Type 0) → ((f : spec.PolicyFault) → P f → Q f) → IsFoundFault fault P → PolicyFaultIs fault Q
-found-weaker Memory P Q weaker is = tt
-found-weaker (Found kind module_name at word) P Q weaker is = weaker _ is

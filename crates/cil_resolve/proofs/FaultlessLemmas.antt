@@ -1,17 +1,6 @@
 -- What holds of the names and words of a policy without faults.
-use Rattle.std.proofs.Common.{◌≡◌, inl, inr, ℕ, zero, suc, Bool, true, false, not, ◌&&◌, ◌||◌, List, [], ◌∷◌, ◌++◌, length, take, drop, map, filter, flat_map, position, slice_get, Contains, Some, is_some, option_map, cond, refl, sym, ap, ◌∙◌, subst, true≢false, arith}
-use Rattle.std.specs.List.{list_any}
-use Rattle.std.specs.Option.{option_to_list}
-use Rattle.std.proofs.lemmas.Option.{none-some, same_Some}
-use Rattle.std.proofs.lemmas.List.Elements.{Contains-append_left, Contains-append_right}
-use Rattle.cil_specs.specs.Names.{Word}
-use Rattle.cil_specs.specs.Statements.{Form, block, optional, type_name, type_alias, alias_actual, type_attribute, attribute_set, common, class, class_common, class_order, rule, is_optional}
-use Rattle.cil_specs.specs.Joined.{Placed}
-use Rattle.cil_specs.specs.Lookup.{Table, types, classes, word_text, is_word, declared_in, declares, is_same, same_namespace, leads, has_name, holds_of, references, named_permissions, permissions_of, actual_statement, is_alias}
-use Rattle.cil_specs.specs.PolicyFault.{PolicyFaultKind, twice, wrong_kind, alias_unset, IsFaulty, tables, twice_words, is_unfound, is_lacking, missing_words, kinds_asked, is_of_another_kind, element_words, is_unset}
-use Rattle.cil_specs.specs.Rule.{is_class}
-use Rattle.cil_specs.proofs.NamesLemmas.{contains-first, contains-other, contains-cases, contains-map, around}
-use Rattle.cil_check.specs.Ordered.{IsFaultless}
+use Rattle.std.proofs.Common.{◌≡◌, inl, inr, Bool, true, false, not, ◌&&◌, List, [], ◌∷◌, ◌++◌, map, filter, Contains, Some, is_some, cond, refl, sym, ap, ◌∙◌, subst, true≢false, arith}
+use Rattle.cil_resolve.proofs.Common.{Contains-append_left, Contains-append_right, Word, Form, class, rule, Placed, Table, types, classes, leads, has_name, holds_of, references, named_permissions, permissions_of, actual_statement, is_alias, PolicyFaultKind, wrong_kind, alias_unset, IsFaulty, is_unfound, is_lacking, missing_words, kinds_asked, is_of_another_kind, element_words, is_unset, contains-first, contains-other, contains-cases, contains-map, around, IsFaultless}
 
 pub contains-filter : {X : Type 0} (p : X → Bool) (xs : List X) (x : X) → Contains xs x → p x ≡ true → Contains (filter p xs) x
 contains-filter p [] x c e = absurd (omega (arith, c.1))

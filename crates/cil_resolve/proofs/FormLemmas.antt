@@ -1,9 +1,7 @@
 -- Statements that are rules, by their kinds.
 use Rattle.std.proofs.Common.{◌≡◌, List, refl}
-use Rattle.cil_specs.specs.Names.{Word}
-use Rattle.cil_specs.specs.Statements.{RuleKind, itself, the_named, Form, block, optional, type_name, type_alias, alias_actual, type_attribute, attribute_set, common, class, class_common, class_order, rule}
+use Rattle.cil_resolve.proofs.Common.{Word, RuleKind, itself, the_named, Form, block, optional, type_name, type_alias, alias_actual, type_attribute, attribute_set, common, class, class_common, class_order, rule, kind_of}
 use Rattle.cil_text.specs.declared.statement.RuleKind as code
-use Rattle.cil_parse.specs.Forms.{kind_of}
 use Rattle.cil_parse.specs.declared.row.StatementKind.TheVariants as kinds
 
 pub form-rule : (form : Form) (kind : code.RuleKind) → kind_of form ≡ kinds.Rule kind

@@ -1,23 +1,11 @@
 -- The names of namespaces, and the full names of what statements declare.
-use Rattle.std.proofs.Common.{◌≡◌, ℕ, ◌+◌, ◌<◌, ◌≤◌, zero, suc, Bool, true, false, List, [], ◌∷◌, ◌++◌, length, get_or, take, map, slice_get, Option, Some, None, is_some, option_map, refl, sym, ap, ◌∙◌, subst, true≢false, arith, length-take-le}
-use Rattle.std.specs.List.{AllByRecursion}
-use Rattle.std.proofs.lemmas.List.{length-map, take_all, take_more, map-append, get_or-map, get_or-take}
-use Rattle.std.proofs.lemmas.Option.{none-some, same_Some, slice_get-get_or, get_or_from_slice_get, slice_get_within}
-use Rattle.cil_specs.specs.Names.{Word}
-use Rattle.cil_specs.specs.Joined.{Placed}
-use Rattle.cil_specs.specs.Statements.{Form, block, optional, type_name, type_alias, alias_actual, type_attribute, attribute_set, common, class, class_common, class_order, rule, itself, the_named}
-use Rattle.cil_specs.specs.Lookup.{full_name}
-use Rattle.cil_parse.specs.Forms.{kind_of, words_in}
-use Rattle.cil_bind.specs.Lookup.{word_at, named, namespace_at}
+use Rattle.std.proofs.Common.{◌≡◌, ℕ, ◌+◌, ◌<◌, ◌≤◌, zero, suc, true, false, List, [], ◌∷◌, ◌++◌, length, get_or, take, map, slice_get, Option, Some, None, is_some, option_map, refl, sym, ap, ◌∙◌, subst, true≢false, arith, length-take-le}
+use Rattle.cil_resolve.proofs.Common.{AllByRecursion, length-map, take_all, get_or-map, get_or-take, none-some, slice_get-get_or, get_or_from_slice_get, Word, Placed, Form, block, optional, type_name, type_alias, alias_actual, type_attribute, attribute_set, common, class, class_common, class_order, rule, itself, the_named, full_name, kind_of, words_in, word_at, namespace_at, distinct-place, all-get, Row, Reads, space_text, name_in, numbered_id, is_numbered, is_numbered_kind}
+use Rattle.cil_bind.specs.Lookup.{named}
 use Rattle.cil_bind.specs.Rows.{IsRow, AreNumbered}
 use Rattle.cil_bind.specs.declared.namespaces.Block.{Block}
-use Rattle.cil_bind.proofs.NamespaceLemmas.{distinct-place}
-use Rattle.cil_bind.proofs.FromLemmas.{all-get}
 use Rattle.std.specs.Borrow.{Bor}
-use Rattle.cil_bind.specs.declared.rows.Row.{Row}
-use Rattle.cil_check.specs.Bound.{Reads}
 use Rattle.cil_check.specs.declared.bound.Seen.{Seen}
-use Rattle.cil_resolve.specs.FullNames.{space_text, name_in, numbered_id, is_numbered, is_numbered_kind, full_name_or, full_name_of}
 
 -- the name of a namespace, by the numbers of its blocks' words
 abbrev pub space_name_of : List (List ℕ) → List ℕ → List ℕ

@@ -1,23 +1,8 @@
 -- What is judged of the statements in kept optionals holds of the policy by these.
 use Rattle.std.proofs.Common.{◌≡◌, ℕ, suc, ◌+◌, slice_get, slice_index_or, Some, IsTrue, inl, inr, Bool, true, false, cond, map, List, [], ◌∷◌, filter, Contains, refl, sym, ap, ◌∙◌, subst, arith}
-use Rattle.std.specs.List.{list_all}
-use Rattle.cil_specs.specs.Joined.{Placed}
-use Rattle.cil_specs.specs.PolicyFault.{PolicyFaultKind, PolicyFault, twice, missing, wrong_kind, alias_twice, alias_unset, second_common, too_many_permissions, circular, IsFaultOf}
-use Rattle.cil_specs.specs.Kept.{Optionals, dropped_of, has_innermost, is_within, restricted, AreKept, AreApart, judged, IsPolicyFault, IsFirst, Compiles, IsFirstFault}
-use Rattle.cil_specs.specs.Meaning.{Meaning, meaning_of, Means}
-use Rattle.cil_specs.proofs.NamesLemmas.{contains-first, contains-other, contains-cases}
-use Rattle.cil_specs.proofs.KeptLemmas.{kept-good}
-use Rattle.cil_specs.proofs.Runs.{first_true}
-use Rattle.cil_specs.proofs.OnceLemmas.{once-filtered}
-use Rattle.cil_specs.specs.Joined.{Module, joined}
-use Rattle.cil_specs.specs.Report.{names_rise}
-use Rattle.cil_specs.specs.Statements.{is_optional}
+use Rattle.cil_resolve.proofs.Common.{list_all, Placed, PolicyFaultKind, PolicyFault, twice, missing, wrong_kind, alias_twice, alias_unset, second_common, too_many_permissions, circular, IsFaultOf, Optionals, dropped_of, has_innermost, is_within, restricted, AreKept, AreApart, judged, IsPolicyFault, IsFirst, Compiles, IsFirstFault, Meaning, meaning_of, Means, contains-first, contains-other, contains-cases, kept-good, first_true, once-filtered, Module, joined, names_rise, is_optional, AreOrdered, IsLeast, NamedModule, Makes, fault_of, TellsAround, HaveMarks, dropped_with, IsFaultIn, IsFaultless, AreFoundInside}
 use Rattle.cil_specs.proofs.FaultWords.{contains-filtered}
-use Rattle.cil_bind.specs.Ordered.{AreOrdered, IsLeast}
-use Rattle.cil_bind.specs.Written.{HaveOneNames}
-use Rattle.cil_bind.specs.declared.joined.NamedModule.{NamedModule}
 use Rattle.cil_bind.proofs.OrderedLemmas.{spelt-names, joined-ordered, ordered-filtered}
-use Rattle.cil_bind.specs.Policy.{Makes, IsFirstAgain, fault_of, TellsAround}
 use Rattle.cil_bind.specs.declared.policy.Joining.{Joining}
 use Rattle.cil_bind.specs.declared.policy.Joining.TheVariants.{Once, Twice}
 use Rattle.cil_bind.specs.declared.policy.Policy.{Policy}
@@ -25,13 +10,9 @@ use Rattle.cil_bind.specs.declared.redeclaration.Redeclaration.{Redeclaration}
 use Rattle.cil_bind.proofs.NestedLemmas.{nested-rows}
 use Rattle.cil_bind.proofs.TwiceLemmas.{first-fault-again}
 use Rattle.cil_bind.proofs.WrittenLemmas.{written-apart, written-names}
-use Rattle.cil_resolve.specs.Dropped.{HaveMarks}
 use Rattle.cil_resolve.specs.Judged.{IsJudged, IsWhole, IsInOrder}
-use Rattle.cil_resolve.specs.Numbers.{dropped_with}
 use Rattle.cil_resolve.specs.Modules.{AreParsedFrom, names_of}
 use Rattle.cil_resolve.specs.declared.judged.Judged.{Judged}
-use Rattle.cil_check.specs.Ordered.{IsFaultIn, IsFaultless}
-use Rattle.cil_check.specs.Bound.{AreFoundInside}
 
 -- what passes a test is there and passes it
 filter-contained : {X : Type 0} (w : X → Bool) (xs : List X) (x : X) → Contains (filter w xs) x → Contains xs x × (w x ≡ true)

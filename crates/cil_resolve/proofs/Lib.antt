@@ -1,3 +1,4 @@
+pub mod Common
 pub mod FullNamesLemmas
 pub mod StatementLemmas
 pub mod ListLemmas

@@ -1,22 +1,7 @@
 -- What statements of a policy without faults mean, by numbers.
-use Rattle.std.proofs.Common.{◌≡◌, ℕ, ◌<◌, zero, suc, Bool, true, false, not, ◌&&◌, List, [], ◌∷◌, ◌++◌, length, get_or, map, slice_get, Contains, Option, Some, None, is_some, refl, sym, ap, ◌∙◌, subst, true≢false}
-use Rattle.std.specs.Option.{unwrap_or}
-use Rattle.std.proofs.lemmas.Option.{none-some, same_Some}
-use Rattle.cil_specs.specs.Names.{Word}
-use Rattle.cil_specs.specs.Joined.{Placed}
-use Rattle.cil_specs.specs.Lookup.{Table, types, classes, leads, references, declared_in, declared_name, actual_statement, is_alias, is_attribute}
-use Rattle.cil_specs.specs.Expr.{WordExpr, leaves}
-use Rattle.cil_specs.specs.PolicyFault.{element_words, kinds_asked}
-use Rattle.cil_specs.proofs.NamesLemmas.{contains-first}
-use Rattle.cil_specs.specs.Rule.{element_of, element_or_none, class_name, name_or_none}
-use Rattle.cil_specs.specs.Statements.{Form, block, optional, type_name, type_alias, alias_actual, type_attribute, attribute_set, common, class, class_common, class_order, rule}
-use Rattle.cil_check.specs.Ordered.{IsFaultless}
-use Rattle.cil_check.proofs.WordLemmas.{none-there}
-use Rattle.cil_bind.specs.Lookup.{IsLead, IsFirstOf}
-use Rattle.cil_resolve.specs.FullNames.{numbered_id, is_numbered, full_name_of}
-use Rattle.cil_resolve.specs.Lowering.{IsElement, HaveElements, is_set}
-use Rattle.cil_resolve.specs.Numbering.{number_in, HavePlaces}
-use Rattle.cil_expression.specs.declared.expression.Element.{Element}
+use Rattle.std.proofs.Common.{◌≡◌, ℕ, Bool, true, false, not, ◌&&◌, List, [], get_or, map, slice_get, Contains, Option, Some, None, is_some, refl, sym, ap, ◌∙◌, subst, true≢false}
+use Rattle.cil_resolve.proofs.Common.{unwrap_or, none-some, same_Some, Word, Placed, Table, types, classes, leads, references, declared_in, actual_statement, is_alias, is_attribute, WordExpr, leaves, element_words, kinds_asked, contains-first, element_or_none, class_name, name_or_none, Form, block, optional, type_name, type_alias, alias_actual, type_attribute, attribute_set, common, class, class_common, class_order, rule, IsFaultless, none-there, IsLead, IsFirstOf, numbered_id, IsElement, HaveElements, is_set, number_in, HavePlaces, Element}
+use Rattle.cil_specs.specs.Rule.{element_of}
 use Rattle.cil_expression.specs.declared.expression.Element.TheVariants as elements
 use Rattle.cil_resolve.proofs.ElementLemmas.{first-declares, full-name-in}
 use Rattle.cil_resolve.proofs.FaultlessLemmas.{word-found, kind-found, alias-set}

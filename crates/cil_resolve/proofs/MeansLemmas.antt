@@ -1,13 +1,6 @@
 -- What a policy means is consistent.
 use Rattle.std.proofs.Common.{◌≡◌, ◌∙◌, ℕ, true, List, [], ◌∷◌, Contains, refl, sym, ap, subst, if◌then◌else◌}
-use Rattle.cil_specs.specs.Names.{Word}
-use Rattle.cil_specs.specs.Joined.{Placed}
-use Rattle.cil_specs.specs.PolicyFault.{PolicyFault, twice, missing, missing_words, is_outside, IsFaultOf}
-use Rattle.cil_specs.specs.Kept.{Optionals, restricted, AreKept, AreApart, judged, Compiles}
-use Rattle.cil_specs.specs.Meaning.{Meaning, Means}
-use Rattle.cil_specs.proofs.NamesLemmas.{around, contains-first}
-use Rattle.cil_check.specs.Ordered.{IsFaultless}
-use Rattle.cil_resolve.specs.Consistent.{is_consistent}
+use Rattle.cil_resolve.proofs.Common.{Word, Placed, PolicyFault, twice, missing, missing_words, is_outside, IsFaultOf, Optionals, restricted, AreKept, AreApart, judged, Compiles, Meaning, Means, around, contains-first, IsFaultless, is_consistent}
 use Rattle.cil_resolve.proofs.ConsistentLemmas.{rules-declared}
 use Rattle.cil_resolve.proofs.JudgedLemmas.{fault-of-within, kept-inside}
 

@@ -1,29 +1,8 @@
 -- Names, and their numbers.
-use Rattle.std.proofs.Common.{◌≡◌, ◌⊎◌, inl, inr, set, append_assoc, ℕ, ◌+◌, ◌<◌, ◌==◌, zero, suc, Bool, true, false, ◌&&◌, ◌||◌, nat_lt, List, [], ◌∷◌, ◌++◌, length, get_or, take, map, flat_map, fold, slice_get, Contains, Option, Some, None, bytes_eq, refl, sym, ap, ◌∙◌, subst, true≢false, arith, eqb-true, eq-eqb, if◌then◌else◌}
-use Rattle.std.specs.List.{list_all, list_any, AllByRecursion, IsDistinct}
-use Rattle.std.proofs.Math.Bool.{or-false, or-true}
-use Rattle.std.proofs.lemmas.Bool.{cases_order}
-use Rattle.std.proofs.lemmas.List.{get_or_append_left, get_or_push, get_or-set_same, get_or-set_other}
-use Rattle.cil_bind.proofs.NamespaceLemmas.{bytes_eq-refl, bytes_eq-true, distinct-place}
-use Rattle.std.proofs.lemmas.Bool.{lt-ltb}
-use Rattle.std.proofs.lemmas.Option.{none-some, same_Some, slice_get_within, get_or_from_slice_get}
-use Rattle.std.proofs.lemmas.List.Folds.{list_any-append}
-use Rattle.std.proofs.lemmas.List.Sums.{fold-append}
+use Rattle.std.proofs.Common.{◌≡◌, ◌⊎◌, inl, inr, set, append_assoc, ℕ, ◌+◌, ◌<◌, ◌==◌, zero, suc, Bool, true, false, ◌||◌, nat_lt, List, [], ◌∷◌, ◌++◌, length, get_or, take, map, flat_map, fold, slice_get, Contains, Option, Some, bytes_eq, refl, sym, ap, ◌∙◌, subst, true≢false, arith, eqb-true, eq-eqb, if◌then◌else◌}
+use Rattle.cil_resolve.proofs.Common.{list_all, list_any, AllByRecursion, IsDistinct, or-false, or-true, cases_order, get_or_append_left, get_or_push, get_or-set_same, get_or-set_other, bytes_eq-refl, bytes_eq-true, distinct-place, lt-ltb, none-some, same_Some, slice_get_within, get_or_from_slice_get, list_any-append, fold-append, bytes_eq-Decides, Word, Placed, has_name, with_name, distinct, texts, own_permissions, both_true, first_true, second_true, kind_of, lists_own, none-listed, has-distinct, is_numbered, is_numbered_kind, full_name_of, names_with, names_of, AreNamesOf, listed_names, number_in, AreNumbersIn, HavePermissionsOf}
 use Rattle.std.proofs.lemmas.List.Quantifiers.{position-Some}
-use Rattle.std.proofs.lemmas.Slice.Eq.{bytes_eq-Decides}
-use Rattle.std.proofs.lemmas.Grind.{flat_map-append}
-use Rattle.cil_specs.specs.Names.{Word}
-use Rattle.cil_specs.specs.Joined.{Placed}
-use Rattle.cil_specs.specs.Lookup.{has_name, with_name, distinct, texts, own_permissions}
-use Rattle.cil_specs.proofs.Runs.{both_true, first_true, second_true}
-use Rattle.cil_specs.proofs.NamesLemmas.{around}
-use Rattle.cil_parse.specs.Forms.{kind_of}
-use Rattle.cil_check.specs.Permissions.{lists_own}
-use Rattle.cil_check.proofs.PermissionLemmas.{none-listed}
-use Rattle.cil_check.proofs.WordLemmas.{has-distinct}
-use Rattle.cil_resolve.specs.FullNames.{is_numbered, is_numbered_kind, full_name_of}
 use Rattle.cil_resolve.proofs.FullNamesLemmas.{kind-numbered}
-use Rattle.cil_resolve.specs.Numbering.{names_with, names_of, AreNamesOf, listed_names, number_in, AreNumbersIn, HavePermissionsOf}
 use Rattle.cil_resolve.proofs.ListLemmas.{any-of-flat}
 use Rattle.cil_resolve.proofs.StatementLemmas.{map-one}
 

@@ -1,20 +1,8 @@
 -- The number of a name among names in the order of their bytes.
-use Rattle.std.proofs.Common.{◌≡◌, ℕ, zero, suc, ◌<◌, ◌≤◌, Bool, true, false, ◌&&◌, ◌||◌, nat_lt, List, [], ◌∷◌, map, length, get_or, slice_index_or, bytes_eq, arith, Option, Some, None, refl, sym, ap, ◌∙◌, subst, true≢false}
-use Rattle.std.specs.List.{prefix_len, list_all, list_any, slice_get}
-use Rattle.std.specs.List.Sorted.{IsPartitionedBy, IsPartitionPoint}
-use Rattle.std.specs.Option.{MatchOption}
-use Rattle.std.specs.Ordering.{is_lt}
-use Rattle.std.specs.declared.cmp.Ordering.TheVariants.{Equal}
-use Rattle.std.proofs.lemmas.Bool.{and_parts, ltb-true, lt-ltb}
-use Rattle.std.proofs.lemmas.Cmp.{nat_list_cmp_total, tied_itself}
+use Rattle.std.proofs.Common.{◌≡◌, ℕ, zero, suc, ◌<◌, ◌≤◌, Bool, true, false, ◌||◌, nat_lt, List, [], ◌∷◌, map, length, get_or, slice_index_or, bytes_eq, arith, Option, Some, None, refl, sym, ap, ◌∙◌, subst, true≢false}
+use Rattle.cil_resolve.proofs.Common.{prefix_len, list_all, list_any, slice_get, IsPartitionedBy, IsPartitionPoint, MatchOption, is_lt, Equal, and_parts, ltb-true, lt-ltb, nat_list_cmp_total, tied_itself, same_Some, slice_get_past, slice_get_read, bytes_eq-Decides, has_name, name_cmp, names_rise, is_name_below, declared_of}
 use Rattle.std.proofs.lemmas.Map.Lookups.{exact_bytes}
-use Rattle.std.proofs.lemmas.Option.{same_Some, slice_get_past, slice_get_read}
-use Rattle.std.proofs.lemmas.Slice.Eq.{bytes_eq-Decides}
-use Rattle.cil_specs.specs.Lookup.{has_name}
-use Rattle.cil_specs.specs.Report.{name_cmp, names_rise}
 use Rattle.cil_specs.proofs.ReportLemmas.{sorted_from_names_rise}
-use Rattle.cil_resolve.specs.Below.{is_name_below}
-use Rattle.cil_resolve.specs.Numbers.{declared_of}
 use Rattle.cil_resolve.specs.declared.numbered.NumberedName.{NumberedName}
 use Rattle.cil_specs.proofs.SearchLemmas.{IsTiedAt, leaves, partitioned, prefix-of-point}
 

@@ -1,21 +1,11 @@
 -- Expressions of one name, by their nodes.
 use Rattle.std.proofs.Common.{◌≡◌, ◌∙◌, List, ℕ, true, [], ◌∷◌, length, IsTrue, refl, sym, ap, subst}
-use Rattle.std.specs.List.{list_all}
-use Rattle.cil_specs.specs.Names.{Word}
-use Rattle.cil_specs.specs.Expr.{Expr, WordExpr, named, nothing, elements, leaves, map_leaves}
+use Rattle.cil_resolve.proofs.Common.{list_all, Word, Expr, WordExpr, named, nothing, elements, leaves, map_leaves, both_true, expr_nodes, expr_in, Element, expr-is, written-nodes, is_element_below, IsElement, IsExpression, element_of}
 use Rattle.cil_specs.specs.Rule as spec
-use Rattle.cil_specs.proofs.Runs.{both_true}
-use Rattle.cil_parse.specs.Forms.{expr_nodes}
 use Rattle.cil_parse.specs.declared.row.SetNode.{SetNode}
 use Rattle.cil_parse.specs.declared.row.SetNode.TheVariants as nodes
-use Rattle.cil_expression.specs.Expression.{expr_in}
 use Rattle.cil_expression.specs.Spelling.{expr_of}
-use Rattle.cil_expression.specs.declared.expression.Element.{Element}
 use Rattle.cil_expression.specs.declared.expression.SetExpression.{SetExpression}
-use Rattle.cil_expression.proofs.SpellingLemmas.{expr-is, written-nodes}
-use Rattle.cil_resolve.specs.Below.{is_element_below}
-use Rattle.cil_resolve.specs.Lowering.{IsElement, IsExpression}
-use Rattle.cil_resolve.specs.Numbers.{element_of}
 
 -- a written expression is what its nodes and its words spell
 spelt-by : (e : WordExpr) (spelling : List SetNode) (words : List Word) → expr_nodes e ≡ spelling → leaves e ≡ words → expr_of spelling words ≡ e

@@ -1,30 +1,11 @@
 -- The types, attributes, classes, set statements and rules of a policy, statement by statement.
-use Rattle.std.proofs.Common.{◌≡◌, ℕ, zero, suc, Bool, true, false, ◌&&◌, nat_lt, List, [], ◌∷◌, ◌++◌, length, get_or, map, flat_map, Option, Some, is_some, refl, sym, ap, ◌∙◌, subst, true≢false, append-nil, IsTrue, if◌then◌else◌}
-use Rattle.std.specs.List.{list_all}
-use Rattle.std.proofs.lemmas.Bool.{lt-ltb}
-use Rattle.std.proofs.lemmas.List.{map-append}
-use Rattle.std.proofs.lemmas.List.Folds.{list_all-append}
-use Rattle.std.proofs.lemmas.Grind.{flat_map-append}
-use Rattle.cil_specs.specs.Names.{Word}
-use Rattle.cil_specs.specs.Joined.{Placed}
-use Rattle.cil_specs.specs.Statements.{Form, block, optional, type_name, type_alias, alias_actual, type_attribute, attribute_set, common, class, class_common, class_order, rule}
-use Rattle.cil_specs.specs.Lookup.{types, classes, declared_in, declared_name, distinct, permissions_of}
+use Rattle.std.proofs.Common.{◌≡◌, ℕ, Bool, true, false, ◌&&◌, nat_lt, List, [], ◌∷◌, ◌++◌, length, map, flat_map, Some, refl, sym, ap, ◌∙◌, true≢false, append-nil, if◌then◌else◌}
+use Rattle.cil_resolve.proofs.Common.{list_all, lt-ltb, map-append, list_all-append, flat_map-append, Word, Placed, Form, block, optional, type_name, type_alias, alias_actual, type_attribute, attribute_set, common, class, class_common, class_order, rule, types, classes, declared_in, distinct, permissions_of, declared_as, class_as, is_class, is_type, is_attribute, itself, the_named, kind_of, kind-form, both_true, is_name_below, numbered_id, full_name_of, IsDeclared, IsClass, type_if, attribute_if, class_if, set_if, rule_if, AreNumbersIn, declared_of}
 use Rattle.cil_specs.specs.Rule as spec
-use Rattle.cil_specs.specs.Rule.{declared_as, class_as, is_class}
-use Rattle.cil_specs.specs.Lookup.{is_type, is_attribute}
-use Rattle.cil_specs.specs.Statements.{itself, the_named}
-use Rattle.cil_parse.specs.Forms.{kind_of}
 use Rattle.cil_parse.specs.declared.row.StatementKind.{StatementKind}
 use Rattle.cil_parse.specs.declared.row.StatementKind.TheVariants as kinds
 use Rattle.cil_check.specs.Kinds.{is_kind}
 use Rattle.cil_check.specs.declared.kinds.Kind.TheVariants.{«Type», Attribute}
-use Rattle.cil_check.proofs.SeenLemmas.{kind-form}
-use Rattle.cil_specs.proofs.Runs.{both_true}
-use Rattle.cil_resolve.specs.Below.{is_name_below, is_class_below}
-use Rattle.cil_resolve.specs.FullNames.{numbered_id, full_name_of}
-use Rattle.cil_resolve.specs.Lowering.{IsDeclared, IsClass, ArePartsOf, AreRules, type_if, attribute_if, class_if, set_if, rule_if}
-use Rattle.cil_resolve.specs.Numbering.{AreNumbersIn}
-use Rattle.cil_resolve.specs.Numbers.{declared_of}
 use Rattle.cil_resolve.specs.declared.numbered.NumberedName.{NumberedName}
 use Rattle.cil_resolve.specs.declared.numbered.NumberedClass.{NumberedClass}
 use Rattle.cil_resolve.proofs.ElementLemmas.{full-name-in}
@@ -77,9 +58,6 @@ stay f g old new statements s so_far same none = grow f g old new [] statements 
 
 pub below-more : {X : Type 0} (p : X → Bool) (old new : List X) (x : X) → list_all p old ≡ true → new ≡ old ++ x ∷ [] → p x ≡ true → list_all p new ≡ true
 below-more p old new x all pushed one = ap (list_all p) pushed ∙ list_all-append p old (x ∷ []) ∙ both_true (list_all p old) (p x && true) all (both_true (p x) true one refl)
-
-pub below-stay : {X : Type 0} (p : X → Bool) (old new : List X) → list_all p old ≡ true → new ≡ old → list_all p new ≡ true
-below-stay p old new all same = ap (list_all p) same ∙ all
 
 pub attribute-form : (form : Form) → is_attribute form ≡ true → (id : Word) × (form ≡ type_attribute id)
 attribute-form (type_attribute id) e = (id, refl)

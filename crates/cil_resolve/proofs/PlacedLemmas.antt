@@ -1,19 +1,7 @@
 -- What a policy declares, and its rules, stand in its modules.
 use Rattle.std.proofs.Common.{◌≡◌, ◌∙◌, inl, inr, arith, ℕ, zero, suc, Bool, true, false, ◌&&◌, ◌||◌, List, [], ◌∷◌, Contains, Some, slice_get, bytes_eq, refl, ap, if◌then◌else◌}
-use Rattle.std.specs.List.{list_all}
-use Rattle.std.proofs.Math.Bool.{or-true}
-use Rattle.std.proofs.lemmas.Option.{none-some, same_Some}
-use Rattle.cil_specs.specs.Statements.{Form, rule}
-use Rattle.cil_specs.specs.Joined.{Placed}
-use Rattle.cil_specs.specs.Lookup.{types, has_name, is_type, is_attribute}
-use Rattle.cil_specs.specs.Rule.{declared_as, class_as, is_class, types_of, attributes_of, classes_of, rules_of, rule_of}
-use Rattle.cil_specs.proofs.NamesLemmas.{contains-cases}
-use Rattle.cil_specs.proofs.Runs.{both_true}
-use Rattle.cil_bind.specs.Scope.{IsFrom, AreFrom}
-use Rattle.cil_bind.specs.declared.joined.NamedModule.{NamedModule}
-use Rattle.cil_bind.specs.declared.rows.Row.{Row}
-use Rattle.cil_bind.proofs.NamespaceLemmas.{bytes_eq-refl}
-use Rattle.cil_resolve.specs.Consistent.{are_placed_in}
+use Rattle.cil_resolve.proofs.Common.{list_all, or-true, none-some, same_Some, Form, rule, Placed, types, has_name, is_type, is_attribute, declared_as, class_as, is_class, types_of, attributes_of, classes_of, rules_of, rule_of, contains-cases, both_true, NamedModule, Row, bytes_eq-refl, are_placed_in}
+use Rattle.cil_bind.specs.Scope.{AreFrom}
 use Rattle.cil_resolve.specs.Modules.{names_of}
 use Rattle.cil_resolve.proofs.ListLemmas.{all-of-flat}
 

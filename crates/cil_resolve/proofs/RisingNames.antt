@@ -1,13 +1,8 @@
 -- Names that rise, by their numbers.
-use Rattle.std.proofs.Common.{◌≡◌, ◌==◌, ℕ, ◌<◌, ◌⊎◌, inl, inr, Bool, true, true≢false, List, [], length, get_or, Ordering, Less, Equal, bytes_eq, is_lt, IsTrue, sym, ap, ◌∙◌, eq-eqb}
-use Rattle.std.specs.List.Sorted.{IsStrictlySortedBy}
-use Rattle.std.proofs.lemmas.Bool.{cases_order, eqb-true}
-use Rattle.std.proofs.lemmas.Cmp.{tied_itself}
+use Rattle.std.proofs.Common.{◌≡◌, ◌==◌, ℕ, ◌<◌, ◌⊎◌, inl, inr, true, true≢false, List, [], length, get_or, Less, Equal, bytes_eq, is_lt, IsTrue, sym, ap, ◌∙◌, eq-eqb}
+use Rattle.cil_resolve.proofs.Common.{IsStrictlySortedBy, cases_order, eqb-true, tied_itself, bytes_eq-Decides, name_cmp, names_rise, same-bool}
 use Rattle.std.proofs.lemmas.Map.Keys.{Less-from_sorted}
-use Rattle.std.proofs.lemmas.Slice.Eq.{bytes_eq-Decides}
-use Rattle.cil_specs.specs.Report.{name_cmp, names_rise}
 use Rattle.cil_specs.proofs.ReportLemmas.{name_total, sorted_from_names_rise}
-use Rattle.cil_bind.proofs.DeclareLemmas.{same-bool}
 
 -- Where names rise, two numbers have the same name where they are the same.
 pub same-name : (names : List (List ℕ)) (i j : ℕ) → IsTrue (names_rise names) → i < length names → j < length names → bytes_eq (get_or names i []) (get_or names j []) ≡ (i == j)

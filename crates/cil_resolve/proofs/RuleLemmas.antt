@@ -1,31 +1,11 @@
 -- Rules by numbers.
-use Rattle.std.proofs.Common.{◌≡◌, ℕ, zero, suc, Bool, true, false, not, ◌&&◌, ◌||◌, nat_lt, List, [], ◌∷◌, ◌++◌, length, get_or, map, flat_map, slice_get, Contains, Option, Some, None, is_some, bytes_eq, refl, sym, ap, ◌∙◌, subst, true≢false, if◌then◌else◌}
-use Rattle.std.specs.List.{list_all}
-use Rattle.std.proofs.lemmas.Bool.{lt-ltb}
-use Rattle.std.proofs.lemmas.Option.{none-some, same_Some, slice_get-get_or}
-use Rattle.cil_specs.specs.Names.{Word}
-use Rattle.cil_specs.specs.Joined.{Placed}
-use Rattle.cil_specs.specs.Statements.{RuleKind, allow, auditallow, dontaudit, neverallow, Target, Form, block, optional, type_name, type_alias, alias_actual, type_attribute, attribute_set, common, class, class_common, class_order, rule}
-use Rattle.std.specs.Option.{unwrap_or}
-use Rattle.std.proofs.lemmas.List.Folds.{list_any-append}
-use Rattle.cil_specs.proofs.NamesLemmas.{contains-first, contains-other, contains-map}
-use Rattle.cil_parse.specs.Forms.{rule_kind}
+use Rattle.std.proofs.Common.{◌≡◌, ℕ, Bool, true, false, ◌&&◌, ◌||◌, nat_lt, List, [], ◌∷◌, length, get_or, map, flat_map, slice_get, Contains, Option, Some, None, is_some, bytes_eq, refl, sym, ap, ◌∙◌, subst, true≢false, if◌then◌else◌}
+use Rattle.cil_resolve.proofs.Common.{list_all, lt-ltb, none-some, slice_get-get_or, Word, Placed, RuleKind, allow, auditallow, dontaudit, neverallow, Target, Form, block, optional, type_name, type_alias, alias_actual, type_attribute, attribute_set, common, class, class_common, class_order, rule, unwrap_or, list_any-append, contains-first, contains-other, contains-map, rule_kind, IsLead, IsFaultless, lead-of, bound-at, Table, commons, classes, has_name, texts, own_permissions, listed_by, leads, references, named_permissions, gives_common, common_permissions, permissions_of, class_name, both_true, place_of, rule_kind_of, is_element_below, is_target_below, is_rule_below, IsElement, AreRules, number_in, AreNumbersIn, listed_names, resolved_target_of}
 use Rattle.cil_bind.specs.Binding.{AreBound}
-use Rattle.cil_bind.specs.Lookup.{IsLead}
-use Rattle.cil_check.specs.Ordered.{IsFaultless}
-use Rattle.cil_check.proofs.SeenLemmas.{lead-of, bound-at}
 use Rattle.cil_resolve.proofs.FaultlessLemmas.{permission-found}
 use Rattle.cil_resolve.proofs.LoweringLemmas.{found-at}
 use Rattle.cil_resolve.proofs.StatementLemmas.{contained}
-use Rattle.cil_specs.specs.Lookup.{Table, commons, classes, has_name, texts, own_permissions, listed_by, leads, references, named_permissions, gives_common, common_permissions, permissions_of}
 use Rattle.cil_specs.specs.Rule as spec
-use Rattle.cil_specs.specs.Rule.{class_name}
-use Rattle.cil_specs.proofs.Runs.{both_true}
-use Rattle.cil_text.specs.Image.{place_of, rule_kind_of}
-use Rattle.cil_resolve.specs.Below.{is_element_below, is_target_below, is_rule_below}
-use Rattle.cil_resolve.specs.Lowering.{IsElement, AreRules}
-use Rattle.cil_resolve.specs.Numbering.{number_in, AreNumbersIn, listed_names}
-use Rattle.cil_resolve.specs.Numbers.{resolved_target_of}
 use Rattle.cil_resolve.specs.declared.numbered.NumberedRule.{NumberedRule}
 use Rattle.cil_resolve.proofs.NumberLemmas.{named-in, number-is, numbers-are, numbers-below}
 

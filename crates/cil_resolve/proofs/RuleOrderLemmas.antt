@@ -1,19 +1,8 @@
 -- The rules of a policy in order are in order.
-use Rattle.std.proofs.Common.{◌≡◌, ◌∙◌, inl, inr, ℕ, ◌+◌, ◌<◌, ◌≤◌, List, [], ◌∷◌, ◌++◌, length, flat_map, Contains, refl, sym, ap, subst, arith}
-use Rattle.std.specs.List.{AllByRecursion}
-use Rattle.std.specs.List.Sorted.{IsStrictlySortedBy}
-use Rattle.std.specs.Ordering.{nat_cmp, ordering_then}
+use Rattle.std.proofs.Common.{◌≡◌, ◌∙◌, inl, inr, ◌+◌, ◌<◌, ◌≤◌, List, [], ◌∷◌, ◌++◌, length, flat_map, Contains, sym, ap, arith}
+use Rattle.cil_resolve.proofs.Common.{AllByRecursion, IsStrictlySortedBy, nat_cmp, ordering_then, Less, nat_list_cmp_total, tied_itself, Placed, name_cmp, Rule, rules_of, rule_of, Form, rule, flat-contains, all-contained, contains-cases, contains-first, contains-other, offsets_in, IsBefore, AreOrdered}
 use Rattle.std.specs.Cmp.{nat_cmp_is}
-use Rattle.std.specs.declared.cmp.Ordering.TheVariants.{Less, Equal}
-use Rattle.std.proofs.lemmas.Cmp.{nat_list_cmp_total, tied_itself}
-use Rattle.cil_specs.specs.Joined.{Placed}
-use Rattle.cil_specs.specs.Report.{name_cmp}
-use Rattle.cil_specs.specs.Rule.{Rule, rules_of, rule_of}
-use Rattle.cil_specs.specs.Statements.{Form, rule}
 use Rattle.cil_specs.specs.Violations.{rule_cmp}
-use Rattle.cil_specs.proofs.MeansLemmas.{flat-contains}
-use Rattle.cil_specs.proofs.NamesLemmas.{all-contained, contains-cases, contains-first, contains-other}
-use Rattle.cil_bind.specs.Ordered.{offsets_in, IsBefore, AreOrdered}
 
 -- a rule stands where its statement does
 rule-stands : (whole : List Placed) (s : Placed) (form : Form) (r : Rule) → Contains (rule_of whole s form) r → (s.module_name ≡ r.module_name) × (s.at.offset ≡ r.at.offset)

@@ -1,15 +1,9 @@
 -- Set statements that are the same.
-use Rattle.std.proofs.Common.{◌≡◌, ◌==◌, ℕ, Bool, true, false, true≢false, ◌&&◌, List, [], ◌∷◌, map, bytes_eq, refl, sym, ap, ◌∙◌, eq-eqb}
-use Rattle.std.proofs.lemmas.Bool.{eqb-true}
-use Rattle.std.proofs.lemmas.Slice.Eq.{bytes_eq-Decides}
-use Rattle.cil_specs.specs.Expr.{Expr, every, named, opposite, both, either, one_of, nothing, elements, leaves, map_leaves}
-use Rattle.cil_specs.specs.Rule.{Element, a_type, an_attribute, SetStatement, SetContent, IsSameSet}
-use Rattle.cil_specs.proofs.MeansLemmas.{leaves-mapped}
-use Rattle.cil_specs.proofs.Runs.{first_true, second_true, both_true}
+use Rattle.std.proofs.Common.{◌≡◌, ◌==◌, Bool, true, false, true≢false, ◌&&◌, List, [], ◌∷◌, map, bytes_eq, refl, sym, ap, ◌∙◌, eq-eqb}
+use Rattle.cil_resolve.proofs.Common.{eqb-true, bytes_eq-Decides, Expr, every, named, opposite, both, either, one_of, nothing, elements, leaves, map_leaves, a_type, an_attribute, SetStatement, SetContent, IsSameSet, leaves-mapped, first_true, second_true, both_true, nodes-mapped, same_element, same_set}
+use Rattle.cil_specs.specs.Rule.{Element}
 use Rattle.cil_expression.specs.Same.{all_same, same_node, are_same}
 use Rattle.cil_expression.proofs.SameExprLemmas.{same-mapped, mapped-same}
-use Rattle.cil_expression.proofs.SpellingLemmas.{nodes-mapped}
-use Rattle.cil_resolve.specs.Same.{same_element, same_set}
 
 all-led-on : {first second third fourth : Type 0} (same : third → fourth → Bool) (f : first → third) (g : second → fourth) (xs : List first) (ys : List second)
     → all_same same (map f xs) (map g ys) ≡ all_same (λ x y. same (f x) (g y)) xs ys

@@ -1,32 +1,9 @@
 -- Set statements by numbers.
 use Rattle.std.proofs.Common.{◌≡◌, ℕ, ◌+◌, suc, true, ◌&&◌, nat_lt, List, [], ◌∷◌, ◌++◌, length, get_or, map, slice_get, Contains, IsTrue, Some, refl, sym, ap, ◌∙◌, subst, arith}
-use Rattle.std.specs.List.{list_all}
-use Rattle.std.proofs.lemmas.Bool.{lt-ltb}
-use Rattle.std.proofs.lemmas.List.{map-append, length-map}
-use Rattle.std.proofs.lemmas.List.Folds.{list_all-append}
-use Rattle.cil_specs.specs.Names.{Word}
-use Rattle.cil_specs.specs.Expr.{WordExpr, leaves, map_leaves}
-use Rattle.cil_specs.specs.Joined.{Placed}
-use Rattle.cil_specs.specs.Lookup.{types, leads, references}
-use Rattle.cil_specs.specs.PolicyFault.{element_words}
-use Rattle.cil_specs.specs.Statements.{attribute_set}
+use Rattle.cil_resolve.proofs.Common.{list_all, lt-ltb, map-append, length-map, list_all-append, Word, WordExpr, leaves, map_leaves, Placed, types, leads, references, element_words, attribute_set, name_or_none, both_true, leaves-mapped, place_of, expr_nodes, words_in, set-reference, is_element_below, is_set_below, expr_in, expr-is, nodes-mapped, written-spelt, filled, IsElement, AreElements, IsExpression, AreSets, number_in, element_of, Element, NumberedSet}
 use Rattle.cil_specs.specs.Rule as spec
-use Rattle.cil_specs.specs.Rule.{name_or_none}
-use Rattle.cil_specs.proofs.Runs.{both_true}
-use Rattle.cil_specs.proofs.MeansLemmas.{leaves-mapped}
-use Rattle.cil_text.specs.Image.{place_of}
-use Rattle.cil_parse.specs.Forms.{expr_nodes, words_in}
-use Rattle.cil_check.proofs.AskedLemmas.{set-reference}
-use Rattle.cil_resolve.specs.Below.{is_element_below, is_set_below}
 use Rattle.cil_expression.specs.Spelling.{expr_of, IsSpelt}
-use Rattle.cil_expression.specs.Expression.{expr_in}
 use Rattle.cil_expression.specs.declared.expression.SetExpression.{SetExpression}
-use Rattle.cil_expression.proofs.SpellingLemmas.{expr-is, nodes-mapped, written-spelt, filled}
-use Rattle.cil_resolve.specs.Lowering.{IsElement, AreElements, IsExpression, AreSets}
-use Rattle.cil_resolve.specs.Numbering.{number_in}
-use Rattle.cil_resolve.specs.Numbers.{element_of}
-use Rattle.cil_expression.specs.declared.expression.Element.{Element}
-use Rattle.cil_resolve.specs.declared.numbered.NumberedSet.{NumberedSet}
 use Rattle.cil_resolve.proofs.NumberLemmas.{number-is}
 use Rattle.cil_resolve.proofs.StatementLemmas.{contained}
 

@@ -1,32 +1,9 @@
 -- The order of set statements, by names.
-use Rattle.std.proofs.Common.{◌≡◌, ◌≢◌, ◌↔◌, ◌⊎◌, ◌∙◌, inl, inr, ℕ, zero, suc, ◌+◌, ◌<◌, ◌≤◌, Bool, true, false, ◌&&◌, List, [], ◌∷◌, ◌++◌, length, map, get_or, Option, Some, None, Ordering, slice_get, All, Contains, bytes_eq, refl, sym, ap, subst, true≢false, eqb-true, arith}
-use Rattle.std.specs.List.{cons_option, list_all, list_any}
-use Rattle.std.specs.Ordering.{is_lt, ordering_reverse}
-use Rattle.std.specs.declared.cmp.Ordering.TheVariants.{Less, Equal, Greater}
-use Rattle.std.proofs.lemmas.Bool.{cases_lt}
-use Rattle.std.proofs.lemmas.Cmp.{nat_list_cmp_total}
-use Rattle.std.proofs.lemmas.List.Elements.{All-contains, Contains-get_or}
-use Rattle.std.proofs.lemmas.Map.Views.{Contains-from_any}
-use Rattle.std.proofs.lemmas.Option.{get_or_from_slice_get, slice_get-get_or, slice_get_within}
-use Rattle.std.proofs.lemmas.Slice.Eq.{bytes_eq-Decides}
+use Rattle.std.proofs.Common.{◌≡◌, ◌≢◌, ◌∙◌, inl, inr, ℕ, zero, suc, ◌<◌, ◌≤◌, Bool, true, false, List, [], ◌∷◌, length, map, get_or, Option, Some, None, slice_get, Contains, bytes_eq, refl, sym, ap, subst, true≢false, eqb-true, arith}
+use Rattle.cil_resolve.proofs.Common.{cons_option, list_any, Contains-from_any, get_or_from_slice_get, slice_get-get_or, slice_get_within, bytes_eq-Decides, leaves, an_attribute, SetStatement, is_the_attribute, mentions, HasNoCircle, IsNextOf, any-contained, contains-cases, contains-first, contains-map, contains-mapped, contains-middle, contains-other, passes-among, Element, «Type», Attribute, NumberedSet, element_of, set_of, names_in, sets_at, AreNamed, AreStraight, DependsThrough, IsNext, IsSetOrder, leaves-mapped, expr_in}
 use Rattle.cil_specs.specs.Dependence.{has_set, AreInOrder, AreTheSame}
-use Rattle.cil_specs.specs.Expr.{leaves}
-use Rattle.cil_specs.specs.Report.{name_cmp, names_rise}
 use Rattle.cil_specs.specs.Rule as spec
-use Rattle.cil_specs.specs.Rule.{a_type, an_attribute, SetStatement}
 use Rattle.cil_specs.specs.Sets as sets_by_names
-use Rattle.cil_specs.specs.Sets.{is_the_attribute, mentions, HasNoCircle, IsNextOf}
-use Rattle.cil_specs.proofs.DependsLemmas.{any-contained}
-use Rattle.cil_specs.proofs.NamesLemmas.{contains-cases, contains-first, contains-map, contains-mapped, contains-middle, contains-other}
-use Rattle.cil_specs.proofs.OnceLemmas.{passes-among}
-use Rattle.cil_specs.proofs.Runs.{first_true, second_true}
-use Rattle.cil_expression.specs.declared.expression.Element.{Element}
-use Rattle.cil_expression.specs.declared.expression.Element.TheVariants.{«Type», Attribute}
-use Rattle.cil_resolve.specs.declared.numbered.NumberedSet.{NumberedSet}
-use Rattle.cil_resolve.specs.Numbers.{element_of, set_of}
-use Rattle.cil_resolve.specs.SetOrder.{names_in, sets_at, AreNamed, AreStraight, DependsThrough, IsNext, IsSetOrder}
-use Rattle.cil_specs.proofs.MeansLemmas.{leaves-mapped}
-use Rattle.cil_expression.specs.Expression.{expr_in}
 use Rattle.cil_resolve.proofs.RisingNames.{same-number}
 use Rattle.cil_resolve.proofs.SetOrderLemmas.{attribute-below, named-below}
 
@@ -36,9 +13,6 @@ attribute-named names («Type» i) name is = absurd (true≢false (sym is))
 attribute-named names (Attribute b) name is = (b, refl, sym ((bytes_eq-Decides name (get_or names b [])).0 is))
 
 module _ {A : Type 0} (modules names : List (List ℕ)) (sets : List (NumberedSet A)) where
-  the_set : NumberedSet A → SetStatement
-  the_set = set_of modules names
-
   pub at-set : (numbers : List ℕ) (t : NumberedSet A) → Contains (sets_at sets numbers) t → (j : ℕ) × (j < length numbers) × (slice_get sets (get_or numbers j 0) ≡ Some t)
   at-set [] t c = absurd (omega (arith, c.1))
   at-set (n ∷ numbers) t c = by (slice_get sets n) refl (at-set numbers t) c
@@ -96,11 +70,6 @@ module _ {A : Type 0} (modules names : List (List ℕ)) (sets : List (NumberedSe
         let (e, has, same) = contains-mapped (element_of names) (names_in s) one.x (subst (λ l. Contains l one.x) (sym one.split) (contains-middle one.before one.x one.after)) in
         let (b, is, at) = attribute-named names e name (subst (λ x. is_the_attribute name x ≡ true) (sym same) one.passes) in
         (b, subst (Contains (names_in s)) is has, at)
-
-    -- statements at numbers that stand in order
-    Stand : List ℕ → Type 0
-    Stand numbers = (i j : ℕ) (s t : NumberedSet A) → i ≤ j → j < length numbers → slice_get sets (get_or numbers i 0) ≡ Some s → slice_get sets (get_or numbers j 0) ≡ Some t
-        → Contains (names_in s) (Attribute t.attribute) → ⊥
 
     no-set : (n : ℕ) (numbers : List ℕ) (s : NumberedSet A) (name : List ℕ)
         → ((i j : ℕ) (s t : NumberedSet A) → i ≤ j → j < suc (length numbers) → slice_get sets (get_or (n ∷ numbers) i 0) ≡ Some s → slice_get sets (get_or (n ∷ numbers) j 0) ≡ Some t → Contains (names_in s) (Attribute t.attribute) → ⊥)

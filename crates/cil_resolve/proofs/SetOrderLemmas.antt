@@ -1,34 +1,12 @@
 -- The graph of set statements, and their order.
-use Rattle.std.proofs.Common.{◌≡◌, ◌≢◌, ◌↔◌, ◌⊎◌, ◌∙◌, inl, inr, ℕ, zero, suc, ◌+◌, ◌<◌, ◌≤◌, Bool, true, false, ◌&&◌, List, [], ◌∷◌, ◌++◌, length, take, map, get_or, nat_lt, Option, Some, None, Result, Ok, Err, IfOk, slice_get, Vec, All, AllPairs, Contains, refl, sym, ap, subst, ltb-true, arith}
-use Rattle.std.specs.List.{list_all, AllByRecursion}
-use Rattle.std.proofs.lemmas.Bool.{cases_eq, cases_lt}
-use Rattle.std.proofs.lemmas.Cmp.{nat_eq_equiv}
-use Rattle.std.proofs.lemmas.List.{get_or_default, get_or-map, length-map, take_all, take_more}
-use Rattle.std.proofs.lemmas.List.Elements.{All-contains, Contains-append_left, Contains-get_or, Contains-push, Contains-push_cases}
-use Rattle.std.proofs.lemmas.Map.Views.{list_any-from_Contains}
-use Rattle.std.proofs.lemmas.Option.{get_or_from_slice_get, slice_get_within}
-use Rattle.std.specs.List.{cons_option}
-use Rattle.std.specs.Option.{option_and_then}
-use Rattle.cil_specs.proofs.NamesLemmas.{contains-cases}
-use Rattle.cil_check.proofs.WordLemmas.{none-there}
-use Rattle.cil_specs.specs.Expr.{leaves}
-use Rattle.cil_expression.specs.Expression.{expr_in}
-use Rattle.cil_specs.proofs.Runs.{first_true, second_true}
-use Rattle.cil_dependence.specs.Graph.{IsEdge, AreNodes, LeadsThrough}
+use Rattle.std.proofs.Common.{◌≡◌, ◌≢◌, ◌↔◌, ◌⊎◌, ◌∙◌, inl, inr, ℕ, zero, suc, ◌+◌, ◌<◌, ◌≤◌, true, List, [], ◌∷◌, ◌++◌, length, take, map, get_or, nat_lt, Option, Some, None, Result, Ok, Err, IfOk, slice_get, Vec, All, AllPairs, Contains, refl, sym, ap, subst, ltb-true, arith}
+use Rattle.cil_resolve.proofs.Common.{list_all, AllByRecursion, cases_eq, cases_lt, nat_eq_equiv, get_or_default, get_or-map, length-map, take_all, take_more, Contains-append_left, Contains-push, Contains-push_cases, list_any-from_Contains, get_or_from_slice_get, slice_get_within, cons_option, option_and_then, contains-cases, none-there, leaves, expr_in, first_true, second_true, IsEdge, AreNodes, LeadsThrough, Element, «Type», Attribute, NumberedSet, is_set_below, is_element_below, names_in, attributes_in, AreStraight, DependsThrough, IsNext, IsSetOrder, Mentions, StandTogether, sets_at}
 use Rattle.cil_dependence.specs.Dependence.{IsOrder, IsCircular}
-use Rattle.cil_dependence.specs.Items.{AreEachOnce, ComesBefore, StandsBefore}
-use Rattle.cil_expression.specs.declared.expression.Element.{Element}
-use Rattle.cil_expression.specs.declared.expression.Element.TheVariants.{«Type», Attribute}
-use Rattle.cil_resolve.specs.declared.numbered.NumberedSet.{NumberedSet}
-use Rattle.cil_resolve.specs.Below.{is_set_below, is_element_below}
-use Rattle.cil_resolve.specs.SetOrder.{names_in, attributes_in, AreStraight, DependsThrough, IsNext, IsSetOrder, Mentions, StandTogether, sets_at}
+use Rattle.cil_dependence.specs.Items.{AreEachOnce, ComesBefore}
 
 -- edges lead from an attribute to those among these names
 abbrev pub HasNamed : {A : Type 0} → ℕ → List Element → List (Vec ℕ A) → List (Vec ℕ A) → Type 0
 HasNamed from names old new = (a b : ℕ) → IsEdge new a b ↔ (IsEdge old a b ⊎ ((from ≡ a) × Contains names (Attribute b)))
-
-pub named-none : {A : Type 0} (from : ℕ) (graph : List (Vec ℕ A)) → HasNamed from [] graph graph
-named-none from graph a b = (λ e. inl e, λ o. elim o [ inl e ↦ e | inr (_, c) ↦ absurd (omega (arith, c.1)) ])
 
 pub type-apart : (i b : ℕ) → «Type» i ≡ Attribute b → ⊥
 type-apart i b e = cc
@@ -87,10 +65,6 @@ named-next from to i d read names old mid new same low is edges has a b = (there
 pub named-all : {A B : Type 0} (s : NumberedSet A) (i : ℕ) (read : List Element) (old new : List (Vec ℕ B)) → read ≡ names_in s → length read ≤ i → HasNamed s.attribute (take i (names_in s)) old new
     → (a b : ℕ) → IsEdge new a b ↔ (IsEdge old a b ⊎ Mentions s a b)
 named-all s i read old new same past has = subst (λ l. HasNamed s.attribute l old new) (take_all i (names_in s) (subst (λ l. length l ≤ i) same past)) has
-
--- no statement
-pub next-none : {A B : Type 0} (sets : List (NumberedSet A)) (graph : List (Vec ℕ B)) → ((a b : ℕ) → IsEdge graph a b → ⊥) → (a b : ℕ) → IsEdge graph a b ↔ IsNext (take 0 sets) a b
-next-none sets graph none a b = (λ e. absurd (none a b e), λ n. absurd (omega (arith, n.is_in.1)))
 
 -- one statement more
 pub next-more : {A B : Type 0} (sets : List (NumberedSet A)) (i : ℕ) (s : NumberedSet A) (mid new : List (Vec ℕ B)) → i < length sets → s ≡ get_or sets i s

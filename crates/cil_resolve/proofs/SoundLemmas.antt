@@ -1,24 +1,8 @@
 -- The set statements of a policy without faults are of attributes that it declares, mention what it declares, and make no circle.
-use Rattle.std.proofs.Common.{◌≡◌, ◌∙◌, inl, inr, ℕ, true, false, List, [], ◌∷◌, map, Contains, Option, Some, None, is_some, bytes_eq, refl, sym, ap, subst, true≢false, arith}
-use Rattle.std.specs.List.{list_any}
-use Rattle.std.proofs.lemmas.Slice.Eq.{bytes_eq-Decides}
-use Rattle.cil_specs.specs.Names.{Word}
-use Rattle.cil_specs.specs.Expr.{WordExpr, leaves, map_leaves}
-use Rattle.cil_specs.specs.Joined.{Placed}
-use Rattle.cil_specs.specs.Statements.{Form, attribute_set}
-use Rattle.cil_specs.specs.Lookup.{types, leads, references, declared_name, is_attribute}
-use Rattle.cil_specs.specs.PolicyFault.{circular, kinds_asked, element_words}
-use Rattle.cil_specs.specs.Rule.{Element, a_type, an_attribute, Declared, SetStatement, types_of, attributes_of, sets_of, element_of, name_or_none, set_statement_of}
-use Rattle.cil_specs.specs.Sets.{DependsOn}
-use Rattle.cil_specs.specs.Meaning.{meaning_of}
-use Rattle.cil_specs.specs.Members.{keeps_element, HasOwnSets, HasSoundSets}
-use Rattle.cil_specs.proofs.NamesLemmas.{contains-first, contains-other, contains-cases, contains-map, contains-mapped, contains-middle, around}
-use Rattle.cil_specs.proofs.DependsLemmas.{any-contained, first-step}
-use Rattle.cil_specs.proofs.OnceLemmas.{passes-among}
+use Rattle.std.proofs.Common.{◌≡◌, ◌∙◌, inl, inr, ℕ, true, false, List, [], map, Contains, Option, Some, None, is_some, bytes_eq, refl, sym, ap, subst, true≢false, arith}
+use Rattle.cil_resolve.proofs.Common.{list_any, bytes_eq-Decides, Word, WordExpr, leaves, map_leaves, Placed, Form, attribute_set, types, leads, references, declared_name, is_attribute, circular, kinds_asked, element_words, a_type, an_attribute, Declared, SetStatement, types_of, attributes_of, sets_of, name_or_none, set_statement_of, DependsOn, meaning_of, keeps_element, HasSoundSets, contains-first, contains-other, contains-cases, contains-map, contains-mapped, contains-middle, around, any-contained, first-step, passes-among, flat-contains, leaves-mapped, IsFaultless, is_declared, is_element_of}
+use Rattle.cil_specs.specs.Rule.{Element, element_of}
 use Rattle.cil_specs.proofs.CircularLemmas.{attribute-word}
-use Rattle.cil_specs.proofs.MeansLemmas.{flat-contains, leaves-mapped}
-use Rattle.cil_check.specs.Ordered.{IsFaultless}
-use Rattle.cil_resolve.specs.Consistent.{is_declared, is_element_of}
 use Rattle.cil_resolve.proofs.ConsistentLemmas.{attribute-declared, word-declared}
 use Rattle.cil_resolve.proofs.FaultlessLemmas.{no-faulty, word-found, kind-found}
 use Rattle.cil_resolve.proofs.LedLemmas.{leads-led}

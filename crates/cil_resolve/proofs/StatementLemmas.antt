@@ -1,17 +1,8 @@
 -- Statements of a policy at their places.
-use Rattle.std.proofs.Common.{◌≡◌, ℕ, ◌+◌, ◌<◌, zero, suc, List, [], ◌∷◌, ◌++◌, length, get_or, take, map, flat_map, slice_get, Contains, Some, refl, sym, ap, ◌∙◌, subst, arith, append-nil}
-use Rattle.std.proofs.lemmas.Option.{none-some, same_Some, slice_get-get_or, slice_get_within, get_or_from_slice_get}
-use Rattle.std.proofs.lemmas.List.{take_more, map-append, get_or-map, length-map}
-use Rattle.std.proofs.lemmas.Grind.{flat_map-append}
-use Rattle.cil_specs.specs.Joined.{Placed}
-use Rattle.cil_specs.proofs.NamesLemmas.{contains-first, contains-other}
+use Rattle.std.proofs.Common.{◌≡◌, ℕ, ◌+◌, ◌<◌, zero, suc, List, [], ◌∷◌, ◌++◌, length, get_or, take, map, flat_map, slice_get, Contains, Some, sym, ap, ◌∙◌, subst, arith, append-nil}
+use Rattle.cil_resolve.proofs.Common.{none-some, same_Some, slice_get-get_or, slice_get_within, get_or_from_slice_get, take_more, map-append, get_or-map, flat_map-append, Placed, contains-first, contains-other, Row, row-at, IsOf, is-long, row-there, modules_of}
 use Rattle.cil_bind.specs.Rows.{IsRow}
-use Rattle.cil_bind.specs.declared.rows.Row.{Row}
-use Rattle.cil_bind.proofs.DeclareLemmas.{row-at}
-use Rattle.cil_check.specs.Bound.{IsOf}
 use Rattle.cil_check.specs.declared.bound.BoundPolicy.{BoundPolicy}
-use Rattle.cil_check.proofs.SeenLemmas.{is-long, row-there}
-use Rattle.cil_resolve.specs.Lowering.{modules_of}
 
 -- an element at a place
 pub at-place : {X : Type 0} (xs : List X) (i : ℕ) (x : X) → slice_get xs i ≡ Some x → (i < length xs) × Contains xs x

@@ -1,3 +1,4 @@
+pub mod Common
 pub mod ReachLemmas
 pub mod ShiftLemmas
 pub mod MoveLemmas

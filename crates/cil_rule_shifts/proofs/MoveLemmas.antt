@@ -1,24 +1,10 @@
 -- How many counters move, word by word, permission by permission and source by source.
 use Rattle.std.proofs.Common.{◌≡◌, ℕ, ◌+◌, ◌*◌, ◌/◌, ◌%◌, ◌^◌, ◌<◌, ◌==◌, ◌&&◌, ◌||◌, ◌-◌, Bool, true, false, nat_lt, List, length, take, get_or, max, min, bit_xor, count_ones, refl, sym, ap, ◌∙◌, inl, inr, arith, true≢false}
-use Rattle.std.specs.Int.{bit_at}
-use Rattle.std.specs.List.Sorted.{IsStrictlyIncreasing}
-use Rattle.std.proofs.lemmas.Bool.{cases_eq, cases_lt, eq-eqb, le-ltb, ne_eqb, eqb-true}
+use Rattle.cil_rule_shifts.proofs.Common.{bit_at, IsStrictlyIncreasing, cases_eq, cases_lt, eq-eqb, le-ltb, ne_eqb, eqb-true, bit_at_above, bit_at_xor, hit, hit-here, hit-there, is_key, SymbolKey, differs, has_either, has_word, moves_for, moves_in, moves_of, moves_where, turns, AreSame, AreTurned, gives, has_head, has_source, is_line, one_if, reaches, takes, IsNext, NoneFrom, RuleHead, Reach, Targets, RisesBy, rises-bits, rises-map, rises-more, rises-none, rises-same, same-from_counts}
 use Rattle.std.proofs.lemmas.Nat.{xor_lt}
-use Rattle.std.proofs.lemmas.Nat.Bits.{bit_at_above, bit_at_xor}
-use Rattle.cil_lines.specs.Line.{hit}
-use Rattle.cil_lines.proofs.StepLemmas.{hit-here, hit-there}
-use Rattle.cil_keyed_lines.specs.Keyed.{is_key}
-use Rattle.cil_keyed_lines.specs.declared.symbol_key.SymbolKey.{SymbolKey}
 use Rattle.cil_keyed_lines.proofs.KeyedLemmas.{key_itself, one_key}
-use Rattle.cil_rule_shifts.specs.Moves.{differs, has_either, has_word, moves_for, moves_in, moves_of, moves_where, turns, AreSame, AreTurned}
-use Rattle.cil_rule_shifts.specs.Reach.{gives, has_head, has_source, is_line, one_if, reaches, takes, IsNext, NoneFrom}
-use Rattle.cil_rule_shifts.specs.declared.head.RuleHead.{RuleHead}
-use Rattle.cil_rule_shifts.specs.declared.reach.Reach.{Reach}
-use Rattle.cil_rule_shifts.specs.declared.targets.Targets.{Targets}
 use Rattle.cil_rule_shifts.proofs.ReachLemmas.{no-first, no-second}
 use Rattle.cil_rule_shifts.proofs.ShiftLemmas.{first, head-more, line-more, of_head, same-either-way, source-all, source-gives, source-more}
-use Rattle.cil_sums.specs.Rises.{RisesBy}
-use Rattle.cil_sums.proofs.RiseLemmas.{rises-bits, rises-map, rises-more, rises-none, rises-same, same-from_counts}
 
 -- a bit that either mask has, and one in which they differ
 pub bit-either : (x y : ℕ) (f g : Bool) → x ≡ one_if f → y ≡ one_if g → max x y ≡ one_if (f || g)
@@ -131,15 +117,6 @@ module _ {A : Type 0} (key : SymbolKey) (was is : Targets A) (words : List ℕ) 
       by false h w rest = refl
       by true true w rest = refl
       by true false w rest = sym (rest refl)
-
-  pub line-moved : (b : Bool) (t after before : ℕ) → after + one_if ((b && has_word words t) && takes was key.source t) ≡ before + one_if ((b && has_word words t) && takes is key.source t)
-      → after + one_if (b && takes was key.source t) ≡ before + one_if (b && takes is key.source t)
-  line-moved b t after before = by b (has_word words t) (takes was key.source t) (takes is key.source t) (turned.rest t)
-    where
-      by : (b h w v : Bool) → (h ≡ false → differs w v ≡ false) → after + one_if ((b && h) && w) ≡ before + one_if ((b && h) && v) → after + one_if (b && w) ≡ before + one_if (b && v)
-      by false h w v rest moved = moved
-      by true true w v rest moved = moved
-      by true false w v rest moved = let same = ap one_if (differs-same w v (rest refl)) in omega (arith, moved, same)
 
 module _ {A : Type 0} (source : ℕ) (head : RuleHead) (rising : IsStrictlyIncreasing head.permissions.now) (was is : Targets A) (i count : ℕ) where
   -- one permission more

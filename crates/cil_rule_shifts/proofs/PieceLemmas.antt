@@ -1,26 +1,14 @@
 -- The targets of a source word by word, and the counters that rise by them.
 use Rattle.std.proofs.Common.{◌≡◌, ℕ, zero, suc, ◌+◌, ◌-◌, ◌/◌, ◌^◌, ◌<◌, ◌≤◌, ◌==◌, ◌&&◌, ◌||◌, ◌++◌, Bool, true, false, cond, nat_lt, List, [], ◌∷◌, length, take, get_or, min, count_ones, refl, sym, ap, ◌∙◌, subst, inl, inr, arith, true≢false}
 use Rattle.std.specs.List.{All}
-use Rattle.std.specs.List.Sorted.{IsStrictlyIncreasing}
+use Rattle.cil_rule_shifts.proofs.Common.{IsStrictlyIncreasing, cases_lt, le-ltb, hit, is_key, SymbolKey, has_either, has_target, hits_of, put_for, put_in, AreApart, gives, has_source, is_line, one_if, takes, AreShort, IsNext, IsNextWord, NoneFrom, NoneFromWord, RuleHead, Reach, Targets, RisesBy, rises-more, rises-none, rises-same, same-from_counts}
 use Rattle.std.proofs.Math.Bool.{and-false}
-use Rattle.std.proofs.lemmas.Bool.{cases_lt, le-ltb}
 use Rattle.std.proofs.lemmas.List.{take_more}
 use Rattle.std.proofs.lemmas.List.Elements.{All-append}
-use Rattle.cil_lines.specs.Line.{hit}
-use Rattle.cil_keyed_lines.specs.Keyed.{is_key}
-use Rattle.cil_keyed_lines.specs.declared.symbol_key.SymbolKey.{SymbolKey}
-use Rattle.cil_rule_shifts.specs.Moves.{has_either}
-use Rattle.cil_rule_shifts.specs.Pieces.{has_target, hits_of, put_for, put_in, AreApart}
-use Rattle.cil_rule_shifts.specs.Reach.{gives, has_source, is_line, one_if, takes, AreShort, IsNext, IsNextWord, NoneFrom, NoneFromWord}
-use Rattle.cil_rule_shifts.specs.declared.head.RuleHead.{RuleHead}
 use Rattle.cil_rule_shifts.specs.declared.pieces.Piece.{Piece}
-use Rattle.cil_rule_shifts.specs.declared.reach.Reach.{Reach}
-use Rattle.cil_rule_shifts.specs.declared.targets.Targets.{Targets}
 use Rattle.cil_rule_shifts.proofs.MoveLemmas.{gives-none, word-count}
 use Rattle.cil_rule_shifts.proofs.ReachLemmas.{no-second}
 use Rattle.cil_rule_shifts.proofs.ShiftLemmas.{first, head-more, of_head, same-either-way, source-all, source-gives, source-more}
-use Rattle.cil_sums.specs.Rises.{RisesBy}
-use Rattle.cil_sums.proofs.RiseLemmas.{rises-more, rises-none, rises-same, same-from_counts}
 
 -- one piece more
 pub hits-push : (pieces : List Piece) (piece : Piece) (t : ℕ) → hits_of (pieces ++ piece ∷ []) t ≡ hits_of pieces t + hit piece.word piece.mask t
@@ -53,10 +41,6 @@ some-hit : (n : ℕ) → n ≤ 1 → n ≡ one_if (nat_lt 0 n)
 some-hit zero few = refl
 some-hit (suc zero) few = refl
 some-hit (suc (suc n)) few = absurd (omega (arith, few))
-
-pub keyed-all : (b : Bool) (pieces : List Piece) (t : ℕ) → hits_of pieces t ≤ 1 → cond b (hits_of pieces t) 0 ≡ one_if (b && has_target pieces t)
-keyed-all true pieces t few = some-hit (hits_of pieces t) few
-keyed-all false pieces t few = refl
 
 pub keyed-front : (b : Bool) (pieces : List Piece) (i t : ℕ) → hits_of pieces t ≤ 1 → cond b (hits_of (take i pieces) t) 0 ≤ one_if (b && has_target pieces t)
 keyed-front true pieces i t few = let less = hits-front i pieces t in let some = some-hit (hits_of pieces t) few in omega (arith, less, some)

@@ -1,14 +1,8 @@
 -- What rules reach, word by word and source by source.
 use Rattle.std.proofs.Common.{◌≡◌, ◌≢◌, ℕ, ◌+◌, ◌-◌, ◌*◌, ◌/◌, ◌%◌, ◌^◌, ◌<◌, ◌≤◌, ◌==◌, ◌&&◌, ◌||◌, Bool, true, false, nat_lt, Option, None, Some, MatchOption, w64, refl, sym, ap, ◌∙◌, subst, inl, inr, arith, true≢false, min, div-add-mod', div-le_self, mod-lt, pow_pos}
 use Rattle.std.specs.Bool.{then_some}
-use Rattle.std.specs.Int.{bit_at, trailing_zeros}
+use Rattle.cil_rule_shifts.proofs.Common.{bit_at, trailing_zeros, cases_eq, cases_lt, eq-eqb, ne_eqb, lt-ltb, leb-true, leb-false, bit_at-pow_same, bit_at-pow_other, bit_at_cat_high, bit_at-trailing_zeros, bit_at_above, bit_at-zero, Counters, count_of, hit, IsPresence, NonePresent, IsNextPresent, hit-here, hit-there, hit-none, one_if, is_present, takes, IsMask, IsNext, NoneFrom, IsNextWord, NoneFromWord, Targets}
 use Rattle.std.proofs.Math.Dec.{leb}
-use Rattle.std.proofs.lemmas.Bool.{cases_eq, cases_lt, eq-eqb, ne_eqb, lt-ltb, ltb-true, leb-true, leb-false}
-use Rattle.std.proofs.lemmas.Nat.Bits.{bit_at-pow_same, bit_at-pow_other, bit_at_cat_high, bit_at-trailing_zeros, bit_at_above, bit_at-zero}
-use Rattle.cil_lines.specs.Line.{Counters, count_of, hit, IsPresence, NonePresent, IsNextPresent}
-use Rattle.cil_lines.proofs.StepLemmas.{hit-here, hit-there, hit-none}
-use Rattle.cil_rule_shifts.specs.Reach.{one_if, is_present, takes, IsMask, IsNext, NoneFrom, IsNextWord, NoneFromWord}
-use Rattle.cil_rule_shifts.specs.declared.targets.Targets.{Targets}
 use Rattle.cil_rule_shifts.specs.declared.targets.Targets.TheVariants.{Nothing, Itself, These}
 
 -- the bit of a number in its word
@@ -57,10 +51,6 @@ present-none line s none = ap (nat_lt 0) none
 pub present-some : (line : Counters) (s : ℕ) → 0 < count_of line s → is_present line s ≡ true
 unfolding is_present
 present-some line s some = lt-ltb 0 (count_of line s) some
-
-pub present-count : (line : Counters) (s : ℕ) → is_present line s ≡ true → 0 < count_of line s
-unfolding is_present
-present-count line s is = ltb-true 0 (count_of line s) is
 
 pub present-one : (line : Counters) (s : ℕ) → min 1 (count_of line s) ≡ one_if (is_present line s)
 present-one line s =
@@ -263,11 +253,3 @@ no-first false b e = refl
 pub no-second : (a b : Bool) → (a || b) ≡ false → b ≡ false
 no-second true b e = absurd (true≢false e)
 no-second false b e = e
-
--- a word holds no number past those of the code where a test doesn't
-pub short-word : (test : ℕ → Bool) (from word : ℕ) → ((t : ℕ) → 2 ^ 64 ≤ t → test t ≡ false) → IsNextWord test from word → word < 2 ^ 58
-short-word test from word short is =
-    elim (cases_lt is.present.0 (2 ^ 64)) [
-      | inl low ↦ let at = is.present.1 in omega (arith, low, at)
-      | inr high ↦ absurd (true≢false (sym is.present.2 ∙ short is.present.0 high))
-    ]

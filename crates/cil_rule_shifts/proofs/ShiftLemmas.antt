@@ -1,21 +1,10 @@
 -- Counters moved word by word, permission by permission and source by source.
 use Rattle.std.proofs.Common.{◌≡◌, ℕ, zero, suc, ◌+◌, ◌-◌, ◌^◌, ◌/◌, ◌%◌, ◌<◌, ◌≤◌, ◌==◌, ◌&&◌, ◌||◌, Bool, true, false, cond, nat_lt, nat_eq, List, [], ◌∷◌, length, take, get_or, refl, sym, ap, ◌∙◌, subst, inl, inr, arith, le_of_eq, true≢false, bit_and, add-zero, zero-add}
-use Rattle.std.specs.List.Sorted.{IsStrictlyIncreasing}
-use Rattle.std.proofs.lemmas.Bool.{cases_eq, cases_lt, eq-eqb, ne_eqb, eqb-true, lt-ltb, le-ltb}
+use Rattle.cil_rule_shifts.proofs.Common.{IsStrictlyIncreasing, cases_eq, cases_lt, eq-eqb, ne_eqb, eqb-true, lt-ltb, le-ltb, bit_at_and, hit, hit-here, hit-there, hit_of, is_key, is_kind, SymbolKey, differs, has_either, has_word, gives, has_head, has_permission, has_source, is_line, one_if, takes, IsNext, IsShort, RuleHead, Reach, Targets}
 use Rattle.std.proofs.lemmas.List.Folds.{list_any_at, list_any_more}
 use Rattle.std.specs.List.{list_any}
 use Rattle.std.proofs.lemmas.List.Kept.{AllPairs-from_increasing}
-use Rattle.std.proofs.lemmas.Nat.Bits.{bit_at_and}
-use Rattle.cil_lines.specs.Line.{hit}
-use Rattle.cil_lines.proofs.StepLemmas.{hit-here, hit-there}
-use Rattle.cil_keyed_lines.specs.Keyed.{hit_of, is_key, is_kind}
-use Rattle.cil_keyed_lines.specs.declared.symbol_key.SymbolKey.{SymbolKey}
 use Rattle.cil_keyed_lines.proofs.KeyedLemmas.{kind_itself}
-use Rattle.cil_rule_shifts.specs.Moves.{differs, has_either, has_word}
-use Rattle.cil_rule_shifts.specs.Reach.{gives, has_head, has_permission, has_source, is_line, one_if, takes, IsNext, IsShort}
-use Rattle.cil_rule_shifts.specs.declared.head.RuleHead.{RuleHead}
-use Rattle.cil_rule_shifts.specs.declared.reach.Reach.{Reach}
-use Rattle.cil_rule_shifts.specs.declared.targets.Targets.{Targets}
 use Rattle.cil_rule_shifts.proofs.ReachLemmas.{and-no}
 
 -- two numbers are the same either way
@@ -301,19 +290,6 @@ sources-moved from s after before was is same so_far =
     elim (cases_lt s from) [
       | inl first ↦ let front = lt-ltb s from first in omega (arith, so_far, kept _ was front, kept _ is front)
       | inr behind ↦ let front = le-ltb s from behind in omega (arith, so_far, left-out _ was front, left-out _ is front, ap one_if (same behind))
-    ]
-
--- what the source that comes next gave has counters
-pub above-source : (from source s now before : ℕ) (was is : Bool) → from ≤ source → one_if was ≤ before → now + one_if (nat_lt s from && was) ≡ before + one_if (nat_lt s from && is) → one_if ((source == s) && was) ≤ now
-above-source from source s now before was is low counted moved =
-    elim (cases_eq source s) [
-      | inl same ↦
-          let high = le-ltb s from (omega (arith, low, same)) in
-          let no_was : one_if (nat_lt s from && was) ≡ 0 = ap (λ b. one_if (b && was)) high in
-          let no_is : one_if (nat_lt s from && is) ≡ 0 = ap (λ b. one_if (b && is)) high in
-          let here : one_if ((source == s) && was) ≡ one_if was = ap (λ b. one_if (b && was)) (eq-eqb source s same) in
-          omega (arith, no_was, no_is, here, counted, moved)
-      | inr other ↦ let none : one_if ((source == s) && was) ≡ 0 = ap (λ b. one_if (b && was)) (ne_eqb source s other) in omega (arith, none)
     ]
 
 -- what is no source of either rule is none of one alone

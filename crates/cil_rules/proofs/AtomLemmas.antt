@@ -1,25 +1,10 @@
 -- Accesses by numbers have the order of those by names.
 use Rattle.std.proofs.Common.{◌≡◌, ◌⊎◌, inl, inr, ℕ, ◌<◌, List, [], length, map, refl, sym, ap, ◌∙◌, arith}
-use Rattle.std.specs.Bool.{IsTrue}
-use Rattle.std.specs.List.{All}
-use Rattle.std.specs.List.Sorted.{IsStrictlySortedBy}
-use Rattle.std.specs.Ordering.{nat_cmp, ordering_then, ordering_reverse}
-use Rattle.std.specs.declared.cmp.Ordering.{Ordering}
-use Rattle.std.specs.declared.cmp.Ordering.TheVariants.{Less, Equal, Greater}
-use Rattle.std.proofs.lemmas.Bool.{cases_order}
+use Rattle.cil_rules.proofs.Common.{IsTrue, All, IsStrictlySortedBy, nat_cmp, ordering_then, ordering_reverse, Ordering, Less, Equal, Greater, cases_order, tied_itself, recursion_from_All, name_cmp, atom_cmp, names_rise, name_total, sorted_from_names_rise, sorted_map, rule_kind_of, AccessNumbers, IsWithin, atom_at, name_at, AreNumbered}
 use Rattle.std.proofs.lemmas.Bool.Decides.{nat_tests}
-use Rattle.std.proofs.lemmas.Cmp.{tied_itself}
 use Rattle.std.proofs.lemmas.Map.Keys.{Less-from_sorted}
-use Rattle.std.proofs.lemmas.List.Elements.{recursion_from_All}
 use Rattle.cil_specs.specs.Rule as spec
-use Rattle.cil_specs.specs.Report.{name_cmp, atom_cmp, names_rise}
-use Rattle.cil_specs.proofs.ReportLemmas.{name_total, sorted_from_names_rise}
-use Rattle.cil_specs.proofs.ReportLemmasMembers.{sorted_map, sorted_unmap}
-use Rattle.cil_text.specs.Image.{rule_kind_of}
-use Rattle.cil_accesses.specs.declared.access.AccessNumbers.{AccessNumbers}
-use Rattle.cil_accesses.specs.Renumbered.{IsWithin}
 use Rattle.cil_accesses.specs.Chunks.{numbers_cmp}
-use Rattle.cil_rules.specs.Atoms.{atom_at, name_at, AreNumbered}
 
 less : (i j : ℕ) → i < j → nat_cmp i j ≡ Less
 less i j h = grind (arith, nat_tests)
@@ -60,13 +45,6 @@ pub atoms-ordered : (names : List (List ℕ)) (atoms : List AccessNumbers) → A
 atoms-ordered names atoms are =
     sorted_map (atom_at names) numbers_cmp atom_cmp (IsWithin (length names)) (λ x y p q. atom_cmp-atom_at names x y are.names_ordered p q) atoms
     (recursion_from_All (IsWithin (length names)) atoms are.within) are.ordered
-
--- numbers of ascending accesses ascend
-pub numbers-ordered : (names : List (List ℕ)) (atoms : List AccessNumbers) → IsTrue (names_rise names) → All (IsWithin (length names)) atoms → IsStrictlySortedBy atom_cmp (map (atom_at names) atoms)
-    → IsStrictlySortedBy numbers_cmp atoms
-numbers-ordered names atoms rise within ordered =
-    sorted_unmap (atom_at names) numbers_cmp atom_cmp (IsWithin (length names)) (λ x y p q. atom_cmp-atom_at names x y rise p q) atoms
-    (recursion_from_All (IsWithin (length names)) atoms within) ordered
 
 pub none-numbered : AreNumbered [] []
 unfolding IsStrictlySortedBy

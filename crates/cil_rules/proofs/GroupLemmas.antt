@@ -1,24 +1,10 @@
 -- The first row of numbered accesses, and those after it.
 use Rattle.std.proofs.Common.{◌≡◌, ℕ, ◌+◌, ◌≤◌, List, [], ◌∷◌, ◌++◌, length, map, take, drop, Bool, true, false, cond, refl, sym, ap, ◌∙◌, subst, one-add, arith}
-use Rattle.std.specs.Bool.{IsTrue}
-use Rattle.std.specs.List.{All, AllByRecursion, filter, prefix_len}
-use Rattle.std.specs.Ordering.{eq_by_cmp, is_eq, nat_cmp, ordering_then}
+use Rattle.cil_rules.proofs.Common.{IsTrue, All, AllByRecursion, filter, prefix_len, eq_by_cmp, is_eq, nat_cmp, ordering_then, Ordering, nat_cmp_total, on_total, then_total, tied_itself, take_at, drop_at, length-append, All-from_recursion, recursion_from_All, kind_index, names_rise, Row, row_cmp, is_listed, equal-is, rule_kind_of, AccessNumbers, IsWithin, name_at, atom_at, row_with, put_first, groups_of, rows_of, row_at}
 use Rattle.std.specs.Cmp.{IsTotalOrder}
-use Rattle.std.specs.declared.cmp.Ordering.{Ordering}
-use Rattle.std.proofs.lemmas.Cmp.{nat_cmp_total, on_total, then_total, tied_itself}
-use Rattle.std.proofs.lemmas.List.{take_at, drop_at, length-append}
-use Rattle.std.proofs.lemmas.List.Elements.{All-from_recursion, recursion_from_All}
 use Rattle.cil_specs.specs.Rule as spec
-use Rattle.cil_specs.specs.Rule.{kind_index}
-use Rattle.cil_specs.specs.Report.{names_rise, Row, row_cmp, is_listed}
-use Rattle.cil_specs.proofs.ReportLemmas.{equal-is}
-use Rattle.cil_text.specs.Image.{rule_kind_of}
-use Rattle.cil_accesses.specs.declared.access.AccessNumbers.{AccessNumbers}
-use Rattle.cil_accesses.specs.Renumbered.{IsWithin}
-use Rattle.cil_rules.specs.Atoms.{name_at, atom_at}
 use Rattle.cil_accesses.specs.Rows.{row_cmp as row_numbers_cmp, in_row}
 use Rattle.cil_accesses.specs.Groups.{IsFirstGroup}
-use Rattle.cil_rules.specs.Rows.{row_with, put_first, groups_of, rows_of, row_at}
 use Rattle.cil_rules.proofs.AtomLemmas.{name_cmp-name_at}
 use Rattle.cil_rules.proofs.RowLemmas.{all-append_left, all-append_right}
 

@@ -1,3 +1,4 @@
+pub mod Common
 pub mod AtomLemmas
 pub mod ChangesLemmas
 pub mod GroupLemmas

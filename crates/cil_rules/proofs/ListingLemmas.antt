@@ -1,24 +1,11 @@
 -- The text of a row, written in pieces.
 use Rattle.std.proofs.Common.{◌≡◌, ◌<◌, ℕ, Bool, true, false, cond, refl, List, [], ◌∷◌, ◌++◌, length, map, codes, Option, Result, Ok, Err, IfOk, OnOk, OnErr, sym, ap, ◌∙◌, subst, append_assoc}
-use Rattle.std.specs.Bool.{IsTrue}
-use Rattle.std.specs.List.{All, AllByRecursion, filter, flat_map}
-use Rattle.std.proofs.lemmas.Bool.{both_ways}
-use Rattle.std.proofs.lemmas.List.Elements.{All-from_recursion, recursion_from_All}
-use Rattle.std.proofs.lemmas.Result.{on_err_weaker}
+use Rattle.cil_rules.proofs.Common.{IsTrue, All, AllByRecursion, filter, flat_map, both_ways, All-from_recursion, recursion_from_All, on_err_weaker, AreAtoms, Row, AreRows, row_line, Gains, GainsFront, gains-both, gains-then_front, front-longer, rule_kind_of, AccessNumbers, IsWithin, name_at, rows_of, row_head, row_at, name_text, permission_text, chunk_text}
 use Rattle.std.proofs.lemmas.List.Folds.{flat_map-map}
 use Rattle.cil_specs.specs.Rule as spec
-use Rattle.cil_specs.specs.Report.{AreAtoms, Row, AreRows, row_line}
-use Rattle.cil_stream.specs.Device.{Gains, GainsFront}
-use Rattle.cil_stream.proofs.Gaining.{gains-both}
-use Rattle.cil_stream.proofs.Gaining.{gains-then_front, front-longer}
-use Rattle.cil_text.specs.Image.{rule_kind_of}
-use Rattle.cil_accesses.specs.declared.access.AccessNumbers.{AccessNumbers}
 use Rattle.cil_accesses.specs.declared.chunk.Chunk.{Chunk}
-use Rattle.cil_accesses.specs.Renumbered.{IsWithin}
 use Rattle.cil_accesses.specs.View.{access_at, at_bit, has_bit}
 use Rattle.cil_text.specs.declared.statement.RuleKind.TheVariants.{Allow}
-use Rattle.cil_rules.specs.Atoms.{name_at}
-use Rattle.cil_rules.specs.Rows.{rows_of, row_head, row_at, name_text, permission_text, chunk_text}
 use Rattle.cil_rules.proofs.RowLemmas.{are-rows}
 
 -- the line of a row is its head, its permissions and its end

@@ -1,18 +1,11 @@
 -- Rows by numbers, as they are built.
 use Rattle.std.proofs.Common.{◌≡◌, ℕ, ◌+◌, ◌-◌, true, false, cond, get_or, sym, append_assoc, append-nil, ◌<◌, ◌≤◌, List, [], ◌∷◌, ◌++◌, length, map, take, drop, refl, ap, ◌∙◌, arith}
 use Rattle.std.specs.Prelude.{slice_range}
-use Rattle.std.specs.List.{All, AllByRecursion, filter}
-use Rattle.std.proofs.lemmas.List.{length-append, length-drop, map_push, drop-append-le, take-append-le, drop_at, take_all}
-use Rattle.std.proofs.lemmas.List.Elements.{All-push, All-weaker, All-append, All-map, recursion_from_All, filter_more}
+use Rattle.cil_rules.proofs.Common.{All, AllByRecursion, filter, length-append, length-drop, map_push, drop-append-le, take-append-le, drop_at, take_all, All-push, All-weaker, All-append, All-map, recursion_from_All, filter_more, AccessNumbers, IsWithin, name_at, row_at, numbered_row, row_by, IsNumberedRow, AreNumberedRows}
 use Rattle.cil_text.specs.declared.statement.RuleKind.TheVariants.{Allow}
-use Rattle.cil_accesses.specs.declared.access.AccessNumbers.{AccessNumbers}
 use Rattle.cil_accesses.specs.declared.chunk.Chunk.{Chunk}
 use Rattle.cil_accesses.specs.View.{access_at, at_bit, has_bit}
 use Rattle.cil_rules.specs.declared.rows.RowNumbers.{RowNumbers}
-use Rattle.cil_accesses.specs.Renumbered.{IsWithin}
-use Rattle.cil_rules.specs.Atoms.{name_at}
-use Rattle.cil_rules.specs.Rows.{row_at}
-use Rattle.cil_rules.specs.NumberedRows.{numbered_row, row_by, IsNumberedRow, AreNumberedRows}
 
 -- a range of a list is that range of a longer one
 range-append : (xs ys : List ℕ) (start end : ℕ) → start ≤ end → end ≤ length xs → slice_range (xs ++ ys) start end ≡ slice_range xs start end
@@ -69,9 +62,6 @@ module _ (names : List (List ℕ)) (ps : List ℕ) (rows : List RowNumbers) (fir
             All-append (λ n. n < length names) ps qs are.within
             (All-map (λ n. n < length names) (λ a. a.permission) row (All-weaker (IsWithin (length names)) (λ a. a.permission < length names) (λ a h. h.permission) row row_within));
       }
-
-pub none-numbered_rows : (names : List (List ℕ)) → AreNumberedRows names [] []
-none-numbered_rows names = record { each = λ k d h. absurd (omega arith); within = λ k d h. absurd (omega arith) }
 
 -- the numbers that a place past the end of a list is read as
 abbrev pub no_row : RowNumbers

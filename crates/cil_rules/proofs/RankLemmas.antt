@@ -1,19 +1,8 @@
 -- Names that are merged from two ascending lists.
 use Rattle.std.proofs.Common.{◌≡◌, ◌⊎◌, inl, inr, ℕ, ◌<◌, ◌≤◌, List, [], ◌∷◌, ◌++◌, length, map, take, refl, sym, ap, ◌∙◌, subst, arith}
-use Rattle.std.specs.Bool.{IsTrue}
-use Rattle.std.specs.List.{AllByRecursion}
-use Rattle.std.specs.List.Sorted.{IsStrictlySortedBy}
-use Rattle.std.specs.Ordering.{ordering_reverse}
-use Rattle.std.specs.declared.cmp.Ordering.{Ordering}
-use Rattle.std.specs.declared.cmp.Ordering.TheVariants.{Less, Equal, Greater}
+use Rattle.cil_rules.proofs.Common.{IsTrue, AllByRecursion, IsStrictlySortedBy, ordering_reverse, Ordering, Less, Equal, Greater, take_more, take_all, length_push, get_or_append_left, get_or_push, map_push, cases_order, All-push, All-weaker, recursion_from_All, name_cmp, names_rise, name_total, sorted_from_names_rise, names_rise-from_sorted, name_at}
 use Rattle.std.proofs.lemmas.Map.Keys.{Less-from_sorted}
 use Rattle.std.proofs.lemmas.Map.Lookups.{exact_bytes}
-use Rattle.std.proofs.lemmas.List.{take_more, take_all, length_push, get_or_append_left, get_or_push, map_push}
-use Rattle.std.proofs.lemmas.Bool.{cases_order}
-use Rattle.std.proofs.lemmas.List.Elements.{All-push, All-weaker, recursion_from_All}
-use Rattle.cil_specs.specs.Report.{name_cmp, names_rise}
-use Rattle.cil_specs.proofs.ReportLemmas.{name_total, sorted_from_names_rise, names_rise-from_sorted}
-use Rattle.cil_rules.specs.Atoms.{name_at}
 use Rattle.cil_rules.specs.Ranks.{ArePlaces, IsMerged, IsNext}
 
 -- which name comes first, by what comparing the two answers

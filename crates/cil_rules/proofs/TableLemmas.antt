@@ -1,24 +1,15 @@
 -- The names of the accesses that the rules of a policy give are the policy's.
 use Rattle.std.proofs.Common.{◌≡◌, ℕ, ◌<◌, ◌==◌, List, [], ◌∷◌, length, bytes_eq, nat_lt, sym, subst, inl, inr}
-use Rattle.std.specs.Bool.{IsTrue}
-use Rattle.std.specs.List.{list_all, list_any}
+use Rattle.cil_rules.proofs.Common.{IsTrue, list_all, list_any, and_parts, eqb-true, ltb-true, kind_index, same-kind, AnyByRecursion, any_from_counted, any_from_map, any_from_test, rule_kind_of, AccessNumbers, IsWithin, atom_at, name_at}
 use Rattle.std.specs.Cmp.Lexicographic.{bytes_decides}
-use Rattle.std.proofs.lemmas.Bool.{and_parts, eqb-true, ltb-true}
 use Rattle.cil_specs.specs.Rule as spec
-use Rattle.cil_specs.specs.Rule.{kind_index}
 use Rattle.cil_specs.specs.Meaning.{aims, covers, gives, holds, is_in_table, keeps_type}
-use Rattle.cil_specs.proofs.ReportLemmas.{same-kind}
-use Rattle.cil_specs.proofs.ReportLemmasMembers.{AnyByRecursion, any_from_counted, any_from_map, any_from_test}
-use Rattle.cil_text.specs.Image.{rule_kind_of}
 use Rattle.cil_resolve.specs.Below.{is_element_below, is_name_below, is_rule_below, is_target_below}
 use Rattle.cil_resolve.specs.Numbers.{declared_of, rule_of}
 use Rattle.cil_resolve.specs.Resolved.{meaning_in}
 use Rattle.cil_resolve.specs.declared.numbered.NumberedName.{NumberedName}
 use Rattle.cil_resolve.specs.declared.numbered.NumberedRule.{NumberedRule}
 use Rattle.cil_resolve.specs.declared.resolved.Resolved.{Resolved}
-use Rattle.cil_accesses.specs.declared.access.AccessNumbers.{AccessNumbers}
-use Rattle.cil_accesses.specs.Renumbered.{IsWithin}
-use Rattle.cil_rules.specs.Atoms.{atom_at, name_at}
 
 -- a number of a name
 abbrev pub IsNamed : List (List ℕ) → List ℕ → Type 0

@@ -1,12 +1,6 @@
 -- Whether an attribute depends on another is decided: by way of the attributes of set statements, each taken or not.
 use Rattle.std.proofs.Common.{◌≡◌, ◌↔◌, ℕ, inl, inr, Bool, true, false, ◌&&◌, ◌||◌, List, [], ◌∷◌, ◌++◌, map, Contains, bytes_eq, refl, sym, ap, ◌∙◌, subst, true≢false}
-use Rattle.std.specs.List.{list_any}
-use Rattle.std.proofs.lemmas.Bool.{or_cases}
-use Rattle.std.proofs.lemmas.Slice.Eq.{bytes_eq-Decides}
-use Rattle.std.proofs.Math.Bool.{or-true}
-use Rattle.cil_specs.specs.Lookup.{has_name}
-use Rattle.cil_specs.specs.Rule.{SetStatement}
-use Rattle.cil_specs.specs.Sets.{mentions, IsNextOf, DependsThrough, DependsOn}
+use Rattle.cil_specs.proofs.Common.{list_any, or_cases, bytes_eq-Decides, or-true, has_name, SetStatement, mentions, IsNextOf, DependsThrough, DependsOn}
 use Rattle.cil_specs.proofs.Runs.{first_true, second_true, both_true}
 use Rattle.cil_specs.proofs.NamesLemmas.{around, contains-map, contains-middle}
 use Rattle.cil_specs.proofs.OnceLemmas.{passes-among, any-middle}

@@ -1,13 +1,6 @@
 -- A policy keeps optionals: of all its optionals those are taken away again and again that need what isn't there.
 use Rattle.std.proofs.Common.{◌≡◌, ◌⊎◌, inl, inr, ℕ, zero, suc, ◌+◌, ◌<◌, ◌≤◌, Bool, true, false, not, ◌&&◌, ◌||◌, ◌==◌, cond, List, [], ◌∷◌, Contains, bytes_eq, refl, sym, ap, ◌∙◌, subst, arith, true≢false}
-use Rattle.std.specs.List.{list_all, list_any, count_by}
-use Rattle.std.proofs.lemmas.Bool.{eqb-true, eq-eqb, cases_lt}
-use Rattle.std.proofs.lemmas.Slice.Eq.{bytes_eq-Decides}
-use Rattle.std.proofs.lemmas.List.Sums.{sum_by-cons}
-use Rattle.cil_specs.specs.Statements.{is_optional}
-use Rattle.cil_specs.specs.Joined.{Placed}
-use Rattle.cil_specs.specs.PolicyFault.{missing_words}
-use Rattle.cil_specs.specs.Kept.{Optionals, is_within, restricted, is_optional_at, is_member, has_innermost, IsWithin, IsGood, AreKept, AreApart}
+use Rattle.cil_specs.proofs.Common.{list_all, list_any, count_by, eqb-true, eq-eqb, cases_lt, bytes_eq-Decides, sum_by-cons, is_optional, Placed, missing_words, Optionals, is_within, restricted, is_optional_at, is_member, has_innermost, IsWithin, IsGood, AreKept, AreApart}
 use Rattle.cil_specs.proofs.Runs.{first_true, second_true, both_true}
 use Rattle.cil_specs.proofs.NamesLemmas.{contains-first, contains-other, contains-middle}
 use Rattle.cil_specs.proofs.GrowsLemmas.{within-grows}

@@ -1,17 +1,9 @@
 -- A policy compiles, or it has a first fault.
 use Rattle.std.proofs.Common.{◌≡◌, ◌⊎◌, inl, inr, ◌↔◌, ℕ, ◌≤◌, List, [], ◌∷◌, ◌++◌, map, flat_map, Contains, if◌then◌else◌, refl, sym, ap, ◌∙◌, subst, append_assoc, arith}
-use Rattle.std.specs.Ordering.{nat_cmp, is_eq, ordering_reverse}
-use Rattle.std.specs.declared.cmp.Ordering.{Ordering}
-use Rattle.std.specs.declared.cmp.Ordering.TheVariants.{Less, Equal, Greater}
+use Rattle.cil_specs.proofs.Common.{nat_cmp, is_eq, ordering_reverse, Ordering, Less, Equal, Greater, cases_lt, cases_order, nat_list_cmp_total, bytes_eq-Decides, Word, Placed, PolicyFaultKind, twice, missing, wrong_kind, alias_twice, alias_unset, second_common, too_many_permissions, circular, PolicyFault, twice_words, missing_words, wrong_kind_words, alias_twice_words, alias_unset_words, second_common_words, too_many_words, is_outside, IsFaulty, IsFaultOf, Optionals, judged, IsPolicyFault, IsFirst, Compiles}
 use Rattle.std.specs.Cmp.Lexicographic.{slice_cmp}
-use Rattle.std.proofs.lemmas.Bool.{cases_lt, cases_order}
-use Rattle.std.proofs.lemmas.Cmp.{nat_list_cmp_total}
 use Rattle.std.proofs.lemmas.Map.Text.{is_eq-slice_cmp}
-use Rattle.std.proofs.lemmas.Slice.Eq.{bytes_eq-Decides}
-use Rattle.cil_specs.specs.Names.{Word}
-use Rattle.cil_specs.specs.Joined.{Placed}
-use Rattle.cil_specs.specs.PolicyFault.{PolicyFaultKind, twice, missing, wrong_kind, alias_twice, alias_unset, second_common, too_many_permissions, circular, code_of, PolicyFault, twice_words, missing_words, wrong_kind_words, alias_twice_words, alias_unset_words, second_common_words, too_many_words, is_outside, IsFaulty, IsFaultOf, IsNoLater}
-use Rattle.cil_specs.specs.Kept.{Optionals, judged, IsPolicyFault, IsFirst, Compiles}
+use Rattle.cil_specs.specs.PolicyFault.{code_of, IsNoLater}
 use Rattle.cil_specs.proofs.NamesLemmas.{contains-first, contains-other, contains-cases, contains-map, contains-mapped}
 use Rattle.cil_specs.proofs.FaultWords.{contains-left, contains-right, contains-append_cases}
 use Rattle.cil_specs.proofs.MeansLemmas.{contains-flat, flat-contains}

@@ -1,10 +1,6 @@
 -- A list fits one form at most.
 use Rattle.std.proofs.Common.{◌≡◌, ℕ, inl, inr, List, [], ◌∷◌, sym, ◌∙◌, ap, subst, refl, false, codes, bytes_eq}
-use Rattle.cil_specs.specs.Names.{Word}
-use Rattle.cil_specs.specs.Trees.{Trees, none}
-use Rattle.cil_specs.specs.Expr.{IsListThen, Expresses}
-use Rattle.cil_specs.specs.Statements.{RuleKind, allow, auditallow, dontaudit, neverallow, rule_word, Target, itself, the_named, Form, block, optional, type_name, type_alias, alias_actual, type_attribute, attribute_set, common, class, class_common, class_order, rule}
-use Rattle.cil_specs.specs.Shape.{put_word, all_words, IsWordList, IsTargetThen, IsClassList, IsClassAndPermissions, Fits}
+use Rattle.cil_specs.proofs.Common.{Word, Trees, none, IsListThen, Expresses, RuleKind, allow, auditallow, dontaudit, neverallow, rule_word, Target, itself, the_named, Form, block, optional, type_name, type_alias, alias_actual, type_attribute, attribute_set, common, class, class_common, class_order, rule, put_word, all_words, IsWordList, IsTargetThen, IsClassList, IsClassAndPermissions, Fits}
 use Rattle.cil_specs.proofs.ExprLemmas.{apart}
 use Rattle.cil_specs.proofs.ExprSame.{same_word, expresses_same}
 use Rattle.cil_specs.proofs.FormLemmas.{first_word, IsNameAndList, OperandsFit, fits_begin, fits_parts}
@@ -83,16 +79,6 @@ not_rule word dontaudit a b c d h = apart word _ c h
 not_rule word neverallow a b c d h = apart word _ d h
 
 -- Where operands of a first word fit it in no way, no form fits the two.
-
-pub no_block : (operands inner : Trees) (form : Form) → ((id : Word) (inner : Trees) → OperandsFit operands (block id) inner → ⊥) → codes "block" ≡ first_word form → OperandsFit operands form inner → ⊥
-no_block operands inner (block id) other is h = other id inner h
-no_block operands inner (rule kind source target the_class permissions) other is h = not_rule _ kind refl refl refl refl is
-no_block operands inner _ other is h = apart _ _ refl is
-
-pub no_optional : (operands inner : Trees) (form : Form) → ((id : Word) (inner : Trees) → OperandsFit operands (optional id) inner → ⊥) → codes "optional" ≡ first_word form → OperandsFit operands form inner → ⊥
-no_optional operands inner (optional id) other is h = other id inner h
-no_optional operands inner (rule kind source target the_class permissions) other is h = not_rule _ kind refl refl refl refl is
-no_optional operands inner _ other is h = apart _ _ refl is
 
 pub no_common : (operands inner : Trees) (form : Form) → ((id : Word) (permissions : List Word) → IsNameAndList operands id permissions → ⊥) → codes "common" ≡ first_word form → OperandsFit operands form inner → ⊥
 no_common operands inner (common id permissions) other is h = other id permissions h.0

@@ -1,3 +1,4 @@
+pub mod Common
 pub mod PlaceLemmas
 pub mod PartLemmas
 pub mod Runs

@@ -1,13 +1,7 @@
 -- What is in an expression by a policy: alike in two policies that agree on the attributes that it mentions, and for an attribute
 -- what is in the expression of one of its set statements.
 use Rattle.std.proofs.Common.{suc, ◌≡◌, ℕ, ◌≤◌, Bool, true, false, ◌&&◌, ◌||◌, List, [], ◌∷◌, map, length, bytes_eq, refl, sym, ap, ◌∙◌, subst, arith}
-use Rattle.std.proofs.lemmas.List.{length-map}
-use Rattle.std.specs.List.{list_any}
-use Rattle.cil_specs.specs.Expr.{Expr, named}
-use Rattle.cil_specs.specs.Lookup.{has_name}
-use Rattle.cil_specs.specs.Rule.{Element, an_attribute, SetStatement, Declared}
-use Rattle.cil_specs.specs.Sets.{expr_holds, attribute_holds, holds_with, mentions}
-use Rattle.cil_specs.specs.Meaning.{Meaning, keeps_type, is_in}
+use Rattle.cil_specs.proofs.Common.{length-map, list_any, Expr, named, has_name, Element, an_attribute, SetStatement, Declared, expr_holds, attribute_holds, holds_with, mentions, Meaning, keeps_type, is_in}
 use Rattle.cil_specs.specs.Members.{is_member, HasSoundSets}
 use Rattle.cil_specs.proofs.SetLemmas.{holds-agree, more-fuel}
 

@@ -1,13 +1,6 @@
 -- Names that are declared twice: what a statement declares, and the same of other statements.
 use Rattle.std.proofs.Common.{◌≡◌, Bool, true, false, ◌||◌, cond, List, [], ◌∷◌, ◌++◌, filter, flat_map, Option, Some, None, if◌then◌else◌, refl, sym, ap, ◌∙◌, subst, Contains, true≢false, append-nil, get_or, drop, arith}
-use Rattle.std.specs.List.{list_any}
-use Rattle.std.specs.Option.{option_to_list}
-use Rattle.std.proofs.lemmas.Option.{none-some}
-use Rattle.cil_specs.specs.Names.{Word}
-use Rattle.cil_specs.specs.Statements.{Form, block, optional, type_name, type_alias, alias_actual, type_attribute, attribute_set, common, class, class_common, class_order, rule}
-use Rattle.cil_specs.specs.Joined.{Placed}
-use Rattle.cil_specs.specs.Lookup.{Table, types, classes, commons, scopes, declared_in}
-use Rattle.cil_specs.specs.PolicyFault.{PolicyFault, twice, is_again, tables, twice_words, IsFaultOf}
+use Rattle.cil_specs.proofs.Common.{list_any, option_to_list, none-some, Word, Form, block, optional, type_name, type_alias, alias_actual, type_attribute, attribute_set, common, class, class_common, class_order, rule, Placed, Table, types, classes, commons, scopes, declared_in, PolicyFault, twice, is_again, tables, twice_words, IsFaultOf}
 use Rattle.cil_specs.proofs.RestrictedLemmas.{filter-yes, filter-no}
 
 -- the table that a statement declares a name in, if it declares one

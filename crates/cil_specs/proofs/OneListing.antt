@@ -1,13 +1,6 @@
 -- A table has one list of accesses and one of rows, and there is one list of changes from it to another.
 use Rattle.std.proofs.Common.{◌≡◌, ◌≢◌, inl, inr, ℕ, Bool, not, ◌&&◌, List, [], ◌∷◌, Contains, refl, sym, ap, ◌∙◌, subst}
-use Rattle.std.specs.List.{AllByRecursion}
-use Rattle.std.specs.List.Sorted.{IsStrictlySortedBy}
-use Rattle.std.specs.Cmp.{IsTotalOrder}
-use Rattle.std.specs.Ordering.{ordering_reverse}
-use Rattle.std.specs.declared.cmp.Ordering.{Ordering}
-use Rattle.std.specs.declared.cmp.Ordering.TheVariants.{Less, Equal, Greater}
-use Rattle.std.proofs.lemmas.Cmp.{tied_itself}
-use Rattle.cil_specs.specs.Rule.{Atom}
+use Rattle.cil_specs.proofs.Common.{AllByRecursion, IsStrictlySortedBy, IsTotalOrder, ordering_reverse, Ordering, Less, Equal, Greater, tied_itself, Atom}
 use Rattle.cil_specs.specs.Report.{name_cmp, atom_cmp, AreAtoms, Changes, AreChanges, Row, row_cmp, IsRow, Has, AreRows}
 use Rattle.cil_specs.proofs.NamesLemmas.{contains-first}
 use Rattle.cil_specs.proofs.ReportLemmas.{name_total, atom_total, row_total}

@@ -1,9 +1,6 @@
 -- A text spells one module, or has one fault.
 use Rattle.std.proofs.Common.{◌≡◌, ℕ, false, List, length, subst, arith}
-use Rattle.cil_specs.specs.TextFault.{TextFault}
-use Rattle.cil_specs.specs.Trees.{Trees, Reads}
-use Rattle.cil_specs.specs.Statements.{Statements}
-use Rattle.cil_specs.specs.Shape.{Shapes, IsShapeFault, IsFirstShapeFault}
+use Rattle.cil_specs.proofs.Common.{TextFault, Trees, Reads, Statements, Shapes, IsShapeFault, IsFirstShapeFault}
 use Rattle.cil_specs.specs.ModuleText.{IsModuleText, IsTextFault, in_reading, in_shape}
 use Rattle.cil_specs.proofs.Order.{reading-in_order}
 use Rattle.cil_specs.proofs.OneReading.{one-reading}

@@ -1,9 +1,6 @@
 -- Parts one after the other: a clean front that grows by a part, and how long its parts are.
 use Rattle.std.proofs.Common.{◌≡◌, ℕ, ◌+◌, ◌<◌, ◌≤◌, List, [], ◌∷◌, ◌++◌, length, drop, refl, ap, sym, ◌∙◌, subst, append_assoc, length-append, length-drop, arith}
-use Rattle.cil_specs.specs.Parts.{Part, white, comment, word, string, opening, closing, spelling, IsPart, EndsBefore, Splits, Moves, Nests, IsClean}
-use Rattle.cil_specs.specs.Place.{place_at}
-use Rattle.cil_specs.specs.Trees.{Mark, word_at, string_at, opening_at, closing_before, told}
-use Rattle.std.specs.List.{AllByRecursion}
+use Rattle.cil_specs.proofs.Common.{Part, white, comment, word, string, opening, closing, spelling, IsPart, EndsBefore, Splits, Moves, Nests, IsClean, place_at, Mark, word_at, string_at, opening_at, closing_before, told, AllByRecursion}
 
 -- how many bytes the parts have
 abbrev pub size : List Part → ℕ
@@ -76,10 +73,6 @@ clean-push bytes at lists parts part new inside clean within goes is ends moves 
 pub told-clean : (bytes : List ℕ) (at : ℕ) (lists : List ℕ) (parts : List Part) (part : Part) → IsClean bytes at lists parts → told bytes 0 (parts ++ part ∷ []) ≡ told bytes 0 parts ++ told bytes at (part ∷ [])
 told-clean bytes at lists parts part clean =
     told-push bytes 0 parts part ∙ ap (λ n. told bytes 0 parts ++ told bytes n (part ∷ [])) (let e : 0 + size parts ≡ at = omega (arith, clean-size bytes at lists parts clean) in e)
-
--- the empty front
-pub clean-none : (bytes : List ℕ) → IsClean bytes 0 [] []
-clean-none bytes = record { within = omega arith; splits = refl; nests = refl }
 
 -- the place of an opening mark is that of its offset
 abbrev pub IsRightMark : List ℕ → Mark → Type 0

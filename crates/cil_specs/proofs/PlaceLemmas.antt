@@ -1,9 +1,6 @@
 -- Places from one byte to a later one.
-use Rattle.std.proofs.Common.{suc, zero, ◌≡◌, ℕ, ◌+◌, ◌-◌, ◌<◌, ◌≤◌, true, false, not, List, length, take, get_or, count_by, ap, ◌∙◌, arith}
-use Rattle.std.specs.List.{suffix_len}
-use Rattle.std.proofs.lemmas.List.Sums.{count_by_more_no, count_by_more_yes, count_by-le-length, suffix_len-take_yes, suffix_len-take_no, suffix_len-le-length}
-use Rattle.std.proofs.lemmas.List.{length-take-le}
-use Rattle.cil_specs.specs.Place.{Place, is_line_feed, place_at}
+use Rattle.std.proofs.Common.{suc, zero, ◌≡◌, ℕ, ◌+◌, ◌-◌, ◌<◌, ◌≤◌, false, not, List, length, take, get_or, count_by, ap, ◌∙◌, arith}
+use Rattle.cil_specs.proofs.Common.{suffix_len, count_by_more_no, count_by-le-length, suffix_len-take_yes, suffix_len-le-length, length-take-le, Place, is_line_feed, place_at}
 
 -- a place further right on its line
 abbrev pub to_right : Place → ℕ → Place
@@ -25,16 +22,6 @@ place_at-step bytes at within other =
     same_place _ _ _ _ _ _ (let e : at + 1 ≡ at + 1 = omega arith in e) (ap (λ n. 1 + n) (count_by_more_no is_line_feed bytes at 0 within other))
     (ap (λ n. 1 + n) (columns ∙ ap (λ n. 1 + suffix_len (λ b. not (is_line_feed b)) (take n bytes)) back)
     ∙ (let n : ℕ = suffix_len (λ b. not (is_line_feed b)) (take at bytes) in let e : 1 + (1 + n) ≡ (1 + n) + 1 = omega arith in e))
-
--- behind a line feed
-pub place_at-line : (bytes : List ℕ) (at : ℕ) → at < length bytes → is_line_feed (get_or bytes at 0) ≡ true → place_at bytes (at + 1) ≡ next_line (place_at bytes at)
-place_at-line bytes at within is =
-    let back : (at + 1) - 1 ≡ at = omega arith in
-    let none : suffix_len (λ b. not (is_line_feed b)) (take (at + 1) bytes) ≡ 0 =
-    suffix_len-take_no (λ b. not (is_line_feed b)) bytes (at + 1) 0 (omega arith) (omega arith) (ap (λ n. not (is_line_feed (get_or bytes n 0))) back ∙ ap not is) in
-    same_place _ _ _ _ _ _ (let e : at + 1 ≡ at + 1 = omega arith in e)
-    (ap (λ n. 1 + n) (count_by_more_yes is_line_feed bytes at 0 within is) ∙ (let n : ℕ = count_by is_line_feed (take at bytes) in let e : 1 + (n + 1) ≡ (1 + n) + 1 = omega arith in e))
-    (ap (λ n. 1 + n) none)
 
 to_right-more : (p : Place) (n : ℕ) → to_right (to_right p n) 1 ≡ to_right p (suc n)
 to_right-more p n =

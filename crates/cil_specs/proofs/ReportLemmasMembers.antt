@@ -1,16 +1,10 @@
 -- What stands in a list, by recursion on it, and strictly ascending lists.
 use Rattle.std.proofs.Common.{◌≡◌, ◌⊎◌, inl, inr, zero, suc, ◌+◌, ◌<◌, Bool, true, false, cond, List, [], ◌∷◌, ◌++◌, map, refl, sym, ap, ◌∙◌, subst, arith}
 use Rattle.std.specs.Bool.{IsTrue}
-use Rattle.std.specs.List.{Contains, All, AllByRecursion, flat_map, filter, Any, list_any, count_by}
+use Rattle.cil_specs.proofs.Common.{Contains, All, AllByRecursion, flat_map, filter, Any, list_any, count_by, IsStrictlySortedBy, Ordering, Less, ltb-true, lt-ltb, true≢false, get_or_default, sum_by-cons}
 use Rattle.std.specs.Prelude.{nat_lt}
-use Rattle.std.specs.List.Sorted.{IsStrictlySortedBy}
-use Rattle.std.specs.declared.cmp.Ordering.{Ordering}
-use Rattle.std.specs.declared.cmp.Ordering.TheVariants.{Less}
-use Rattle.std.proofs.lemmas.Bool.{ltb-true, lt-ltb, true≢false}
-use Rattle.std.proofs.lemmas.List.{get_or_default}
 use Rattle.std.proofs.lemmas.List.Elements.{Contains-get_or}
 use Rattle.std.proofs.lemmas.List.Folds.{Any-from_list_any, list_any-from_Any}
-use Rattle.std.proofs.lemmas.List.Sums.{sum_by-cons}
 
 -- P holds of an element
 abbrev pub AnyByRecursion : {X : Type 0} → (X → Type 0) → List X → Type 0
@@ -99,17 +93,6 @@ any_from_test p xs passes = any_to (λ x. IsTrue (p x)) xs (Any-from_list_any p 
 pub test_from_any : {X : Type 0} (p : X → Bool) (xs : List X) → AnyByRecursion (λ x. IsTrue (p x)) xs → IsTrue (list_any p xs)
 test_from_any p xs some = list_any-from_Any p xs (any_from (λ x. IsTrue (p x)) xs some)
 
--- what passes is counted
-pub counted_from_any : {X : Type 0} (p : X → Bool) (xs : List X) → AnyByRecursion (λ x. IsTrue (p x)) xs → IsTrue (nat_lt 0 (count_by p xs))
-counted_from_any p [] none = absurd none
-counted_from_any p (x ∷ xs) (inl passes) =
-    let is : count_by p (x ∷ xs) ≡ 1 + count_by p xs = sum_by-cons (λ y. cond (p y) 1 0) x xs ∙ ap (λ b. cond b 1 0 + count_by p xs) passes in
-    lt-ltb 0 (count_by p (x ∷ xs)) (omega (arith, is))
-counted_from_any p (x ∷ xs) (inr later) =
-    let is : count_by p (x ∷ xs) ≡ cond (p x) 1 0 + count_by p xs = sum_by-cons (λ y. cond (p y) 1 0) x xs in
-    let rest : 0 < count_by p xs = ltb-true 0 (count_by p xs) (counted_from_any p xs later) in
-    lt-ltb 0 (count_by p (x ∷ xs)) (omega (arith, is, rest))
-
 pub any_from_counted : {X : Type 0} (p : X → Bool) (xs : List X) → IsTrue (nat_lt 0 (count_by p xs)) → AnyByRecursion (λ x. IsTrue (p x)) xs
 any_from_counted p [] counted = absurd (let none : 0 < 0 = ltb-true 0 0 counted in omega (arith, none))
 any_from_counted p (x ∷ xs) counted = by (any_from_counted p xs) (p x) refl
@@ -121,21 +104,8 @@ any_from_counted p (x ∷ xs) counted = by (any_from_counted p xs) (p x) refl
         let some : 0 < count_by p (x ∷ xs) = ltb-true 0 (count_by p (x ∷ xs)) counted in
         inr (rest (lt-ltb 0 (count_by p xs) (omega (arith, is, some))))
 
--- where each element of one list is in another
-pub any_along : {X : Type 0} (P : X → Type 0) (xs ys : List X) → ((x : X) → Contains xs x → Contains ys x) → AnyByRecursion P xs → AnyByRecursion P ys
-any_along P xs ys moves some =
-    let (k, x, within, is, holds) = any_from P xs some in
-    let there = moves x (k, within, is) in
-    any_to P ys (there.0, x, there.1, there.2, holds)
-
 pub all_from_contains : {X : Type 0} (P : X → Type 0) (xs : List X) → ((x : X) → Contains xs x → P x) → All P xs
 all_from_contains P xs each = λ k d within. each _ (Contains-get_or xs k d within)
-
--- what holds of each element, holds of one that is there
-pub all_any : {X : Type 0} (P Q R : X → Type 0) → ((x : X) → P x → Q x → R x) → (xs : List X) → AllByRecursion P xs → AnyByRecursion Q xs → AnyByRecursion R xs
-all_any P Q R follows [] all none = none
-all_any P Q R follows (x ∷ xs) all (inl holds) = inl (follows x all.0 holds)
-all_any P Q R follows (x ∷ xs) all (inr later) = inr (all_any P Q R follows xs all.1 later)
 
 pub all_weaker : {X : Type 0} (P Q : X → Type 0) → ((x : X) → P x → Q x) → (xs : List X) → AllByRecursion P xs → AllByRecursion Q xs
 all_weaker P Q follows [] all = tt

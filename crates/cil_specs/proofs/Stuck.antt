@@ -1,12 +1,7 @@
 -- Where a fault of reading stands no part goes on, and a text has one fault at most.
 use Rattle.std.proofs.Common.{◌≡◌, ◌≢◌, ℕ, ◌+◌, ◌<◌, ◌≤◌, ◌||◌, cond, ◌==◌, Bool, true, false, List, [], ◌∷◌, ◌++◌, length, drop, get_or, refl, ap, sym, ◌∙◌, subst, append_assoc, append-nil, true≢false, length-drop, ◌⊎◌, inl, inr, take, arith}
-use Rattle.std.specs.List.{take_while, prefix_len}
-use Rattle.cil_specs.specs.Bytes.{is_white, is_word_byte, is_mark, hex}
-use Rattle.cil_specs.specs.Place.{place_at}
-use Rattle.cil_specs.specs.Parts.{Part, white, comment, word, string, opening, closing, spelling, IsPart, Splits, Moves, Nests, IsClean}
-use Rattle.cil_specs.specs.TextFault.{TextFaultKind, bad_byte, unbalanced, unclosed, unclosed_string, too_deep, bare_word, unsupported, misshapen, bad_name, reserved, not_in_optional, TextFault}
+use Rattle.cil_specs.proofs.Common.{take_while, prefix_len, is_white, is_word_byte, is_mark, hex, place_at, Part, white, comment, word, string, opening, closing, spelling, IsPart, Splits, Moves, Nests, IsClean, TextFaultKind, bad_byte, unbalanced, unclosed, unclosed_string, too_deep, bare_word, unsupported, misshapen, bad_name, reserved, not_in_optional, TextFault, Trees, Reads}
 use Rattle.cil_specs.specs.Reading.{IsUnclosedString, IsClosedString, Stops, IsStop, IsReadingFault, IsStuck}
-use Rattle.cil_specs.specs.Trees.{Trees, Reads}
 use Rattle.cil_specs.proofs.PartLemmas.{size, size-some, splits-size, clean-size}
 use Rattle.cil_specs.proofs.Fronts.{class_of, class-word, class_of_part, first-class, begins}
 

@@ -1,14 +1,6 @@
 -- A policy has one list of violations.
 use Rattle.std.proofs.Common.{◌≡◌, ◌⊎◌, inl, inr, List, [], ◌∷◌, refl, sym, ap, ◌∙◌, subst}
-use Rattle.std.specs.List.{AllByRecursion}
-use Rattle.std.specs.List.Sorted.{IsStrictlySortedBy}
-use Rattle.std.specs.Ordering.{is_lt}
-use Rattle.std.specs.Cmp.{IsTotalOrder}
-use Rattle.std.specs.declared.cmp.Ordering.{Ordering}
-use Rattle.std.specs.declared.cmp.Ordering.TheVariants.{Less}
-use Rattle.std.proofs.lemmas.Bool.{true≢false}
-use Rattle.std.proofs.lemmas.Cmp.{nat_cmp_total, on_total, then_total, tied_itself}
-use Rattle.cil_specs.specs.Meaning.{Meaning}
+use Rattle.cil_specs.proofs.Common.{AllByRecursion, IsStrictlySortedBy, is_lt, IsTotalOrder, Ordering, Less, true≢false, nat_cmp_total, on_total, then_total, tied_itself, Meaning}
 use Rattle.cil_specs.specs.Violations.{Violation, AreViolations, rule_cmp, violation_cmp}
 use Rattle.cil_specs.proofs.ReportLemmas.{name_total}
 use Rattle.cil_specs.proofs.ReportLemmasMembers.{AnyByRecursion, contains_to, contains_from}

@@ -1,13 +1,9 @@
 -- Edits that are taken in turn.
 use Rattle.std.proofs.Common.{◌≡◌, inl, inr, ℕ, ◌+◌, suc, ◌<◌, List, [], ◌∷◌, ◌++◌, true, false, map, take, drop, length, get_or, refl, ap, sym, ◌∙◌, subst}
 use Rattle.std.proofs.Math.Seq.{drop-cons}
-use Rattle.std.proofs.lemmas.List.{take-append-drop, take_more, map-append}
-use Rattle.cil_store_specs.specs.Store.{Store}
-use Rattle.cil_store_specs.specs.Next.{Refusal, accepts, refuses, IsTaken, AreTaken, NextOfAll, one_not_taken, bad_policy_of_all, is_too_long, too_long, at_once}
+use Rattle.cil_store.proofs.Common.{take-append-drop, take_more, map-append, Store, Refusal, refuses, IsTaken, AreTaken, one_not_taken, bad_policy_of_all, is_too_long, too_long, at_once, edit_of, store_refusal_of, IsRefusalOf, IsRefusedBatch, IsRefusedEdit, IsRefusedPolicy, AreRefused, AreStopped}
 use Rattle.cil_store_specs.specs.Next as spec
 use Rattle.cil_store_specs.proofs.TakenLemmas.{taken-more}
-use Rattle.cil_store.specs.Edits.{edit_of, store_refusal_of}
-use Rattle.cil_store.specs.Refusing.{IsRefusalOf, IsRefusedBatch, IsRefusedEdit, IsRefusedPolicy, AreRefused, AreStopped}
 use Rattle.cil_store.specs.declared.edit.Edit.{Edit}
 use Rattle.cil_store.specs.declared.refusal.StoreFault.TheVariants.{BatchTooLong}
 

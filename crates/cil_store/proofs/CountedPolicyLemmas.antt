@@ -1,26 +1,14 @@
 -- What the engine keeps that changes its counters in place.
 use Rattle.std.proofs.Common.{◌≡◌, Bool, List, [], ◌∷◌, length, Option, None, Result, Ok, Err, IfOk, OnOk, OnErr, Contains, refl, sym, subst, arith}
-use Rattle.std.specs.Rc.{rc_value}
+use Rattle.cil_store.proofs.Common.{rc_value, Meaning, is_in_table, meaning_of, is_listed, AreAtoms, Changes, Row, AreRows, Atom, SetStatement, CountsSome, AreSettled, AreTakenBack, IsNow, WasBefore, listed, rows-listed, IsMeaningOf, AreRowsOf, AreViolationsOf, Store, empty, meaning-same, counted_meaning, meaning_kept, IsCountedTo, IsKept}
 use Rattle.std.proofs.lemmas.Bool.{and_parts}
 use Rattle.cil_specs.specs.Dependence.{AreTheSame}
-use Rattle.cil_specs.specs.Meaning.{Meaning, is_in_table, meaning_of}
-use Rattle.cil_specs.specs.Report.{is_listed, AreAtoms, Changes, Row, AreRows}
 use Rattle.cil_specs.specs.Violations.{Violation, AreViolations}
-use Rattle.cil_specs.specs.Rule.{Atom, SetStatement}
 use Rattle.cil_specs.proofs.NamesLemmas.{contains-first}
-use Rattle.cil_counters.specs.ChangeCounts.{CountsSome}
-use Rattle.cil_counters.specs.Counted.{AreSettled, AreTakenBack, IsNow, WasBefore}
 use Rattle.cil_counters.specs.declared.counters.Counters.{Counters}
 use Rattle.cil_symbol_changes.specs.declared.counted_changes.ChangeCounts.{ChangeCounts}
 use Rattle.cil_counters.proofs.CountedLemmas.{back-before, back-now, settled-before, settled-now}
 use Rattle.cil_resolve.specs.declared.resolved.Resolved.{Resolved}
-use Rattle.cil_rules.specs.Rows.{listed}
-use Rattle.cil_rules.proofs.RowLemmas.{rows-listed}
-use Rattle.cil_store_specs.specs.Next.{IsMeaningOf}
-use Rattle.cil_store_specs.specs.Run.{AreRowsOf, AreViolationsOf}
-use Rattle.cil_store_specs.specs.Store.{Store, empty}
-use Rattle.cil_store_specs.proofs.OneStore.{meaning-same}
-use Rattle.cil_store.specs.Counted.{counted_meaning, meaning_kept, IsCountedTo, IsKept}
 use Rattle.cil_store.proofs.NothingLemmas.{no-atoms, no-violations, none-meant}
 use Rattle.cil_store.specs.declared.counted_policy.CountedPolicy.{CountedPolicy}
 

@@ -1,25 +1,12 @@
 -- Entries and names in order, by their places.
 use Rattle.std.proofs.Common.{◌≡◌, ℕ, zero, suc, ◌-◌, ◌<◌, ◌≤◌, ◌==◌, Bool, true, false, List, [], ◌∷◌, ◌++◌, length, take, drop, filter, not, get_or, slice_get, slice_set, bytes_eq, Some, Result, Ok, Err, OnOk, OnErr, refl, sym, ap, ◌∙◌, subst, true≢false, arith}
 use Rattle.std.specs.Cmp.{IsTotalOrder}
-use Rattle.std.specs.List.{insert, remove, prefix_len, list_any}
-use Rattle.std.specs.List.Sorted.{IsStrictlySortedBy, IsPartitionedBy, IsPartitionPoint}
-use Rattle.std.specs.Option.{MatchOption}
-use Rattle.std.specs.Ordering.{is_lt, nat_cmp, ordering_then}
+use Rattle.cil_store.proofs.Common.{insert, remove, prefix_len, list_any, IsStrictlySortedBy, IsPartitionedBy, IsPartitionPoint, MatchOption, is_lt, nat_cmp, ordering_then, Ordering, Less, Equal, Greater, nat_list_cmp_total, ranked, tied_itself, slice_get_read, name_cmp, IsTiedAt, leaves, partitioned, prefix-of-point, Entry, entry_cmp, is_entry, put_by, puts, entry_at}
 use Rattle.std.specs.Cmp.{nat_cmp_is}
-use Rattle.std.specs.declared.cmp.Ordering.{Ordering}
-use Rattle.std.specs.declared.cmp.Ordering.TheVariants.{Less, Equal, Greater}
 use Rattle.std.proofs.lemmas.Bool.{and_parts, eqb-true, eq-eqb}
-use Rattle.std.proofs.lemmas.Cmp.{nat_list_cmp_total, ranked, tied_itself}
-use Rattle.std.proofs.lemmas.List.{take_all, length-drop}
 use Rattle.std.proofs.lemmas.Map.Lookups.{exact_bytes}
-use Rattle.std.proofs.lemmas.Option.{slice_get_read}
 use Rattle.std.proofs.lemmas.Slice.Eq.{bytes_eq-Decides}
-use Rattle.cil_specs.specs.Report.{name_cmp}
 use Rattle.cil_specs.proofs.Runs.{both_true}
-use Rattle.cil_specs.proofs.SearchLemmas.{IsTiedAt, leaves, partitioned, prefix-of-point}
-use Rattle.cil_store_specs.specs.Store.{Entry, entry_cmp, is_entry, put_by}
-use Rattle.cil_store_specs.proofs.PutLemmas.{puts}
-use Rattle.cil_store_specs.specs.Store.{entry_at}
 
 -- the place before which the lesser items stand
 pub place-is : {X : Type 0} (cmp : X → X → Ordering) (order : IsTotalOrder cmp) (x : X) (xs : List X) (k : ℕ) → IsStrictlySortedBy cmp xs → k ≤ length xs
@@ -32,13 +19,6 @@ insert-parts [] zero x within = refl
 insert-parts [] (suc k) x within = absurd (omega arith)
 insert-parts (y ∷ xs) zero x within = refl
 insert-parts (y ∷ xs) (suc k) x within = ap (λ l. y ∷ l) (insert-parts xs k x (omega arith))
-
--- those before one that is taken away and those behind it
-pub remove-parts : {X : Type 0} (xs : List X) (k : ℕ) → remove xs k ≡ take k xs ++ drop (suc k) xs
-remove-parts [] zero = refl
-remove-parts [] (suc k) = refl
-remove-parts (y ∷ xs) zero = refl
-remove-parts (y ∷ xs) (suc k) = ap (λ l. y ∷ l) (remove-parts xs k)
 
 -- what was read at a place is tied with an item there
 pub tied-at : {X : Type 0} (cmp : X → X → Ordering) {read xs : List X} {i : ℕ} {y : X} (x : X) {b : Bool} → read ≡ xs → i < length read → y ≡ get_or read i y → (b ≡ true → cmp y x ≡ Equal) → (cmp y x ≡ Equal → b ≡ true)
@@ -120,10 +100,6 @@ same-put name names k sorted at tied = parts names k tied ∙ sym (put-tied name
 -- where a test tells no, what it tells isn't so
 pub is-not : {P : Type 0} (b : Bool) → (P → b ≡ true) → b ≡ false → P → ⊥
 is-not b tells is p = true≢false (sym (tells p) ∙ is)
-
--- what a slice up to the end has
-pub all-from : {X : Type 0} (read xs : List X) (k : ℕ) → read ≡ xs → drop k xs ≡ take (length read - k) (drop k read)
-all-from read xs k as_read = ap (drop k) (sym as_read) ∙ sym (take_all (length read - k) (drop k read) (omega (arith, length-drop k read)))
 
 -- what holds of a value that is made, and of one that is left as it was
 pub made-or-not : {T E X : Type 0} (P : X → Type 0) (r : Result T E) (new made old : X) → OnOk r (new ≡ made) → OnErr r (new ≡ old) → P made → P old → P new

@@ -1,21 +1,12 @@
 -- The parsed modules of entries, one list of them after another.
 use Rattle.std.proofs.Common.{◌≡◌, inl, inr, ◌+◌, ◌<◌, List, ℕ, [], ◌∷◌, ◌++◌, length, get_or, map, take, filter, cond, Bool, true, false, IsTrue, bytes_eq, true≢false, refl, ap, sym, ◌∙◌, subst}
-use Rattle.std.specs.List.{AllByRecursion, IsDistinct}
-use Rattle.std.specs.List.Sorted.{IsStrictlySortedBy, IsPermutation}
-use Rattle.std.specs.Ordering.{is_lt, ordering_reverse}
-use Rattle.std.specs.declared.cmp.Ordering.TheVariants.{Less}
+use Rattle.cil_store.proofs.Common.{AllByRecursion, IsDistinct, IsStrictlySortedBy, IsPermutation, is_lt, ordering_reverse, Less, tied_itself, take_more, name_cmp, names_rise, Entry, Store, is_active, NamedModule, AreParsedOf}
 use Rattle.std.specs.Cmp.Lexicographic.{bytes_decides}
-use Rattle.std.proofs.lemmas.Cmp.{tied_itself}
 use Rattle.std.proofs.lemmas.List.Sorted.{Contains-permutation, IsPermutation-sym}
-use Rattle.std.proofs.lemmas.List.{take_more}
 use Rattle.std.proofs.lemmas.List.Elements.{filter-append}
-use Rattle.cil_specs.specs.Report.{name_cmp, names_rise}
-use Rattle.cil_store_specs.specs.Store.{Entry, Store, is_active}
 use Rattle.cil_specs.proofs.ReportLemmas.{name_total, sorted_from_names_rise}
 use Rattle.cil_specs.proofs.ReportLemmasMembers.{AnyByRecursion, contains_to, contains_from}
-use Rattle.cil_bind.specs.declared.joined.NamedModule.{NamedModule}
 use Rattle.cil_parse.specs.Parsed.{IsParsed}
-use Rattle.cil_store.specs.Stored.{AreParsedOf}
 
 -- parsed modules of some entries and of others behind them
 pub parsed-append : {A : Type 0} (es fs : List Entry) (ms ns : List (NamedModule A)) → AreParsedOf es ms → AreParsedOf fs ns → AreParsedOf (es ++ fs) (ms ++ ns)

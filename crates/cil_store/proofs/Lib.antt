@@ -1,3 +1,4 @@
+pub mod Common
 pub mod ParsedLemmas
 pub mod EntryLemmas
 pub mod SizeLemmas

@@ -1,18 +1,10 @@
 -- What no statements mean, and what is asked of them.
 use Rattle.std.proofs.Common.{◌≡◌, List, [], ◌∷◌, length, map, false, Contains, refl, ap, sym, ◌∙◌, subst, true≢false, length-append, ℕ, arith}
-use Rattle.std.specs.List.Sorted.{IsStrictlySortedBy}
-use Rattle.cil_specs.specs.Joined.{joined}
+use Rattle.cil_store.proofs.Common.{IsStrictlySortedBy, joined, Rule, Meaning, Means, meaning_of, is_in_table, AreAtoms, name_cmp, empty, IsMeaningOf, meaning-same, NamedModule}
 use Rattle.cil_specs.specs.PolicyFault.{PolicyFaultKind, twice}
-use Rattle.cil_specs.specs.Rule.{Rule}
-use Rattle.cil_specs.specs.Meaning.{Meaning, Means, meaning_of, is_in_table}
 use Rattle.cil_specs.specs.Members.{is_member}
-use Rattle.cil_specs.specs.Report.{AreAtoms, name_cmp}
 use Rattle.cil_specs.specs.Violations.{AreViolations}
 use Rattle.cil_specs.specs.Kept.{Optionals, AreKept, judged, Compiles}
-use Rattle.cil_store_specs.specs.Store.{empty}
-use Rattle.cil_store_specs.specs.Next.{IsMeaningOf}
-use Rattle.cil_store_specs.proofs.OneStore.{meaning-same}
-use Rattle.cil_bind.specs.declared.joined.NamedModule.{NamedModule}
 use Rattle.cil_resolve.specs.Modules.{AreParsedFrom}
 use Rattle.cil_store.proofs.StepLemmas.{store-meaning}
 

@@ -1,13 +1,9 @@
 -- The parsed modules of entries stand for the modules of their texts.
 use Rattle.std.proofs.Common.{List, ℕ, [], ◌∷◌, refl}
-use Rattle.cil_specs.specs.Joined.{Module}
+use Rattle.cil_store.proofs.Common.{Module, AreModules, Entry, NamedModule, AreParsedOf}
 use Rattle.cil_specs.specs.ModuleText.{IsModuleText}
-use Rattle.cil_store_specs.specs.Next.{AreModules}
-use Rattle.cil_store_specs.specs.Store.{Entry}
 use Rattle.cil_bind.specs.Written.{IsWritten}
-use Rattle.cil_bind.specs.declared.joined.NamedModule.{NamedModule}
 use Rattle.cil_resolve.specs.Modules.{AreParsedFrom}
-use Rattle.cil_store.specs.Stored.{AreParsedOf}
 
 -- the module of a text is written
 text-written : (bytes : List ℕ) (m : Module) → IsModuleText bytes m.statements → IsWritten m

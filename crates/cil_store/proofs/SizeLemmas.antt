@@ -1,19 +1,10 @@
 -- The bytes of all texts of entries, as entries come and go.
 use Rattle.std.proofs.Common.{◌≡◌, ℕ, ◌+◌, ◌*◌, ◌-◌, ◌<◌, ◌≤◌, ◌^◌, Bool, true, false, not, cond, List, [], ◌∷◌, filter, remove, length, get_or, refl, sym, ap, ◌∙◌, subst, arith}
-use Rattle.std.specs.List.{AllByRecursion, prefix_len}
-use Rattle.std.specs.Ordering.{is_lt}
-use Rattle.std.specs.declared.cmp.Ordering.{Ordering}
-use Rattle.std.specs.declared.cmp.Ordering.TheVariants.{Less, Equal, Greater}
+use Rattle.cil_store.proofs.Common.{AllByRecursion, prefix_len, is_lt, Ordering, Less, Equal, Greater, IsStrictlySortedBy-filter, IsTiedAt, reversed, Entry, entry_at, entry_cmp, is_entry, put, text_bytes, without, put-ordered, entry_total, AreSized}
 use Rattle.std.proofs.lemmas.List.Edits.{length-remove}
-use Rattle.std.proofs.lemmas.List.Kept.{IsStrictlySortedBy-filter}
 use Rattle.std.proofs.lemmas.List.Sums.{sum_by-append, sum_by-cons, sum_by-remove}
 use Rattle.cil_specs.proofs.NamesLemmas.{all-append}
-use Rattle.cil_specs.proofs.SearchLemmas.{IsTiedAt, reversed}
 use Rattle.cil_bind.proofs.OrderedLemmas.{all-filtered}
-use Rattle.cil_store_specs.specs.Store.{Entry, entry_at, entry_cmp, is_entry, put, text_bytes, without}
-use Rattle.cil_store_specs.proofs.PutLemmas.{put-ordered}
-use Rattle.cil_store_specs.proofs.StoreOrder.{entry_total}
-use Rattle.cil_store.specs.Stored.{AreSized}
 use Rattle.cil_store.proofs.EntryLemmas.{entry-tied, tied-entry, without-tied, without-absent}
 
 -- The bytes of so many texts fit 128 bits, and so do those of one more.

@@ -1,12 +1,7 @@
 -- The state of an entry by its place.
 use Rattle.std.proofs.Common.{◌≡◌, ◌∙◌, ◌<◌, ap, sym, subst, List, [], ℕ, Bool, codes, length, get_or, bytes_eq, not, ◌&&◌, if◌then◌else◌}
-use Rattle.std.specs.List.{list_any}
-use Rattle.std.specs.List.Sorted.{IsStrictlySortedBy}
-use Rattle.std.proofs.lemmas.List.{get_or_default}
-use Rattle.cil_store_specs.specs.Store.{Entry, Store, entry_cmp, is_active}
+use Rattle.cil_store.proofs.Common.{list_any, IsStrictlySortedBy, get_or_default, Entry, Store, entry_cmp, is_active, entry_at, is_first_at, highest-at}
 use Rattle.cil_store_specs.specs.StoreReport.{is_disabled, state_word}
-use Rattle.cil_store_specs.specs.Store.{entry_at}
-use Rattle.cil_store_specs.proofs.ActiveLemmas.{is_first_at, highest-at}
 
 module _ (store : Store) (i : ℕ) (read : List Entry) (e : Entry) (name : List ℕ) (disabled first : Bool) (sorted : IsStrictlySortedBy entry_cmp store.entries)
     (as_read : read ≡ store.entries) (within : i < length read) (is : e ≡ get_or read i e) (named : name ≡ e.name) (listed : disabled ≡ list_any (bytes_eq name) store.disabled) (at : first ≡ is_first_at read i) where

@@ -1,18 +1,12 @@
 -- The steps of edits that are refused, and what a store means.
 use Rattle.std.proofs.Common.{◌≡◌, inl, inr, List, false, Some, None, Result, Ok, Err, IfErr, refl, ap, sym, ◌∙◌, subst}
-use Rattle.cil_specs.specs.Joined.{Module, joined}
-use Rattle.cil_specs.specs.Meaning.{Means, Meaning, is_in_table}
-use Rattle.cil_specs.specs.Report.{Changes, AreChanges}
+use Rattle.cil_store.proofs.Common.{Module, joined, Means, Meaning, is_in_table, Changes, AreChanges, Store, active, AreModules, AreTaken, IsMeaningOf, Refusal, HasGoodText, IsTaken, changed, store_refusal, by_itself, by_its_text, is_too_long, all_good, at_once, a_batch, changed_by, refused, accepted, rejected, out_of_memory, Step, IsRefusalOf, IsRefusalOfPolicy, IsRefusedBatch, IsRefusedEdit, IsRefusedText, IsRefusedPolicy, refusal_of}
 use Rattle.cil_specs.specs.Kept.{Optionals, IsFirstFault}
-use Rattle.cil_store_specs.specs.Store.{Store, active}
-use Rattle.cil_store_specs.specs.Next.{AreModules, AreTaken, IsMeaningOf, Edit, Refusal, HasGoodText, IsTaken, changed, store_refusal, by_itself, by_its_text, is_too_long, all_good, at_once}
-use Rattle.cil_store_specs.specs.Run.{a_batch, changed_by, refused, accepted, rejected, out_of_memory, Step}
+use Rattle.cil_store_specs.specs.Next.{Edit}
 use Rattle.cil_check.specs.Image.{PolicyFaultIs}
 use Rattle.cil_check.specs.declared.fault.PolicyFault.{PolicyFault}
 use Rattle.cil_check.specs.declared.fault.PolicyFault.TheVariants.{Memory, Found}
 use Rattle.cil_store.specs.Admitted.{admitted_edit, IsAdmitted}
-use Rattle.cil_store.specs.Refusing.{IsRefusalOf, IsRefusalOfPolicy, IsRefusedBatch, IsRefusedEdit, IsRefusedText, IsRefusedPolicy}
-use Rattle.cil_store.specs.Edits.{refusal_of}
 use Rattle.cil_store.specs.declared.refusal.Refusal as code
 use Rattle.cil_store.specs.declared.admitted.Admitted.{Admitted}
 use Rattle.cil_store.specs.declared.admitted.Admitted.TheVariants.{Install, Remove, Enable, Disable}

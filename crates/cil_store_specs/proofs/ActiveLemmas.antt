@@ -1,23 +1,7 @@
 -- Which entries of a store are compiled, by their places.
 use Rattle.std.proofs.Common.{◌≡◌, ◌⊎◌, inl, inr, ℕ, zero, suc, ◌-◌, ◌<◌, ◌≤◌, ◌==◌, Bool, true, false, not, ◌&&◌, ◌||◌, nat_le, nat_lt, cond, List, [], ◌∷◌, filter, find, length, map, get_or, bytes_eq, Some, None, Contains, refl, sym, ap, ◌∙◌, subst, true≢false, arith}
-use Rattle.std.specs.List.{list_all, list_any, AllByRecursion}
-use Rattle.std.specs.List.Sorted.{IsStrictlySortedBy}
+use Rattle.cil_store_specs.proofs.Common.{list_all, list_any, AllByRecursion, IsStrictlySortedBy, nat_cmp, ordering_then, Ordering, Less, Equal, Greater, eqb-true, leb-true, le-leb, ltb-true, ltb-false, nat_list_cmp_total, tied_itself, list_all_at, IsStrictlySortedBy-filter, exact_bytes, bytes_eq-Decides, name_cmp, all-weaker, contains-first, contains-other, passed, contains-filtered, ascends-at, less-or-same, both_true, second_true, entry_at, Entry, Store, entry_cmp, is_highest, active, active_text}
 use Rattle.std.specs.Option.{option_map}
-use Rattle.std.specs.Ordering.{nat_cmp, ordering_then}
-use Rattle.std.specs.declared.cmp.Ordering.{Ordering}
-use Rattle.std.specs.declared.cmp.Ordering.TheVariants.{Less, Equal, Greater}
-use Rattle.std.proofs.lemmas.Bool.{eqb-true, leb-true, le-leb, ltb-true, ltb-false}
-use Rattle.std.proofs.lemmas.Cmp.{nat_list_cmp_total, tied_itself}
-use Rattle.std.proofs.lemmas.List.Folds.{list_all_at}
-use Rattle.std.proofs.lemmas.List.Kept.{IsStrictlySortedBy-filter}
-use Rattle.std.proofs.lemmas.Map.Lookups.{exact_bytes}
-use Rattle.std.proofs.lemmas.Slice.Eq.{bytes_eq-Decides}
-use Rattle.cil_specs.specs.Report.{name_cmp}
-use Rattle.cil_specs.proofs.NamesLemmas.{all-weaker, contains-first, contains-other, passed}
-use Rattle.cil_specs.proofs.FaultWords.{contains-filtered}
-use Rattle.cil_specs.proofs.SearchLemmas.{ascends-at, less-or-same}
-use Rattle.cil_specs.proofs.Runs.{both_true, second_true}
-use Rattle.cil_store_specs.specs.Store.{entry_at, Entry, Store, entry_cmp, is_highest, active, active_text}
 use Rattle.cil_store_specs.specs.StoreReport.{is_disabled}
 use Rattle.cil_store_specs.proofs.OneFault.{highest-of}
 

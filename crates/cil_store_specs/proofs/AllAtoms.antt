@@ -1,26 +1,11 @@
 -- The accesses of a policy can be listed.
 use Rattle.std.proofs.Common.{◌≡◌, ◌⊎◌, ◌==◌, inl, inr, ℕ, cond, Bool, true, false, List, [], ◌∷◌, filter, map, flat_map, bytes_eq, Contains, refl, sym, ap, ◌∙◌, subst, true≢false, arith}
-use Rattle.std.specs.Cmp.{IsTotalOrder}
-use Rattle.std.specs.List.{list_any}
-use Rattle.std.specs.List.Sorted.{IsStrictlySortedBy}
-use Rattle.std.specs.Ordering.{is_lt}
-use Rattle.std.specs.declared.cmp.Ordering.{Ordering}
-use Rattle.std.specs.declared.cmp.Ordering.TheVariants.{Less, Equal, Greater}
-use Rattle.std.proofs.lemmas.Bool.{cases_Bool, eqb-true}
-use Rattle.std.proofs.lemmas.Map.Lookups.{CmpEqualImpliesEq}
-use Rattle.std.proofs.lemmas.Slice.Eq.{bytes_eq-Decides}
-use Rattle.cil_specs.specs.Meaning.{Meaning, keeps_type, holds, aims, gives, is_in_table}
-use Rattle.cil_specs.specs.Report.{AreAtoms, atom_cmp}
+use Rattle.cil_store_specs.proofs.Common.{IsTotalOrder, list_any, IsStrictlySortedBy, is_lt, Ordering, Less, Equal, Greater, cases_Bool, eqb-true, CmpEqualImpliesEq, bytes_eq-Decides, Meaning, keeps_type, holds, aims, gives, is_in_table, AreAtoms, atom_cmp, contains-filtered, contains-left, contains-right, contains-append_cases, contains-cases, contains-first, contains-map, first_true, second_true, keep, skip, reversed, put_by}
 use Rattle.cil_specs.specs.Rule.{Rule, Atom, Element, ResolvedTarget, at_itself, at_element, kind_index}
-use Rattle.cil_specs.proofs.FaultWords.{contains-filtered, contains-left, contains-right, contains-append_cases}
 use Rattle.cil_specs.proofs.MeansLemmas.{contains-flat}
-use Rattle.cil_specs.proofs.NamesLemmas.{contains-cases, contains-first, contains-map}
 use Rattle.cil_specs.proofs.OnceLemmas.{PassesAmong, passes-among}
 use Rattle.cil_specs.proofs.ReportLemmas.{atom_exact, atom_total, same-kind}
 use Rattle.cil_specs.proofs.ReportLemmasMembers.{any_from_counted, test_from_any}
-use Rattle.cil_specs.proofs.Runs.{first_true, second_true}
-use Rattle.cil_specs.proofs.SearchLemmas.{keep, skip, reversed}
-use Rattle.cil_store_specs.specs.Store.{put_by}
 use Rattle.cil_store_specs.proofs.PutLemmas.{put-ordered}
 
 -- ---- the elements of a list that pass a test, in order

@@ -1,13 +1,7 @@
 -- An edit is a batch of one.
 use Rattle.std.proofs.Common.{◌≡◌, ◌≤◌, [], ◌∷◌, false, Some, length, refl, arith}
-use Rattle.std.specs.List.{sum_by}
+use Rattle.cil_store_specs.proofs.Common.{sum_by, le-ltb, sum_by-cons, Meaning, Store, Edit, install, remove, enable, disable, Refusal, held_bytes, is_too_long, IsMeaningOf, IsNotTaken, Judgement, accepts, refuses, Next, at_once, by_itself, store_refusal, one_not_taken, all_good, an_edit, refused, rejected, Step}
 use Rattle.std.proofs.Math.Nat.{min-le_right}
-use Rattle.std.proofs.lemmas.Bool.{le-ltb}
-use Rattle.std.proofs.lemmas.List.Sums.{sum_by-cons}
-use Rattle.cil_specs.specs.Meaning.{Meaning}
-use Rattle.cil_store_specs.specs.Store.{Store}
-use Rattle.cil_store_specs.specs.Next.{Edit, install, remove, enable, disable, Refusal, held_bytes, is_too_long, IsMeaningOf, IsNotTaken, Judgement, accepts, refuses, Next, at_once, by_itself, store_refusal, one_not_taken, all_good}
-use Rattle.cil_store_specs.specs.Run.{an_edit, refused, rejected, Step}
 
 held-most : (edit : Edit) → held_bytes edit ≤ 16777217
 held-most (install name priority text) = min-le_right (length text) 16777217

@@ -1,25 +1,9 @@
 -- The edits of a dump, made at once.
 use Rattle.std.proofs.Common.{◌≡◌, ◌⊎◌, inl, inr, ◌∷◌, ◌++◌, [], ℕ, ◌+◌, ◌≤◌, List, Bool, true, false, not, ◌||◌, cond, filter, map, length, nat_le, nat_lt, bytes_eq, Some, None, if◌then◌else◌, refl, ap, sym, ◌∙◌, subst, append_assoc, length-append, true≢false, arith}
-use Rattle.std.specs.List.{sum_by, list_any, AllByRecursion}
-use Rattle.std.specs.List.Sorted.{IsStrictlySortedBy}
-use Rattle.std.specs.declared.cmp.Ordering.TheVariants.{Less, Equal}
+use Rattle.cil_store_specs.proofs.Common.{sum_by, list_any, AllByRecursion, IsStrictlySortedBy, Less, Equal, le-leb, le-ltb, nat_list_cmp_total, tied_itself, append-nil, length-map, sum_by-append, sum_by-cons, bytes_eq-Decides, Changes, name_cmp, Meaning, all-weaker, both_true, Entry, Store, IsStore, empty, entry_cmp, is_entry, is_installed, text_bytes, without, IsEntryWithinLimits, IsWithinLimits, HasGoodTexts, Edit, by_store, disable, install_of, HasGoodText, AreTaken, IsMeaningOf, for_memory, accepts, refuses, NextOfAll, all_good, Next, at_once, held_bytes, is_too_long, is_module_name, a_batch, Reply, changed_by, refused, accepted, rejected, lists, prints, tells_violations, tells_dropped, out_of_memory, Step, dump_edits}
 use Rattle.std.proofs.Math.Nat.{min-le_left}
-use Rattle.std.proofs.lemmas.Bool.{le-leb, le-ltb}
-use Rattle.std.proofs.lemmas.Cmp.{nat_list_cmp_total, tied_itself}
-use Rattle.std.proofs.lemmas.List.{append-nil, length-map}
 use Rattle.std.proofs.lemmas.List.Filters.{length-filter_both}
-use Rattle.std.proofs.lemmas.List.Sums.{sum_by-append, sum_by-cons}
 use Rattle.std.proofs.lemmas.Map.Views.{any-filter_same}
-use Rattle.std.proofs.lemmas.Slice.Eq.{bytes_eq-Decides}
-use Rattle.cil_specs.specs.Report.{Changes, name_cmp}
-use Rattle.cil_specs.specs.Meaning.{Meaning}
-use Rattle.cil_specs.proofs.NamesLemmas.{all-weaker}
-use Rattle.cil_specs.proofs.Runs.{both_true}
-use Rattle.cil_store_specs.specs.Store.{Entry, Store, IsStore, empty, entry_cmp, is_entry, is_installed, text_bytes, without}
-use Rattle.cil_store_specs.specs.Limits.{IsEntryWithinLimits, IsWithinLimits, HasGoodTexts}
-use Rattle.cil_store_specs.specs.Next.{Edit, by_store, disable, install_of, HasGoodText, AreTaken, IsMeaningOf, for_memory, accepts, refuses, NextOfAll, all_good, Next, at_once, held_bytes, is_too_long, is_module_name}
-use Rattle.cil_store_specs.specs.Run.{a_batch, Reply, changed_by, refused, accepted, rejected, lists, prints, tells_violations, tells_dropped, out_of_memory, Step}
-use Rattle.cil_store_specs.specs.Script.{dump_edits}
 use Rattle.cil_store_specs.proofs.StoreOrder.{entry_total, empty-ordered}
 use Rattle.cil_store_specs.proofs.PutLemmas.{put-last, all-before}
 use Rattle.cil_store_specs.proofs.LimitLemmas.{Fits, not-refused, length-by, less-filtered}

@@ -1,13 +1,6 @@
 -- A session over the dump of a store that means something.
 use Rattle.std.proofs.Common.{◌≡◌, ◌⊎◌, inl, inr, Bool, true, List, ℕ, None, if◌then◌else◌, sym, ap, ◌∙◌, true≢false}
-use Rattle.std.specs.List.{list_any, AllByRecursion}
-use Rattle.cil_specs.specs.Meaning.{Meaning}
-use Rattle.cil_store_specs.specs.Store.{Store, IsStore, empty}
-use Rattle.cil_store_specs.specs.Limits.{IsWithinLimits, HasGoodTexts}
-use Rattle.cil_store_specs.specs.Next.{for_memory, IsMeaningOf}
-use Rattle.cil_store_specs.specs.Script.{refusal_line, ends, dump_edits, dump_text}
-use Rattle.cil_store_specs.specs.Answers.{is_refusal}
-use Rattle.cil_store_specs.specs.Session.{IsSession, Status, all_accepted, some_refused, status_of, last_end}
+use Rattle.cil_store_specs.proofs.Common.{list_any, AllByRecursion, Meaning, Store, IsStore, empty, IsWithinLimits, HasGoodTexts, for_memory, IsMeaningOf, refusal_line, ends, dump_edits, dump_text, is_refusal, IsSession, Status, all_accepted, some_refused, status_of, last_end}
 use Rattle.cil_store_specs.proofs.HeldLemmas.{Outcome, was_made, was_long, lacked_memory}
 use Rattle.cil_store_specs.proofs.DumpLemmas.{dump-answered}
 use Rattle.cil_store_specs.proofs.DumpScript.{edits-kept, session-answers}

@@ -1,3 +1,4 @@
+pub mod Common
 pub mod PolicyOf
 pub mod OneFault
 pub mod OneStore

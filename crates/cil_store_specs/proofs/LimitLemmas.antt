@@ -1,25 +1,9 @@
 -- An edit leaves a store within its limits, and its texts spell modules.
 use Rattle.std.proofs.Common.{◌≡◌, ◌≢◌, ◌∷◌, [], ℕ, ◌+◌, ◌≤◌, ◌==◌, ◌&&◌, ◌||◌, List, Bool, true, false, not, cond, filter, length, bytes_eq, decimal, nat_le, nat_lt, Option, Some, None, if◌then◌else◌, refl, ap, sym, ◌∙◌, subst, true≢false, arith}
-use Rattle.std.specs.List.{list_any, sum_by, AllByRecursion}
-use Rattle.std.specs.Ordering.{nat_cmp, ordering_then, is_lt}
-use Rattle.std.specs.declared.cmp.Ordering.{Ordering}
-use Rattle.std.specs.declared.cmp.Ordering.TheVariants.{Less, Equal, Greater}
+use Rattle.cil_store_specs.proofs.Common.{list_any, sum_by, AllByRecursion, nat_cmp, ordering_then, is_lt, Ordering, Less, Equal, Greater, and_parts, eqb-true, leb-true, ltb-false, not-true, nat_list_cmp_total, tied_itself, list_any-append, sum_by-append, sum_by-cons, exact_bytes, bytes_eq-Decides, name_cmp, all-weaker, all-append, less-is, reversed, Entry, Store, empty, entry_cmp, put_by, put, is_entry, is_installed, has_room, text_bytes, without, without_name, Edit, install, remove, enable, disable, Refusal, by_store, changed, store_refusal, is_module_name, is_priority, HasGoodText, IsTaken, install_of, IsEntryWithinLimits, IsWithinLimits, HasGoodTexts, Call, Reply, Run}
 use Rattle.std.proofs.Math.Bool.{or-true}
-use Rattle.std.proofs.lemmas.Bool.{and_parts, eqb-true, leb-true, ltb-false, not-true}
-use Rattle.std.proofs.lemmas.Cmp.{nat_list_cmp_total, tied_itself}
-use Rattle.std.proofs.lemmas.List.Folds.{list_any-append}
-use Rattle.std.proofs.lemmas.List.Sums.{sum_by-append, sum_by-cons}
-use Rattle.std.proofs.lemmas.Map.Lookups.{exact_bytes}
 use Rattle.std.proofs.lemmas.Map.Views.{any-filter_same}
-use Rattle.std.proofs.lemmas.Slice.Eq.{bytes_eq-Decides}
-use Rattle.cil_specs.specs.Report.{name_cmp}
-use Rattle.cil_specs.proofs.NamesLemmas.{all-weaker, all-append}
-use Rattle.cil_specs.proofs.SearchLemmas.{less-is, reversed}
-use Rattle.cil_store_specs.specs.Store.{Entry, Store, empty, entry_cmp, put_by, put, is_entry, is_installed, has_room, text_bytes, without, without_name}
-use Rattle.cil_store_specs.specs.Next.{Edit, install, remove, enable, disable, Refusal, by_store, changed, store_refusal, is_module_name, is_priority, HasGoodText, IsTaken, install_of}
-use Rattle.cil_store_specs.specs.Limits.{IsEntryWithinLimits, IsWithinLimits, HasGoodTexts}
-use Rattle.cil_store_specs.specs.Run.{Call, Reply, Step, Run}
-use Rattle.cil_store_specs.proofs.RunLemmas.{step-keeps, run-keeps}
+use Rattle.cil_store_specs.proofs.RunLemmas.{run-keeps}
 use Rattle.cil_store_specs.proofs.StoreOrder.{entry_total}
 
 -- What holds of each item, of what is left and of what is put in.
@@ -221,9 +205,6 @@ empty-within = record { each = tt; count = omega arith; bytes = omega arith; dis
 
 pub taken-within : (store new : Store) (edit : Edit) → IsWithinLimits store → IsTaken store edit new → IsWithinLimits new
 taken-within store new edit is taken = subst IsWithinLimits (sym taken.is) (changed-within store edit is taken.not_refused)
-
-pub step-within : (old new : Store) (call : Call) (reply : Reply) → IsWithinLimits old → Step old call reply new → IsWithinLimits new
-step-within = step-keeps IsWithinLimits taken-within
 
 pub run-within : (old new : Store) (calls : List Call) (replies : List Reply) → IsWithinLimits old → Run old calls replies new → IsWithinLimits new
 run-within = run-keeps IsWithinLimits taken-within

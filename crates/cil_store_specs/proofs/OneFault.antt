@@ -1,26 +1,12 @@
 -- Of a policy of a store in order no two faults of one kind stand at one place.
 use Rattle.std.proofs.Common.{◌≡◌, ◌⊎◌, inl, inr, ℕ, ◌+◌, ◌≤◌, Bool, true, false, not, ◌&&◌, ◌||◌, nat_le, List, [], ◌∷◌, ◌++◌, length, map, bytes_eq, Contains, refl, sym, ap, ◌∙◌, subst, arith}
-use Rattle.std.specs.List.{AllByRecursion, list_any}
-use Rattle.std.specs.List.Sorted.{IsStrictlySortedBy}
-use Rattle.std.specs.Ordering.{nat_cmp}
-use Rattle.std.specs.declared.cmp.Ordering.TheVariants.{Less, Equal}
-use Rattle.std.proofs.lemmas.Bool.{leb-true}
-use Rattle.std.proofs.lemmas.Slice.Eq.{bytes_eq-Decides}
-use Rattle.std.proofs.lemmas.Cmp.{nat_cmp_total, nat_list_cmp_total, tied_itself}
-use Rattle.std.proofs.lemmas.List.{map-append}
+use Rattle.cil_store_specs.proofs.Common.{AllByRecursion, list_any, IsStrictlySortedBy, nat_cmp, Less, Equal, leb-true, bytes_eq-Decides, nat_cmp_total, nat_list_cmp_total, tied_itself, map-append, Module, Placed, namespace_inside, optionals_inside, placed, joined, name_cmp, Entry, Store, IsStore, entry_cmp, is_highest, active, AreModules, IsPolicyOf, first_true, second_true, all-weaker, all-append, all-contained, contains-first, contains-other, contains-cases, passed, words_in, contains-filtered, contains-left, contains-right, contains-append_cases, word-offsets}
 use Rattle.cil_specs.specs.Names.{Word}
 use Rattle.cil_specs.specs.Statements.{Statements, no_more, statement, statement_offsets}
-use Rattle.cil_specs.specs.Joined.{Module, Placed, namespace_inside, optionals_inside, placed, joined}
-use Rattle.cil_specs.specs.Report.{name_cmp}
-use Rattle.cil_store_specs.specs.Store.{Entry, Store, IsStore, entry_cmp, is_highest, active}
 use Rattle.cil_specs.specs.ModuleText.{IsModuleText}
-use Rattle.cil_store_specs.specs.Next.{AreModules, IsPolicyOf}
-use Rattle.cil_specs.proofs.Runs.{first_true, second_true}
 use Rattle.cil_specs.proofs.Order.{reading-in_order}
-use Rattle.cil_specs.proofs.NamesLemmas.{all-weaker, all-append, all-contained, contains-first, contains-other, contains-cases, passed}
 use Rattle.cil_specs.proofs.OrderLemmas.{RiseTo, offset_of}
 use Rattle.cil_specs.proofs.ShapeLemmas.{shapes_rise}
-use Rattle.cil_specs.proofs.FaultWords.{words_in, contains-filtered, contains-left, contains-right, contains-append_cases, word-offsets}
 use Rattle.cil_specs.proofs.OneText.{module_text_same}
 
 -- all words of statements, with one at the place of each statement, in the order of the text

@@ -1,22 +1,12 @@
 -- A store has one meaning or one refusal, and an edit of it one judgement.
 use Rattle.std.proofs.Common.{◌≡◌, ◌⊎◌, inl, inr, ℕ, ◌≤◌, ◌==◌, ◌∷◌, [], List, if◌then◌else◌, Option, Some, None, is_some, Contains, refl, sym, ap, ◌∙◌, subst, true≢false, arith}
-use Rattle.std.specs.Ordering.{nat_cmp}
-use Rattle.std.specs.declared.cmp.Ordering.TheVariants.{Less, Equal, Greater}
+use Rattle.cil_store_specs.proofs.Common.{nat_cmp, Less, Equal, Greater, ordering_reverse, nat_list_cmp_total, tied_itself, Module, Placed, joined, Meaning, meaning_of, Entry, Store, IsStore, active, AreModules, IsPolicyOf, IsMeaningOf, Edit, install, remove, enable, disable, Refusal, at_place, store_refusal, HasGoodText, IsTextRefusal, IsNotTaken, by_itself, by_its_text, IsTaken, IsPolicyRefusal, contains-middle, words_in, contains-filtered, faulty-word}
 use Rattle.std.specs.Cmp.Lexicographic.{slice_cmp}
-use Rattle.std.specs.Ordering.{ordering_reverse}
-use Rattle.std.proofs.lemmas.Cmp.{nat_list_cmp_total, tied_itself}
-use Rattle.cil_specs.specs.TextFault.{TextFault}
 use Rattle.cil_specs.specs.TextFault as text_fault
 use Rattle.cil_specs.specs.Names.{Word}
-use Rattle.cil_specs.specs.Joined.{Module, Placed, joined}
 use Rattle.cil_specs.specs.PolicyFault.{PolicyFaultKind, twice, missing, wrong_kind, alias_twice, alias_unset, second_common, too_many_permissions, circular, code_of, PolicyFault, IsAtWordOf, IsNoLater}
 use Rattle.cil_specs.specs.Kept.{Optionals, AreKept, is_within, restricted, judged, IsPolicyFault, IsFirst, dropped_of}
-use Rattle.cil_specs.specs.Meaning.{Meaning, meaning_of}
-use Rattle.cil_store_specs.specs.Store.{Entry, Store, IsStore, active}
-use Rattle.cil_store_specs.specs.Next.{AreModules, IsPolicyOf, IsMeaningOf, Edit, install, remove, enable, disable, Refusal, at_place, store_refusal, HasGoodText, IsTextRefusal, IsNotTaken, by_itself, by_its_text, IsTaken, IsPolicyRefusal}
-use Rattle.cil_specs.proofs.NamesLemmas.{contains-middle}
 use Rattle.cil_specs.proofs.KeptLemmas.{kept-one}
-use Rattle.cil_specs.proofs.FaultWords.{words_in, contains-filtered, faulty-word}
 use Rattle.cil_specs.proofs.OneText.{module_text_same, no-text-fault, text-fault-same}
 use Rattle.cil_store_specs.proofs.OneFault.{one-word}
 

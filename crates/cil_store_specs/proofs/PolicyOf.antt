@@ -1,13 +1,10 @@
 -- In the policy of a store blocks, classes and commons stand in no optional.
 use Rattle.std.proofs.Common.{◌≡◌, true, false, List, [], ◌∷◌, sym, subst}
-use Rattle.std.specs.List.{AllByRecursion}
+use Rattle.cil_store_specs.proofs.Common.{AllByRecursion, Module, Placed, Entry, Store, active, AreModules, IsPolicyOf}
 use Rattle.cil_specs.specs.Statements.{are_apart}
-use Rattle.cil_specs.specs.Joined.{Module, Placed}
 use Rattle.cil_specs.specs.Kept.{AreApart}
 use Rattle.cil_specs.proofs.ApartLemmas.{joined-apart}
 use Rattle.cil_specs.proofs.ShapeLemmas.{shapes_apart}
-use Rattle.cil_store_specs.specs.Store.{Entry, Store, active}
-use Rattle.cil_store_specs.specs.Next.{AreModules, IsPolicyOf}
 
 modules-apart : (entries : List Entry) (modules : List Module) → AreModules entries modules → AllByRecursion (λ m. are_apart false m.statements ≡ true) modules
 modules-apart [] [] are = tt

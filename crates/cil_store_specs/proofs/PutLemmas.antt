@@ -1,16 +1,6 @@
 -- Lists in an order: where an item is put in, and what is left without it.
 use Rattle.std.proofs.Common.{◌≡◌, suc, cond, Bool, true, false, List, [], ◌∷◌, ◌++◌, filter, take, drop, fold, refl, sym, ap, ◌∙◌, subst, append_assoc}
-use Rattle.std.specs.Cmp.{IsTotalOrder}
-use Rattle.std.specs.List.{insert, AllByRecursion}
-use Rattle.std.specs.List.Sorted.{IsStrictlySortedBy}
-use Rattle.std.specs.Ordering.{is_lt}
-use Rattle.std.specs.declared.cmp.Ordering.{Ordering}
-use Rattle.std.specs.declared.cmp.Ordering.TheVariants.{Less, Equal, Greater}
-use Rattle.std.proofs.lemmas.List.{append-nil}
-use Rattle.std.proofs.lemmas.List.Kept.{IsStrictlySortedBy-filter}
-use Rattle.cil_specs.proofs.NamesLemmas.{all-weaker, all-append, all-second}
-use Rattle.cil_specs.proofs.SearchLemmas.{IsTiedAt, less-is, place, AllBehind, reversed, behind-same, behind-greater, keep, skip, none-before, all-after, place-later, place-here}
-use Rattle.cil_store_specs.specs.Store.{put_by}
+use Rattle.cil_store_specs.proofs.Common.{IsTotalOrder, insert, AllByRecursion, IsStrictlySortedBy, is_lt, Ordering, Less, Equal, Greater, append-nil, IsStrictlySortedBy-filter, all-weaker, all-append, all-second, IsTiedAt, less-is, place, AllBehind, reversed, behind-same, behind-greater, keep, skip, none-before, all-after, place-later, place-here, put_by}
 
 module _ {X : Type 0} (cmp : X → X → Ordering) (order : IsTotalOrder cmp) where
   -- A list with one item more, by the place of the item.

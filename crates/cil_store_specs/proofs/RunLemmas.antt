@@ -1,11 +1,6 @@
 -- A run goes on by one call, and keeps what each edit keeps.
-use Rattle.std.proofs.Common.{◌≡◌, ℕ, ◌+◌, ◌==◌, List, [], ◌∷◌, ◌++◌, flat_map, count_by, if◌then◌else◌, refl, sym, ◌∙◌, subst, arith}
-use Rattle.std.proofs.lemmas.List.Sums.{sum_by-append}
-use Rattle.cil_store_specs.specs.Store.{Store}
-use Rattle.cil_store_specs.specs.Next.{Edit, IsTaken, AreTaken, accepts, NextOfAll, one_not_taken, bad_policy_of_all, all_good, Next, too_long, at_once}
-use Rattle.cil_store_specs.specs.Run.{Call, Reply, accepted, rejected, lists, prints, tells_violations, tells_dropped, out_of_memory, Step, Run}
-use Rattle.cil_store_specs.specs.Script.{Command, command_bytes}
-use Rattle.cil_store_specs.specs.Answers.{Answer, State, Answers, lines_of, AnswersAll}
+use Rattle.std.proofs.Common.{◌≡◌, ℕ, ◌+◌, List, [], ◌∷◌, ◌++◌, refl, sym, subst}
+use Rattle.cil_store_specs.proofs.Common.{Store, Edit, IsTaken, AreTaken, accepts, NextOfAll, one_not_taken, bad_policy_of_all, all_good, Next, too_long, at_once, Call, Reply, accepted, rejected, lists, prints, tells_violations, tells_dropped, out_of_memory, Step, Run, Command, Answer, State, Answers, lines_of, AnswersAll}
 
 pub run-more : (old mid new : Store) (calls : List Call) (replies : List Reply) (call : Call) (reply : Reply) → Run old calls replies mid → Step mid call reply new → Run old (calls ++ call ∷ []) (replies ++ reply ∷ []) new
 run-more old mid new [] [] call reply run step = (new, subst (λ s. Step s call reply new) run step, refl)
@@ -25,11 +20,6 @@ answers-more line old mid new [] [] command answer all step = (new, subst (λ s.
 answers-more line old mid new [] (a ∷ answers) command answer all step = absurd all
 answers-more line old mid new (c ∷ commands) [] command answer all step = absurd all
 answers-more line old mid new (c ∷ commands) (a ∷ answers) command answer all step = (all.0, all.1, answers-more (line + lines_of c) all.0 mid new commands answers command answer all.2 step)
-
--- it is told by the line feeds of the commands
-pub line-behind : (line : ℕ) (commands : List Command) → line_behind line commands ≡ line + count_by (λ b. b == 10) (flat_map command_bytes commands)
-line-behind line [] = omega arith
-line-behind line (c ∷ commands) = line-behind (line + lines_of c) commands ∙ omega (arith, sum_by-append (λ b. if b == 10 then 1 else 0) (command_bytes c) (flat_map command_bytes commands))
 
 -- the edits of an accepted batch are taken
 pub all-taken : (old new : Store) (edits : List Edit) → NextOfAll old edits (accepts new) → AreTaken old edits new

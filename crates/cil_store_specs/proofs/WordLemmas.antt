@@ -1,12 +1,7 @@
 -- The words of a command's line.
 use Rattle.std.proofs.Common.{◌≡◌, ◌≢◌, ℕ, ◌+◌, ◌*◌, ◌-◌, ◌%◌, ◌^◌, ◌<◌, ◌≤◌, ◌==◌, ◌&&◌, Bool, true, false, not, List, [], ◌∷◌, ◌++◌, length, drop, get_or, bytes_eq, codes, decimal, if◌then◌else◌, refl, ap, sym, ◌∙◌, subst, true≢false, arith}
-use Rattle.std.specs.List.{list_all, join_with_byte, AllByRecursion}
-use Rattle.std.proofs.lemmas.Bool.{eqb-true}
+use Rattle.cil_store_specs.proofs.Common.{list_all, join_with_byte, AllByRecursion, eqb-true, list_all-append, both_true, first_true, second_true, same_run, install, remove, enable, disable, Command, makes, begins, commits, aborts, asks_rules, asks_violations, asks_dropped, asks_modules, asks_dump, words_of, line_of, is_shown, HasGoodWords}
 use Rattle.std.proofs.lemmas.Fmt.{decimal_by_steps}
-use Rattle.std.proofs.lemmas.List.Folds.{list_all-append}
-use Rattle.cil_specs.proofs.Runs.{both_true, first_true, second_true, same_run}
-use Rattle.cil_store_specs.specs.Next.{install, remove, enable, disable}
-use Rattle.cil_store_specs.specs.Script.{Command, makes, begins, commits, aborts, asks_rules, asks_violations, asks_dropped, asks_modules, asks_dump, words_of, line_of, is_shown, HasGoodWords}
 
 -- a byte that is neither a space nor a line feed
 abbrev pub is_plain : ℕ → Bool
@@ -239,20 +234,3 @@ known-first asks_violations some a b c d = some refl
 known-first asks_dropped some a b c d = some refl
 known-first asks_modules some a b c d = some refl
 known-first asks_dump some a b c d = some refl
-
--- a line of one word is one of these
-pub known-word : (word : List ℕ) (command : Command) → list_all is_no_space word ≡ true → word ≡ line_of command
-    → word ≢ codes "begin" → word ≢ codes "commit" → word ≢ codes "abort"
-    → word ≢ codes "rules" → word ≢ codes "violations" → word ≢ codes "dropped" → word ≢ codes "modules" → word ≢ codes "dump" → ⊥
-known-word word (makes (install name priority text)) all is g h j a b c d f = has-space (codes "install") (join_with_byte 32 (name ∷ decimal priority ∷ decimal (length text) ∷ [])) (sym (ap (list_all is_no_space) is) ∙ all)
-known-word word (makes (remove name priority)) all is g h j a b c d f = has-space (codes "remove") (join_with_byte 32 (name ∷ decimal priority ∷ [])) (sym (ap (list_all is_no_space) is) ∙ all)
-known-word word (makes (enable name)) all is g h j a b c d f = has-space (codes "enable") name (sym (ap (list_all is_no_space) is) ∙ all)
-known-word word (makes (disable name)) all is g h j a b c d f = has-space (codes "disable") name (sym (ap (list_all is_no_space) is) ∙ all)
-known-word word begins all is g h j a b c d f = g is
-known-word word commits all is g h j a b c d f = h is
-known-word word aborts all is g h j a b c d f = j is
-known-word word asks_rules all is g h j a b c d f = a is
-known-word word asks_violations all is g h j a b c d f = b is
-known-word word asks_dropped all is g h j a b c d f = c is
-known-word word asks_modules all is g h j a b c d f = d is
-known-word word asks_dump all is g h j a b c d f = f is

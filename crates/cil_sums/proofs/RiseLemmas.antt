@@ -1,15 +1,15 @@
 -- Counts that rise by as many as there are things of a kind.
-use Rattle.std.proofs.Common.{◌≡◌, ◌≢◌, ◌⊎◌, ◌+◌, ◌-◌, ◌/◌, ◌%◌, ◌^◌, ◌<◌, ◌≤◌, ◌==◌, ◌&&◌, ℕ, zero, suc, Bool, true, false, cond, List, [], ◌∷◌, ◌++◌, map, length, get_or, min, count_ones, refl, sym, ap, subst, ◌∙◌, inl, inr, arith, true≢false, pow-suc, add-zero, zero-add}
+use Rattle.std.proofs.Common.{◌≡◌, ◌≢◌, ◌⊎◌, ◌+◌, ◌-◌, ◌/◌, ◌%◌, ◌^◌, ◌<◌, ◌≤◌, ◌==◌, ◌&&◌, ℕ, zero, suc, Bool, true, false, cond, [], ◌∷◌, ◌++◌, map, length, get_or, min, count_ones, refl, sym, ap, subst, ◌∙◌, inl, inr, arith, true≢false, pow-suc, add-zero, zero-add}
 use Rattle.std.specs.Int.{bit_at}
 use Rattle.std.specs.Int.Count.{ones_step}
-use Rattle.std.specs.List.{All, AllPairs, Contains}
+use Rattle.std.specs.List.{Contains}
 use Rattle.std.proofs.lemmas.Bool.{cases_eq, cases_lt, eq-eqb, ne_eqb, eqb-true, le-ltb, lt-ltb}
 use Rattle.std.proofs.lemmas.List.{length-append, length-map}
-use Rattle.std.proofs.lemmas.List.Elements.{All-contains, Contains-append_left, Contains-append_right, Contains-append_cases}
+use Rattle.std.proofs.lemmas.List.Elements.{Contains-append_left, Contains-append_right, Contains-append_cases}
 use Rattle.std.proofs.lemmas.Nat.{ones_le_self}
 use Rattle.std.proofs.lemmas.Nat.Bits.{bit_at_lowest, bit_at-suc, bit_at-zero}
 use Rattle.cil_sums.specs.Rises.{below, RisesBy}
-use Rattle.cil_sums.proofs.PairLemmas.{at-most-all, from-mapped, mapped, pairs-append, pairs-map}
+use Rattle.cil_sums.proofs.PairLemmas.{from-mapped, mapped, pairs-append, pairs-map}
 
 module _ {X : Type 0} where
   abbrev Apart : X → X → Type 0
@@ -171,12 +171,6 @@ module _ {X : Type 0} (test : ℕ → X → Bool) where
                   | inr past ↦ ap (λ b. cond (b && test p.0 p.1) 1 0) (le-ltb p.0 i past ∙ sym (le-ltb p.0 (i + 1) (omega (arith, past, other))))
                 ]
           ]
-
--- Things that pass, each once, are at most as many as the count rises by.
-pub rises-least : {X : Type 0} (p : X → Bool) (before after : ℕ) → RisesBy p before after → (xs : List X) → All (λ x. p x ≡ true) xs → AllPairs (λ x y. x ≢ y) xs → min (before + length xs) (2 ^ 128 - 1) ≤ after
-rises-least p before after rises xs pass once =
-    let few = at-most-all xs rises.those once (λ x at. (rises.exact x).1 (All-contains (λ y. p y ≡ true) xs x pass at)) in
-    omega (arith, few, rises.at_least)
 
 -- The bits of a number are as many as are counted.
 abbrev lowest : ℕ → ℕ → Bool

@@ -51,11 +51,6 @@ sum-rest f m (suc n) low none =
       | inr within ↦ let before = sum-rest f m n within (λ i high h. none i high (omega (arith, h))) in omega (arith, before, none n within (omega arith), sum-suc f n)
     ]
 
--- the sum of what is added at each number
-pub sum-plus : (f g : ℕ → ℕ) (n : ℕ) → sum_below (λ i. f i + g i) n ≡ sum_below f n + sum_below g n
-sum-plus f g zero = omega (arith, sum-none (λ i. f i + g i), sum-none f, sum-none g)
-sum-plus f g (suc n) = let before = sum-plus f g n in omega (arith, before, sum-suc (λ i. f i + g i) n, sum-suc f n, sum-suc g n)
-
 -- what differs at one number alone
 pub sum-one : (f g : ℕ → ℕ) (k n : ℕ) → k < n → ((i : ℕ) → i ≢ k → f i ≡ g i) → sum_below f n + g k ≡ sum_below g n + f k
 sum-one f g k zero within other = absurd (omega (arith, within))

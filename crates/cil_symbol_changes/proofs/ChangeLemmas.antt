@@ -1,24 +1,8 @@
 -- The accesses of the targets that appeared or went, change by change.
 use Rattle.std.proofs.Common.{◌≡◌, ◌↔◌, ℕ, ◌-◌, ◌<◌, ◌≤◌, suc, List, [], ◌∷◌, Option, None, Some, MatchOption, get_or, length, min, position, slice_get, refl, sym, ap, subst, ◌∙◌, inl, inr, arith}
-use Rattle.std.specs.List.{sum_by}
-use Rattle.std.proofs.lemmas.Bool.{cases_eq, cases_lt}
-use Rattle.std.proofs.lemmas.List.{get_or_past}
-use Rattle.std.proofs.lemmas.List.Sums.{sum_by-cons, sum_by_more_le}
-use Rattle.std.proofs.lemmas.Option.{same_Some, slice_get_within}
-use Rattle.cil_accesses.specs.declared.access.AccessNumbers.{AccessNumbers}
-use Rattle.cil_accesses.specs.declared.chunk.Chunk.{Chunk}
-use Rattle.cil_keyed_lines.specs.Keyed.{Keyed, IsLineOf, IsNoLine, NoneCounted, before_at, is_key, now_at, count_before, count_now}
-use Rattle.cil_keyed_lines.specs.declared.symbol_key.SymbolKey.{SymbolKey}
+use Rattle.cil_symbol_changes.proofs.Common.{sum_by, cases_eq, cases_lt, get_or_past, sum_by-cons, sum_by_more_le, same_Some, slice_get_within, AccessNumbers, Chunk, Keyed, IsLineOf, IsNoLine, NoneCounted, before_at, is_key, now_at, count_before, count_now, SymbolKey, hit, hit_at, Change, hit_in, hit_off, AreGained, AreKnown, AreKnownIn, IsIn, IsTo, access_by, AreNumbered, IsNew, IsNumbered, AreAllPlaces, IsAmong, LinePlace}
 use Rattle.cil_keyed_lines.proofs.KeyedLemmas.{line_of_key}
-use Rattle.cil_lines.specs.Line.{hit}
-use Rattle.cil_recorded.specs.Log.{hit_at}
-use Rattle.cil_recorded.specs.declared.recorded_lines.changes.Change.{Change}
-use Rattle.cil_recorded.proofs.LogLemmas.{hit_in, hit_off}
 use Rattle.cil_recorded.specs.Differences.{appeared_at, gone_at}
-use Rattle.cil_symbol_changes.specs.Gained.{AreGained, AreKnown, AreKnownIn, IsIn, IsTo}
-use Rattle.cil_symbol_changes.specs.Numbered.{access_by, AreNumbered, IsNew, IsNumbered}
-use Rattle.cil_symbol_changes.specs.SourceOrder.{AreAllPlaces, IsAmong}
-use Rattle.cil_symbol_changes.specs.declared.source_order.LinePlace.{LinePlace}
 use Rattle.cil_symbol_changes.proofs.GainedLemmas.{gained-alike, gained-none}
 use Rattle.cil_symbol_changes.proofs.OrderLemmas.{among-at}
 

@@ -1,27 +1,11 @@
 -- How many accesses came: word by word, change by change and key by key.
 use Rattle.std.proofs.Common.{◌≡◌, ◌≢◌, ◌⊎◌, if◌then◌else◌, ℕ, suc, ◌+◌, ◌-◌, ◌*◌, ◌/◌, ◌%◌, ◌^◌, ◌<◌, ◌≤◌, ◌==◌, ◌&&◌, Bool, true, false, not, cond, List, [], ◌∷◌, Option, None, Some, MatchOption, map, length, get_or, min, nat_lt, count_ones, position, slice_get, refl, sym, ap, subst, ◌∙◌, inl, inr, arith, true≢false, zero-add, eqb-true}
-use Rattle.std.specs.Int.{bit_at}
-use Rattle.std.specs.List.{All, Contains, sum_by}
-use Rattle.std.proofs.lemmas.Bool.{cases_eq, cases_lt, eq-eqb, le-ltb, lt-ltb, ltb-true}
-use Rattle.std.proofs.lemmas.List.{length-map}
-use Rattle.std.proofs.lemmas.List.Elements.{All-contains}
-use Rattle.std.proofs.lemmas.List.Sums.{sum_by-cons}
+use Rattle.cil_symbol_changes.proofs.Common.{bit_at, All, Contains, sum_by, cases_eq, cases_lt, eq-eqb, le-ltb, lt-ltb, ltb-true, length-map, All-contains, sum_by-cons, bit_at_above, bit_at-lt, get_or_from_slice_get, same_Some, slice_get-get_or, AreKeyed, Keyed, IsLineOf, NoneCounted, before_at, is_key, now_at, count_before, count_now, SymbolKey, came_by, came_in, hit_at, went_by, went_in, IsTurned, Change, Step, hit_nothing, hit_off, hit_on, hit_out, RisesBy, rises-added, rises-bits, rises-both, rises-map, rises-none, came, has_come, has_risen, went, AreSoMany}
 use Rattle.std.proofs.lemmas.Nat.{zero_from_ones}
-use Rattle.std.proofs.lemmas.Nat.Bits.{bit_at_above, bit_at-lt}
-use Rattle.std.proofs.lemmas.Option.{get_or_from_slice_get, same_Some, slice_get-get_or}
-use Rattle.cil_keyed_lines.specs.Keyed.{AreKeyed, Keyed, IsLineOf, NoneCounted, before_at, is_key, now_at, count_before, count_now}
-use Rattle.cil_keyed_lines.specs.declared.symbol_key.SymbolKey.{SymbolKey}
 use Rattle.cil_keyed_lines.proofs.KeyedLemmas.{line_of_key, placed_at}
 use Rattle.cil_recorded.specs.Differences.{appeared_at, gone_at}
-use Rattle.cil_recorded.specs.Log.{came_by, came_in, hit_at, went_by, went_in, IsTurned}
-use Rattle.cil_recorded.specs.declared.recorded_lines.changes.Change.{Change}
-use Rattle.cil_recorded.specs.declared.step.Step.{Step}
-use Rattle.cil_recorded.proofs.LogLemmas.{hit_nothing, hit_off, hit_on, hit_out}
-use Rattle.cil_sums.specs.Rises.{RisesBy}
 use Rattle.cil_sums.proofs.PairLemmas.{from-mapped, mapped, pairs-map}
-use Rattle.cil_sums.proofs.RiseLemmas.{rises-added, rises-bits, rises-both, rises-map, rises-none}
 use Rattle.cil_text.specs.declared.statement.RuleKind.TheVariants.{Allow}
-use Rattle.cil_symbol_changes.specs.Counts.{came, has_come, has_risen, went, AreSoMany}
 
 -- Things that stand for those that pass, each for one, are as many.
 module _ {X Y : Type 0} (f : X → Y) (p : X → Bool) (q : Y → Bool) (alone : (a b : X) → p a ≡ true → p b ≡ true → f a ≡ f b → a ≡ b) (there : (x : X) → p x ≡ true → q (f x) ≡ true)

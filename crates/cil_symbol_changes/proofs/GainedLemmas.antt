@@ -1,21 +1,11 @@
 -- Accesses appended to others: none, one after the other, and those to the targets of a word.
 use Rattle.std.proofs.Common.{◌≡◌, ◌≢◌, ◌⊎◌, ◌↔◌, ℕ, ◌+◌, ◌*◌, ◌/◌, ◌%◌, ◌<◌, ◌^◌, ◌++◌, ◌∷◌, List, [], length, slice_index, sym, ap, subst, ◌∙◌, inl, inr, arith, eq-eqb, eqb-true}
-use Rattle.std.specs.Int.{bit_at}
-use Rattle.std.specs.List.{All}
-use Rattle.std.proofs.lemmas.Bool.{cases_eq}
-use Rattle.std.proofs.lemmas.List.Elements.{All-nil, All-push}
-use Rattle.std.proofs.lemmas.Nat.Bits.{bit_at-lt, bit_at-zero}
-use Rattle.cil_accesses.specs.declared.access.AccessNumbers.{AccessNumbers}
-use Rattle.cil_accesses.specs.declared.chunk.Chunk.{Chunk}
+use Rattle.cil_symbol_changes.proofs.Common.{bit_at, All, cases_eq, All-nil, All-push, bit_at-lt, bit_at-zero, AccessNumbers, Chunk, SymbolKey, hit, AreGained, AreKept, AreKnown, chunk_by, IsShort, IsTo, access_by, IsNumbered}
 use Rattle.cil_accesses.specs.Chunks.{IsAccessOf, IsGiven}
 use Rattle.cil_accesses.specs.Renumbered.{IsRenumbered, IsWithin}
 use Rattle.cil_accesses.proofs.Renumbering.{any-push, any-pushed}
-use Rattle.cil_keyed_lines.specs.declared.symbol_key.SymbolKey.{SymbolKey}
-use Rattle.cil_lines.specs.Line.{hit}
 use Rattle.cil_lines.proofs.LineLemmas.{some_bit}
 use Rattle.cil_lines.proofs.StepLemmas.{hit-here, hit-there}
-use Rattle.cil_symbol_changes.specs.Gained.{AreGained, AreKept, AreKnown, chunk_by, IsShort, IsTo}
-use Rattle.cil_symbol_changes.specs.Numbered.{access_by, IsNumbered}
 
 -- where nothing is told, nothing is gained
 pub gained-none : (told : AccessNumbers → Type 0) (chunks : List Chunk) → ((a : AccessNumbers) → told a → ⊥) → AreGained told chunks chunks

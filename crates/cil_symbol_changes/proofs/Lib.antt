@@ -1,3 +1,4 @@
+pub mod Common
 pub mod GainedLemmas
 pub mod OrderLemmas
 pub mod ChangeLemmas

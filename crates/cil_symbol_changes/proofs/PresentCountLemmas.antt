@@ -1,15 +1,7 @@
 -- How many accesses stand: word by word and line by line.
 use Rattle.std.proofs.Common.{◌≡◌, ℕ, ◌+◌, ◌-◌, ◌*◌, ◌/◌, ◌%◌, ◌^◌, ◌<◌, ◌==◌, ◌&&◌, Bool, true, false, cond, Option, None, Some, length, min, nat_lt, count_ones, refl, sym, ap, ◌∙◌, inl, inr, arith, add-zero, zero-add, eqb-true}
-use Rattle.std.specs.Int.{bit_at}
+use Rattle.cil_symbol_changes.proofs.Common.{bit_at, cases_eq, cases_lt, eq-eqb, le-ltb, lt-ltb, ltb-true, ne_eqb, bit_at_above, none-some, same_Some, AreKeyed, Keyed, now_at, count_now, IsNextPresent, IsPresence, below, RisesBy, rises-bits, rises-map, rises-more, rises-same, has_come}
 use Rattle.std.specs.Option.{SomeIff}
-use Rattle.std.proofs.lemmas.Bool.{cases_eq, cases_lt, eq-eqb, le-ltb, lt-ltb, ltb-true, ne_eqb}
-use Rattle.std.proofs.lemmas.Nat.Bits.{bit_at_above}
-use Rattle.std.proofs.lemmas.Option.{none-some, same_Some}
-use Rattle.cil_keyed_lines.specs.Keyed.{AreKeyed, Keyed, now_at, count_now}
-use Rattle.cil_lines.specs.Line.{IsNextPresent, IsPresence}
-use Rattle.cil_sums.specs.Rises.{below, RisesBy}
-use Rattle.cil_sums.proofs.RiseLemmas.{rises-bits, rises-map, rises-more, rises-same}
-use Rattle.cil_symbol_changes.specs.Counts.{has_come}
 use Rattle.cil_symbol_changes.proofs.CountLemmas.{both-hold, here-now, key-count, place-now}
 
 -- ---- the words of a line

@@ -1,20 +1,7 @@
 -- The accesses of the targets whose counters are above 0, word by word and line by line.
 use Rattle.std.proofs.Common.{◌≡◌, ◌⊎◌, ℕ, ◌+◌, ◌*◌, ◌/◌, ◌%◌, ◌<◌, ◌≤◌, Bool, true, false, cond, List, length, min, slice_get, refl, sym, ap, subst, ◌∙◌, inl, inr, arith}
-use Rattle.std.specs.Int.{bit_at}
-use Rattle.std.proofs.lemmas.Bool.{cases_eq, cases_lt}
-use Rattle.std.proofs.lemmas.List.Elements.{All-contains}
-use Rattle.std.proofs.lemmas.Option.{same_Some, slice_get_within}
-use Rattle.std.proofs.lemmas.Nat.Bits.{bit_at-zero}
-use Rattle.cil_accesses.specs.declared.access.AccessNumbers.{AccessNumbers}
-use Rattle.cil_accesses.specs.declared.chunk.Chunk.{Chunk}
-use Rattle.cil_keyed_lines.specs.Keyed.{Keyed, IsLineOf, IsNoLine, now_at, count_now}
-use Rattle.cil_keyed_lines.specs.declared.symbol_key.SymbolKey.{SymbolKey}
-use Rattle.cil_lines.specs.Line.{hit, IsNextPresent, IsPresence, NonePresent}
+use Rattle.cil_symbol_changes.proofs.Common.{bit_at, cases_eq, cases_lt, All-contains, same_Some, slice_get_within, bit_at-zero, AccessNumbers, Chunk, Keyed, IsLineOf, IsNoLine, now_at, count_now, SymbolKey, hit, IsNextPresent, IsPresence, NonePresent, AreGained, AreKnown, AreKnownIn, IsTo, access_by, is_listed, listed, ArePresentNumbered, IsPresent, AreListedPlaces, IsAmong, IsAt, IsAtWord, IsListedIn, LinePlace}
 use Rattle.cil_lines.proofs.StepLemmas.{hit-here, hit-there}
-use Rattle.cil_symbol_changes.specs.Gained.{AreGained, AreKnown, AreKnownIn, IsTo}
-use Rattle.cil_symbol_changes.specs.Numbered.{access_by, is_listed, listed, ArePresentNumbered, IsPresent}
-use Rattle.cil_symbol_changes.specs.SourceOrder.{AreListedPlaces, IsAmong, IsAt, IsAtWord, IsListedIn}
-use Rattle.cil_symbol_changes.specs.declared.source_order.LinePlace.{LinePlace}
 use Rattle.cil_symbol_changes.proofs.ChangeLemmas.{line-now}
 use Rattle.cil_symbol_changes.proofs.GainedLemmas.{gained-alike, gained-more, gained-none}
 use Rattle.cil_symbol_changes.proofs.OrderLemmas.{among-at, IsListedPlace}

@@ -1,23 +1,13 @@
 -- Symbols in use, and names that come in the place of others.
-use Rattle.std.proofs.Common.{◌≡◌, ◌∙◌, ℕ, ◌+◌, ◌-◌, ◌<◌, ◌≤◌, suc, Bool, true, false, List, [], ◌∷◌, ◌++◌, length, map, cond, take, set, get_or, slice_get, Option, None, Some, IfSome, Vec, inl, inr, is_some, position, bytes_eq, refl, sym, ap, subst, arith, true≢false, if◌then◌else◌}
+use Rattle.std.proofs.Common.{◌≡◌, ◌∙◌, ℕ, ◌+◌, ◌-◌, ◌<◌, ◌≤◌, suc, Bool, true, false, List, [], ◌∷◌, ◌++◌, length, map, cond, take, set, get_or, slice_get, Option, None, Some, IfSome, inl, inr, is_some, position, bytes_eq, refl, sym, ap, subst, arith, true≢false, if◌then◌else◌}
 use Rattle.std.specs.List.{count_by, swap_remove}
 use Rattle.std.proofs.Math.Seq.{take-append_seam, get_or-append_seam}
 use Rattle.std.proofs.lemmas.Bool.{cases_eq, cases_lt}
-use Rattle.std.proofs.lemmas.List.{length-append, length-map, length-set, map-set, set-append_left}
-use Rattle.std.specs.Option.{is_none}
+use Rattle.cil_symbols.proofs.Common.{length-append, length-map, length-set, map-set, set-append_left, is_none, sum_by-append, sum_by-cons, none-some, slice_get_within, slice_get-get_or, get_or_from_slice_get, same_Some, has_name, AreNumbersOf, any-position, get-append, get-set_same, get-set_other, used_in, AreUsedBelow, IsUsed, has_name-texts, same, texts}
 use Rattle.std.proofs.lemmas.List.Folds.{list_any_at}
-use Rattle.std.proofs.lemmas.List.Sums.{sum_by-append, sum_by-cons, sum_by-set}
-use Rattle.std.proofs.lemmas.Option.{none-some, slice_get_within, slice_get-get_or, get_or_from_slice_get, same_Some}
 use Rattle.std.proofs.lemmas.Slice.Eq.{bytes_eq-Decides}
 use Rattle.indexmap.specs.IndexSet.{insert_key}
-use Rattle.cil_specs.specs.Lookup.{has_name, with_name}
-use Rattle.cil_parse.specs.Lexicon.{AreNumbersOf}
-use Rattle.cil_bind.proofs.PositionLemmas.{any-position}
-use Rattle.cil_check.proofs.PositionLemmas.{get-append}
-use Rattle.cil_optionals.proofs.ListLemmas.{get-set_same, get-set_other}
 pub use Rattle.cil_optionals.proofs.ListedLemmas.{missing, with-new}
-use Rattle.cil_symbols.specs.InUse.{used_in, AreUsedBelow, IsUsed}
-use Rattle.cil_names.proofs.TextLemmas.{has_name-texts, same, texts}
 
 -- what stands last takes the place of another
 swap-last : {X : Type 0} (xs : List X) (y : X) (i : ℕ) (d : X) → i < length xs → swap_remove (xs ++ y ∷ []) i d ≡ set xs i y
@@ -51,20 +41,6 @@ reused {K} text names name i more gone others within new is_more at by_swap = by
     by : (o : Option K) → o ≡ slice_get more i → IfSome o (λ k. others ≡ swap_remove more i k) → texts text others ≡ set (texts text names) i (text name)
     by None e swapped = absurd (none-some (get_or names i name) (e ∙ there))
     by (Some k) e swapped = ap (texts text) (swapped ∙ ap (λ l. swap_remove l i k) keys ∙ swap-last names name i k low) ∙ map-set text names i name
-
--- One more symbol is in use, or was before.
-pub used-more : (marks : List Bool) (i : ℕ) → i < length marks → used_in (set marks i true) ≤ used_in marks + 1
-used-more marks i low =
-    let counted = sum_by-set (λ mark. cond mark 1 0) marks i true false low in
-    omega (arith, counted)
-
--- the same where it wasn't
-pub used-one : (marks : List Bool) (i : ℕ) → slice_get marks i ≡ Some false → used_in (set marks i true) ≡ used_in marks + 1
-used-one marks i free =
-    let low = slice_get_within marks i false free in
-    let counted = sum_by-set (λ mark. cond mark 1 0) marks i true false low in
-    let was : cond {A = ℕ} (get_or marks i false) 1 0 ≡ 0 = ap (λ mark. cond {A = ℕ} mark 1 0) (get_or_from_slice_get marks i false false free) in
-    omega (arith, counted, was)
 
 pub now-used : (marks : List Bool) (i : ℕ) → i < length marks → IsUsed (set marks i true) i
 now-used marks i low = get-set_same marks i (get_or marks i false) true (slice_get-get_or marks i false low)

@@ -1,3 +1,4 @@
+pub mod Common
 pub mod InUseLemmas
 pub mod NameLemmas
 pub mod InverseLemmas

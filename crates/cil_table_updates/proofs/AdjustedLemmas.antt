@@ -1,15 +1,7 @@
 -- How far the count of adjustments rises where a rule's counters are moved.
 use Rattle.std.proofs.Common.{◌≡◌, ℕ, ◌+◌, ◌-◌, ◌^◌, ◌==◌, ◌&&◌, Bool, true, false, List, min, nat_lt, not, refl, sym, ap, ◌∙◌, arith, true≢false}
-use Rattle.std.proofs.lemmas.Bool.{eq-eqb}
-use Rattle.cil_sums.specs.Rises.{RisesBy}
-use Rattle.cil_sums.proofs.RiseLemmas.{rises-added, rises-map, rises-same}
-use Rattle.cil_keyed_lines.specs.declared.symbol_key.SymbolKey.{SymbolKey}
-use Rattle.cil_resolve.specs.declared.numbered.NumberedRule.{NumberedRule}
-use Rattle.cil_rule_shifts.specs.Moves.{differs}
-use Rattle.cil_rule_shifts.specs.Reach.{one_if}
+use Rattle.cil_table_updates.proofs.Common.{eq-eqb, RisesBy, rises-added, rises-map, rises-same, SymbolKey, NumberedRule, differs, one_if, shifts, Counter, gives_as}
 use Rattle.cil_rule_shifts.specs.declared.reach.Reach.{Reach}
-use Rattle.cil_table_updates.specs.Adjusted.{shifts, Counter}
-use Rattle.cil_table_updates.specs.Moves.{gives_as}
 
 pub and-both : (a b : Bool) → (a && b) ≡ true → (a ≡ true) × (b ≡ true)
 and-both true b is = (refl, is)

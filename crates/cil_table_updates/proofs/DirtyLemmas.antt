@@ -1,38 +1,14 @@
 -- The counters that an update moves are those of accesses that a rule gives in one of the two policies alone.
 use Rattle.std.proofs.Common.{◌≡◌, ◌≢◌, ◌⊎◌, ℕ, ◌+◌, ◌<◌, ◌==◌, ◌&&◌, Bool, true, false, List, [], ◌++◌, get_or, length, map, nat_lt, not, slice_get, Option, None, Some, Result, Ok, Err, OnOk, refl, sym, ap, ◌∙◌, subst, inl, inr, arith, true≢false}
-use Rattle.std.specs.List.{list_all, All, AllPairs, Contains}
-use Rattle.std.proofs.lemmas.Bool.{cases_Bool, cases_eq, eq-eqb, lt-ltb, ltb-true, ne_eqb}
-use Rattle.std.proofs.lemmas.List.{length-append, length-map}
-use Rattle.std.proofs.lemmas.List.Elements.{All-append, All-contains, All-map, Contains-append_left, Contains-append_right, Contains-get_or}
-use Rattle.std.proofs.lemmas.Option.{none-some, same_Some, slice_get-get_or, slice_get_read, slice_get_within}
-use Rattle.cil_sums.specs.Rises.{below, RisesBy}
-use Rattle.cil_sums.specs.Sums.{across, alone, sum_below}
+use Rattle.cil_table_updates.proofs.Common.{list_all, All, AllPairs, Contains, cases_Bool, cases_eq, eq-eqb, lt-ltb, ltb-true, ne_eqb, length-append, length-map, All-append, All-contains, All-map, Contains-append_left, Contains-append_right, Contains-get_or, none-some, same_Some, slice_get-get_or, slice_get_read, slice_get_within, below, RisesBy, across, alone, sum_below, across-none, across-some, alone-none, alone-some, sum-differs, sum-zero, gives, Meaning, a_type, at_itself, kind_index, Atom, IsSameRule, Rule, SymbolKey, is_rule_below, is_consistent, is_rule_of, rule_of, meaning_in, NumberedRule, atom_of, is_named, name_at, members_of, covers-named, covers-none, differs, one_if, goes, turns, AdjustsAtLeast, AdjustsAtMost, Counter, given, gives_by, AreApart, IsPolicy, Policy}
 use Rattle.cil_sums.proofs.PairLemmas.{at-most-all, from-mapped as from-map, mapped, pairs-append, pairs-map}
-use Rattle.cil_sums.proofs.SumLemmas.{across-none, across-some, alone-none, alone-some, sum-differs, sum-zero}
-use Rattle.cil_specs.specs.Meaning.{gives, Meaning}
-use Rattle.cil_specs.specs.Rule.{a_type, at_itself, kind_index, Atom, IsSameRule, Rule}
 use Rattle.cil_specs.specs.Statements.{allow}
 use Rattle.cil_delta_specs.specs.Dirty.{HasGiver, OnlyOne}
 use Rattle.cil_keyed_lines.proofs.KeyedLemmas.{one_kind}
-use Rattle.cil_keyed_lines.specs.declared.symbol_key.SymbolKey.{SymbolKey}
 use Rattle.cil_matching.specs.Matching.{AreMatched, AreSameAt, Matched}
 use Rattle.cil_matching.specs.Spot as spots
 use Rattle.cil_matching.specs.Spot.{rule_spot}
 use Rattle.cil_matching.proofs.MatchedLemmas.{from-mapped, to-mapped}
-use Rattle.cil_resolve.specs.Below.{is_rule_below}
-use Rattle.cil_resolve.specs.Consistent.{is_consistent, is_rule_of}
-use Rattle.cil_resolve.specs.Numbers.{rule_of}
-use Rattle.cil_resolve.specs.Resolved.{meaning_in}
-use Rattle.cil_resolve.specs.declared.numbered.NumberedRule.{NumberedRule}
-use Rattle.cil_rule_reach.specs.Named.{atom_of, is_named, name_at}
-use Rattle.cil_rule_reach.specs.Reaches.{members_of}
-use Rattle.cil_rule_reach.proofs.NamedLemmas.{covers-named, covers-none}
-use Rattle.cil_rule_shifts.specs.Moves.{differs}
-use Rattle.cil_rule_shifts.specs.Reach.{one_if}
-use Rattle.cil_table_updates.specs.Adjusted.{goes, turns, AdjustsAtLeast, AdjustsAtMost, Counter}
-use Rattle.cil_table_updates.specs.Given.{given, gives_by}
-use Rattle.cil_table_updates.specs.Policies.{AreApart, IsPolicy}
-use Rattle.cil_table_updates.specs.declared.policy.Policy.{Policy}
 use Rattle.cil_table_updates.proofs.AdjustedLemmas.{and-both, counted-other, counted-some}
 use Rattle.cil_table_updates.proofs.GivenLemmas.{given-rule}
 use Rattle.cil_table_updates.proofs.PlaceLemmas.{passes-at}

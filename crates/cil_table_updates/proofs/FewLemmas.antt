@@ -1,20 +1,13 @@
 -- What bounds the adjustments by counters bounds them by the changes between the lines.
 use Rattle.std.proofs.Common.{◌≡◌, ◌≢◌, ℕ, ◌&&◌, Bool, true, false, Equal, Less, List, ◌++◌, get_or, map, not, refl, sym, ap, ◌∙◌, inl, inr, arith, true≢false}
-use Rattle.std.specs.List.{AllPairs, Contains}
+use Rattle.cil_table_updates.proofs.Common.{AllPairs, Contains, length-append, length-map, All-map, Contains-append_cases, Contains-get_or, Meaning, is_in_table, Atom, SymbolKey, atom_of, AdjustsAtLeast, AdjustsAtMost, Counter}
 use Rattle.std.specs.List.Sorted.{IsStrictlySortedBy}
 use Rattle.std.proofs.lemmas.Cmp.{tied_itself}
-use Rattle.std.proofs.lemmas.List.{length-append, length-map}
-use Rattle.std.proofs.lemmas.List.Elements.{All-map, Contains-append_cases, Contains-get_or}
 use Rattle.std.proofs.lemmas.Map.Keys.{Less-from_sorted}
 use Rattle.cil_sums.proofs.PairLemmas.{pairs-append, pairs-map}
-use Rattle.cil_specs.specs.Meaning.{Meaning, is_in_table}
 use Rattle.cil_specs.specs.Report.{atom_cmp, AreChanges, Changes}
-use Rattle.cil_specs.specs.Rule.{Atom}
 use Rattle.cil_specs.proofs.ReportLemmas.{atom_total}
 use Rattle.cil_delta_specs.specs.Work.{AdjustsFew}
-use Rattle.cil_keyed_lines.specs.declared.symbol_key.SymbolKey.{SymbolKey}
-use Rattle.cil_rule_reach.specs.Named.{atom_of}
-use Rattle.cil_table_updates.specs.Adjusted.{AdjustsAtLeast, AdjustsAtMost, Counter}
 
 -- what ascends is apart
 atoms-apart : (atoms : List Atom) → IsStrictlySortedBy atom_cmp atoms → AllPairs (λ a b. a ≢ b) atoms

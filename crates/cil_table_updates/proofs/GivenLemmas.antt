@@ -1,27 +1,9 @@
 -- What the rules of a policy give, summed up, and by full names.
 use Rattle.std.proofs.Common.{◌≡◌, ℕ, zero, suc, ◌+◌, ◌&&◌, Bool, true, false, cond, count_by, length, map, List, [], ◌∷◌, slice_get, Option, Some, refl, sym, ap, ◌∙◌, inl, inr, arith, add-one, zero-add}
-use Rattle.std.specs.List.{list_all}
+use Rattle.cil_table_updates.proofs.Common.{list_all, cases_Bool, alone, sum_below, alone-none, sum-more, sum-none, count_of, gives, SymbolKey, is_rule_below, is_consistent, is_rule_of, rule_of, meaning_in, NumberedRule, Resolved, atom_of, is_named, AreMembersOf, covers_by, members_of, covers-named, covers-none, one_if, given, gives_by, count_named, AreApart, IsPolicy, Policy}
 use Rattle.std.specs.Option.{option_map_or}
-use Rattle.std.proofs.lemmas.Bool.{cases_Bool}
 use Rattle.std.proofs.lemmas.List.Sums.{sum_by-cons}
-use Rattle.cil_sums.specs.Sums.{alone, sum_below}
-use Rattle.cil_sums.proofs.SumLemmas.{alone-none, sum-more, sum-none}
-use Rattle.cil_specs.specs.Meaning.{count_of, gives}
 use Rattle.cil_parse.specs.Lexicon.{AreNumbersOf}
-use Rattle.cil_keyed_lines.specs.declared.symbol_key.SymbolKey.{SymbolKey}
-use Rattle.cil_resolve.specs.Below.{is_rule_below}
-use Rattle.cil_resolve.specs.Consistent.{is_consistent, is_rule_of}
-use Rattle.cil_resolve.specs.Numbers.{rule_of}
-use Rattle.cil_resolve.specs.Resolved.{meaning_in}
-use Rattle.cil_resolve.specs.declared.numbered.NumberedRule.{NumberedRule}
-use Rattle.cil_resolve.specs.declared.resolved.Resolved.{Resolved}
-use Rattle.cil_rule_reach.specs.Named.{atom_of, is_named, AreMembersOf}
-use Rattle.cil_rule_reach.specs.Reaches.{covers_by, members_of}
-use Rattle.cil_rule_reach.proofs.NamedLemmas.{covers-named, covers-none}
-use Rattle.cil_rule_shifts.specs.Reach.{one_if}
-use Rattle.cil_table_updates.specs.Given.{given, gives_by}
-use Rattle.cil_table_updates.specs.Policies.{count_named, AreApart, IsPolicy}
-use Rattle.cil_table_updates.specs.declared.policy.Policy.{Policy}
 
 pub and-first : (a b : Bool) → (a && b) ≡ true → a ≡ true
 and-first true b e = refl

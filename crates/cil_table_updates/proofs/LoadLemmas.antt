@@ -1,27 +1,10 @@
 -- The counters that rise where a first policy is counted are those of accesses that its rules give.
 use Rattle.std.proofs.Common.{◌≡◌, ◌≢◌, ℕ, ◌+◌, ◌<◌, ◌&&◌, true, List, get_or, length, map, nat_lt, refl, sym, ap, ◌∙◌, subst, inr, arith}
-use Rattle.std.specs.List.{list_all, Contains}
-use Rattle.std.proofs.lemmas.Bool.{lt-ltb, ltb-true}
-use Rattle.std.proofs.lemmas.List.{length-map}
-use Rattle.std.proofs.lemmas.List.Elements.{All-contains, All-map, Contains-get_or}
-use Rattle.cil_sums.specs.Rises.{below, RisesBy}
-use Rattle.cil_sums.specs.Sums.{sum_below}
+use Rattle.cil_table_updates.proofs.Common.{list_all, Contains, lt-ltb, ltb-true, length-map, All-contains, All-map, Contains-get_or, below, RisesBy, sum_below, sum-differs, sum-zero, gives, Meaning, Atom, IsSameRule, Rule, SymbolKey, is_rule_below, is_consistent, rule_of, meaning_in, comes, AdjustsAtLeast, AdjustsAtMost, Counter, given, AreApart, IsPolicy, Policy}
 use Rattle.cil_sums.proofs.PairLemmas.{at-most-all, mapped, pairs-map}
-use Rattle.cil_sums.proofs.SumLemmas.{sum-differs, sum-zero}
-use Rattle.cil_specs.specs.Meaning.{gives, Meaning}
-use Rattle.cil_specs.specs.Rule.{Atom, IsSameRule, Rule}
 use Rattle.cil_delta_specs.specs.Dirty.{HasGiver, OnlyOne}
-use Rattle.cil_keyed_lines.specs.declared.symbol_key.SymbolKey.{SymbolKey}
 use Rattle.cil_matching.specs.Spot as spots
 use Rattle.cil_matching.specs.Spot.{rule_spot}
-use Rattle.cil_resolve.specs.Below.{is_rule_below}
-use Rattle.cil_resolve.specs.Consistent.{is_consistent}
-use Rattle.cil_resolve.specs.Numbers.{rule_of}
-use Rattle.cil_resolve.specs.Resolved.{meaning_in}
-use Rattle.cil_table_updates.specs.Adjusted.{comes, AdjustsAtLeast, AdjustsAtMost, Counter}
-use Rattle.cil_table_updates.specs.Given.{given}
-use Rattle.cil_table_updates.specs.Policies.{AreApart, IsPolicy}
-use Rattle.cil_table_updates.specs.declared.policy.Policy.{Policy}
 use Rattle.cil_table_updates.proofs.AdjustedLemmas.{and-both, counted-some}
 use Rattle.cil_table_updates.proofs.DirtyLemmas.{at-place, atom, given-by-names, named, nowhere, one-pair, read-place}
 

@@ -1,18 +1,11 @@
 -- A rule's counters moved by what it reaches.
 use Rattle.std.proofs.Common.{◌≡◌, ℕ, ◌==◌, ◌&&◌, Bool, true, false, List, slice_index, refl, sym, ap, ◌∙◌}
 use Rattle.std.proofs.Math.Bool.{and-false}
-use Rattle.cil_keyed_lines.specs.Keyed.{is_kind}
-use Rattle.cil_keyed_lines.specs.declared.symbol_key.SymbolKey.{SymbolKey}
-use Rattle.cil_resolve.specs.declared.numbered.NumberedRule.{NumberedRule}
-use Rattle.cil_member_rows.specs.Rows.{count_before, count_now}
+use Rattle.cil_table_updates.proofs.Common.{is_kind, SymbolKey, NumberedRule, count_before, aims_by, covers_by, has_by, has_permission, has_source, one_if, reaches, takes, RuleHead, given, gives_as, lists, HaveSameHead, IsReplaced, Policy}
+use Rattle.cil_member_rows.specs.Rows.{count_now}
 use Rattle.cil_recorded.specs.Recorded.{State}
-use Rattle.cil_rule_reach.specs.Reaches.{aims_by, covers_by, has_by}
-use Rattle.cil_rule_shifts.specs.Reach.{gives, has_permission, has_source, one_if, reaches, takes}
-use Rattle.cil_rule_shifts.specs.declared.head.RuleHead.{RuleHead}
+use Rattle.cil_rule_shifts.specs.Reach.{gives}
 use Rattle.cil_rule_shifts.specs.declared.reach.Reach.{Reach}
-use Rattle.cil_table_updates.specs.Given.{given}
-use Rattle.cil_table_updates.specs.Moves.{gives_as, lists, HaveSameHead, IsReplaced}
-use Rattle.cil_table_updates.specs.declared.policy.Policy.{Policy}
 use Rattle.cil_table_updates.proofs.GivenLemmas.{given-rule}
 
 and-front : (a k b : Bool) → (a && (k && b)) ≡ (k && (a && b))

@@ -1,11 +1,8 @@
 -- Items at places, and answers of places.
 use Rattle.std.proofs.Common.{◌≡◌, ◌↔◌, ℕ, ◌<◌, Bool, true, List, length, get_or, slice_get, Option, None, Some, [], bytes_eq, inl, inr, refl, sym, ap, ◌∙◌}
-use Rattle.std.specs.List.{list_all, IsDistinct}
-use Rattle.std.proofs.lemmas.Bool.{cases_Bool}
+use Rattle.cil_table_updates.proofs.Common.{list_all, IsDistinct, cases_Bool, get_or_from_slice_get, slice_get_read, slice_get_within, AreApart}
 use Rattle.std.proofs.lemmas.List.Folds.{list_all_at}
-use Rattle.std.proofs.lemmas.Option.{get_or_from_slice_get, slice_get_read, slice_get_within}
 use Rattle.cil_bind.proofs.NamespaceLemmas.{distinct-place}
-use Rattle.cil_table_updates.specs.Policies.{AreApart}
 
 -- what holds of all items holds of that at a place
 pub passes-at : {X : Type 0} (p : X → Bool) (xs : List X) (i : ℕ) (x : X) → list_all p xs ≡ true → slice_get xs i ≡ Some x → p x ≡ true

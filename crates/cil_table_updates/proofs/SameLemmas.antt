@@ -1,25 +1,13 @@
 -- The same rule of two policies, by symbols.
 use Rattle.std.proofs.Common.{◌≡◌, ℕ, ◌<◌, ◌==◌, ◌&&◌, ◌||◌, Bool, true, false, List, [], ◌∷◌, length, map, nat_lt, slice_index, slice_index_or, Some, refl, ap, ◌∙◌}
-use Rattle.std.specs.List.{list_all, list_any}
-use Rattle.std.proofs.lemmas.Bool.{eq-eqb, ltb-true}
-use Rattle.cil_specs.specs.Rule.{content_of, kind_index}
+use Rattle.cil_table_updates.proofs.Common.{list_all, list_any, eq-eqb, ltb-true, content_of, kind_index, is_kind, SymbolKey, is_element_below, is_rule_below, is_target_below, element_of, resolved_target_of, rule_of, NumberedRule, Resolved, aims_by, covers_by, has_by, is-below, symbol-named, HaveSameHead, AreApart}
 use Rattle.cil_parse.specs.Lexicon.{AreNumbersOf}
 use Rattle.cil_expression.specs.declared.expression.Element.{Element}
 use Rattle.cil_expression.specs.declared.expression.Element.TheVariants.{«Type», Attribute}
 use Rattle.cil_keyed_lines.proofs.KeyedLemmas.{one_kind}
-use Rattle.cil_keyed_lines.specs.Keyed.{is_kind}
-use Rattle.cil_keyed_lines.specs.declared.symbol_key.SymbolKey.{SymbolKey}
-use Rattle.cil_resolve.specs.Below.{is_element_below, is_rule_below, is_target_below}
-use Rattle.cil_resolve.specs.Numbers.{element_of, resolved_target_of, rule_of}
 use Rattle.cil_resolve.specs.Sets.{name_in}
-use Rattle.cil_resolve.specs.declared.numbered.NumberedRule.{NumberedRule}
 use Rattle.cil_resolve.specs.declared.numbered.ResolvedTarget.{ResolvedTarget}
 use Rattle.cil_resolve.specs.declared.numbered.ResolvedTarget.TheVariants as targets
-use Rattle.cil_resolve.specs.declared.resolved.Resolved.{Resolved}
-use Rattle.cil_rule_reach.specs.Reaches.{aims_by, covers_by, has_by}
-use Rattle.cil_rule_reach.proofs.NamedLemmas.{is-below, symbol-named}
-use Rattle.cil_table_updates.specs.Moves.{HaveSameHead}
-use Rattle.cil_table_updates.specs.Policies.{AreApart}
 
 module _ {A B : Type 0} (old : Resolved A) (new : Resolved B) (names : List (List ℕ)) (apart : AreApart names) (old_symbols new_symbols : List ℕ)
     (old_numbers : AreNumbersOf names old_symbols old.names.items) (new_numbers : AreNumbersOf names new_symbols new.names.items) where

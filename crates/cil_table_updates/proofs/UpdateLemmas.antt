@@ -1,25 +1,11 @@
 -- Counters of accesses brought from one policy to another.
 use Rattle.std.proofs.Common.{◌≡◌, ℕ, ◌+◌, ◌≤◌, true, List, length, slice_get, Some, sym, ap, ◌∙◌, subst, arith}
-use Rattle.std.specs.List.{list_all}
-use Rattle.std.proofs.lemmas.List.{length-map}
-use Rattle.std.proofs.lemmas.Option.{slice_get_within}
-use Rattle.cil_sums.specs.Sums.{across, alone, sum_below, ArePlaces}
-use Rattle.cil_sums.proofs.SumLemmas.{sum-sides}
+use Rattle.cil_table_updates.proofs.Common.{list_all, length-map, slice_get_within, across, alone, sum_below, ArePlaces, sum-sides, IsSameRule, count_before, is_rule_below, rule_of, meaning_in, NumberedRule, Resolved, covers_by, members_of, AreReplaced, AreApart, IsPolicy, Policy}
 use Rattle.cil_specs.specs.Rule as spec
-use Rattle.cil_specs.specs.Rule.{IsSameRule}
 use Rattle.cil_matching.specs.Matching.{Matched, AreMatched, AreSameAt}
 use Rattle.cil_matching.proofs.MatchedLemmas.{from-mapped}
-use Rattle.cil_member_rows.specs.Rows.{count_before, count_now}
+use Rattle.cil_member_rows.specs.Rows.{count_now}
 use Rattle.cil_recorded.specs.Recorded.{State}
-use Rattle.cil_resolve.specs.Below.{is_rule_below}
-use Rattle.cil_resolve.specs.Numbers.{rule_of}
-use Rattle.cil_resolve.specs.Resolved.{meaning_in}
-use Rattle.cil_resolve.specs.declared.numbered.NumberedRule.{NumberedRule}
-use Rattle.cil_resolve.specs.declared.resolved.Resolved.{Resolved}
-use Rattle.cil_rule_reach.specs.Reaches.{covers_by, members_of}
-use Rattle.cil_table_updates.specs.Moves.{AreReplaced}
-use Rattle.cil_table_updates.specs.Policies.{AreApart, IsPolicy}
-use Rattle.cil_table_updates.specs.declared.policy.Policy.{Policy}
 use Rattle.cil_table_updates.proofs.PlaceLemmas.{passes-at}
 use Rattle.cil_table_updates.proofs.SameLemmas.{same-covers, same-head}
 

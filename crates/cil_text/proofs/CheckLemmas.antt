@@ -1,14 +1,7 @@
 -- The words of a list of words and of expressions, one after the other.
 use Rattle.std.proofs.Common.{◌≡◌, ℕ, ◌+◌, ◌<◌, List, ◌∷◌, ◌++◌, length, get_or, map, drop, suc, sym, ap, ◌∙◌, add-one}
-use Rattle.std.proofs.Math.Seq.{drop-cons}
-use Rattle.std.proofs.lemmas.List.{map-append}
+use Rattle.cil_text.proofs.Common.{drop-cons, map-append, leaves, as_referred, word_of, expr_of, exprs_of, Word, Expr}
 use Rattle.cil_specs.specs.Names as spec
-use Rattle.cil_specs.specs.Expr.{leaves}
-use Rattle.cil_specs.specs.Statements.{as_referred}
-use Rattle.cil_text.specs.Image.{word_of, expr_of}
-use Rattle.cil_text.specs.Expr.{exprs_of}
-use Rattle.cil_text.specs.declared.word.Word.{Word}
-use Rattle.cil_text.specs.declared.statement.Expr.{Expr}
 
 -- words in one role
 abbrev pub in_role : spec.Role → List Word → List (spec.Role × spec.Word)

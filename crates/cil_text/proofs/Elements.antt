@@ -1,39 +1,15 @@
 -- The elements of a set expression, one after the other.
-use Rattle.std.proofs.Common.{◌≡◌, Bool, true, false, List, [], ◌∷◌, ◌++◌, Some, None, refl, sym, ◌∙◌, ap, subst}
-use Rattle.std.proofs.lemmas.Bool.{true≢false}
-use Rattle.cil_specs.specs.Trees.{Trees, none, a_word, a_string, a_list}
+use Rattle.std.proofs.Common.{◌≡◌, true, List, [], ◌∷◌, ◌++◌, Some, None, refl, sym, ap, subst}
+use Rattle.cil_text.proofs.Common.{Trees, none, a_word, a_string, a_list, nothing, elements, Expresses, Lists, string_spells, place_of, tree_then, trees_of, expr_of, is_nothing, is_one, exprs_of, SpellsExpr, Tree, Expr}
 use Rattle.cil_specs.specs.Expr as spec
-use Rattle.cil_specs.specs.Expr.{nothing, elements, Expresses, Lists}
 use Rattle.cil_specs.proofs.ExprSame.{expresses_same, word_is, list_rest, none_expresses}
-use Rattle.cil_specs.proofs.ExprLemmas.{string_spells}
-use Rattle.cil_text.specs.Image.{place_of, tree_then, trees_of, expr_of}
-use Rattle.cil_text.specs.Tree.{is_nothing, is_one}
-use Rattle.cil_text.specs.Expr.{exprs_of, SpellsExpr}
-use Rattle.cil_text.specs.declared.tree.Tree.{Tree}
 use Rattle.cil_text.specs.declared.tree.Tree.TheVariants.{Word, String, List as Listed}
-use Rattle.cil_text.specs.declared.statement.Expr.{Expr}
 
 -- a tree is something
 pub tree_some : (t : Tree) (rest : Trees) → tree_then t rest ≡ none → ⊥
 tree_some (Word w) rest h = absurd cc
 tree_some (String w) rest h = absurd cc
 tree_some (Listed at end items) rest h = absurd cc
-
--- trees of which there are none
-pub no_trees : (trees : Trees) (empty : Bool) → empty ≡ is_nothing trees → empty ≡ true → trees ≡ none
-no_trees none empty is so = refl
-no_trees (a_word at bytes rest) empty is so = absurd (true≢false (sym so ∙ is))
-no_trees (a_string at bytes rest) empty is so = absurd (true≢false (sym so ∙ is))
-no_trees (a_list at end items rest) empty is so = absurd (true≢false (sym so ∙ is))
-
-pub some_trees : (trees : Trees) (empty : Bool) → empty ≡ is_nothing trees → empty ≡ false → trees ≡ none → ⊥
-some_trees trees empty is not h = true≢false (ap is_nothing (sym h) ∙ sym is ∙ not)
-
--- one tree alone has nothing behind it
-pub one_by : (t : Tree) (rest : Trees) → is_one (tree_then t rest) ≡ is_nothing rest
-one_by (Word w) rest = refl
-one_by (String w) rest = refl
-one_by (Listed at end items) rest = refl
 
 -- the elements, and then those of the expression
 abbrev pub joined : {A : Type 0} → List (Expr A) → spec.WordExpr → spec.WordExpr

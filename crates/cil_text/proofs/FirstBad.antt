@@ -1,12 +1,7 @@
 -- The first word of a statement that is not good.
 use Rattle.std.proofs.Common.{◌≡◌, ℕ, ◌+◌, List, [], ◌∷◌, ◌++◌, get_or, map, zero, suc, Option, Some, None, MatchOption, Result, Ok, Err, IsErrAnd, IfErr, inl, sym, ◌∙◌, ap, subst, refl, Contains, arith}
-use Rattle.cil_specs.specs.TextFault.{TextFaultKind, code_of, TextFault, IsNoLater}
-use Rattle.cil_specs.specs.Names.{Word, Role, name_fault}
-use Rattle.cil_specs.specs.Shape.{IsAtWord}
-use Rattle.cil_specs.proofs.OrderLemmas.{RiseTo, role_offset}
-use Rattle.cil_specs.proofs.FaultOrder.{at-offset, word_within, no_later-here}
-use Rattle.cil_text.specs.Image.{place_of, kind_of, shown, FaultIs}
-use Rattle.cil_text.specs.Walk.{AreGood, IsFirstBad, IsFoundAs, Checks}
+use Rattle.cil_text.proofs.Common.{TextFaultKind, code_of, TextFault, IsNoLater, Role, name_fault, IsAtWord, RiseTo, role_offset, at-offset, word_within, no_later-here, place_of, kind_of, shown, FaultIs, AreGood, IsFirstBad, IsFoundAs, Checks}
+use Rattle.cil_specs.specs.Names.{Word}
 use Rattle.cil_text.specs.declared.fault.TextFault as code
 use Rattle.cil_text.specs.declared.fault.TextFault.TheVariants.{Memory, Found}
 

@@ -1,15 +1,7 @@
 -- Operands that fit a form.
 use Rattle.std.proofs.Common.{◌≡◌, List, Option, Some, None, Vec, IsTrue, sym, ◌∙◌, ap, subst, codes}
 use Rattle.cil_specs.specs.Names as spec
-use Rattle.cil_specs.specs.Trees.{Trees, none, are_lists}
-use Rattle.cil_specs.specs.Expr.{IsListThen}
-use Rattle.cil_specs.specs.Statements.{RuleKind, Target, itself, the_named, rule}
-use Rattle.cil_specs.specs.Shape.{put_word, IsTargetThen, IsClassAndPermissions}
-use Rattle.cil_specs.proofs.FormSame.{put_same, list_same}
-use Rattle.cil_specs.proofs.FormLemmas.{OperandsFit}
-use Rattle.cil_text.specs.Form.{behind, AreClassAndPermissions}
-use Rattle.cil_text.specs.Split.{AreWordAndList}
-use Rattle.cil_text.specs.declared.word.Word.{Word}
+use Rattle.cil_text.proofs.Common.{Trees, none, are_lists, IsListThen, RuleKind, Target, itself, the_named, rule, put_word, IsTargetThen, IsClassAndPermissions, put_same, list_same, OperandsFit, behind, AreClassAndPermissions, AreWordAndList, Word}
 
 -- the trees behind a word
 pub scope_operands : (operands inner : Trees) (id : spec.Word) → operands ≡ put_word id inner → IsTrue (are_lists inner) → (operands ≡ put_word id (behind operands)) × IsTrue (are_lists (behind operands))

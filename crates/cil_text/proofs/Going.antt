@@ -1,26 +1,10 @@
 -- One step of the reader for each part.
 use Rattle.std.proofs.Common.{suc, ◌≡◌, ◌≢◌, ℕ, ◌+◌, ◌-◌, ◌<◌, ◌&&◌, Bool, true, false, not, cond, List, [], ◌∷◌, ◌++◌, length, take, drop, get_or, map, reverse, refl, ap, sym, ◌∙◌, subst, append_assoc, append-nil, true≢false, length-append, length-drop, get_or-drop, IsTrue, inr, arith}
-use Rattle.std.specs.List.{list_all, prefix_len}
-use Rattle.std.proofs.lemmas.Bool.{eqb-true}
-use Rattle.std.proofs.lemmas.List.{length-take-le, length-map, length-reverse, length-set, drop-drop, take-append-drop}
+use Rattle.cil_text.proofs.Common.{list_all, prefix_len, eqb-true, length-take-le, length-map, length-reverse, length-set, drop-drop, take-append-drop, prefix_len-le-length, drop-cons, take-append_seam, is_word_byte, is_string_byte, is_comment_byte, Part, comment, word, string, opening, closing, Mark, word_at, string_at, opening_at, closing_before, place_at, Stops, bare_word, StopsBefore, same_run, both_true, second_true, run-passes, run-stops, ends-word, ends-comment, ends-string, ends-opening, ends-closing, place_of, IsPlaced, GoesOver, HaveMarks, IsRead, open_lists, Open, Reader, Node}
 use Rattle.std.proofs.lemmas.List.Folds.{list_all-append}
-use Rattle.std.proofs.lemmas.List.Sums.{prefix_len-le-length}
 use Rattle.std.proofs.Math.Dec.{eqb}
 use Rattle.std.proofs.Math.ListN.{set}
-use Rattle.std.proofs.Math.Seq.{drop-cons, take-append_seam}
-use Rattle.cil_specs.specs.Bytes.{is_word_byte, is_string_byte, is_comment_byte}
-use Rattle.cil_specs.specs.Parts.{Part, comment, word, string, opening, closing}
-use Rattle.cil_specs.specs.Trees.{Mark, word_at, string_at, opening_at, closing_before}
-use Rattle.cil_specs.specs.Place.{place_at}
-use Rattle.cil_specs.specs.Reading.{Stops}
-use Rattle.cil_specs.specs.TextFault.{bare_word}
 use Rattle.cil_specs.proofs.PlaceLemmas.{to_right}
-use Rattle.cil_specs.proofs.Runs.{StopsBefore, same_run, both_true, second_true, run-passes, run-stops, ends-word, ends-comment, ends-string, ends-opening, ends-closing}
-use Rattle.cil_text.specs.Image.{place_of}
-use Rattle.cil_text.specs.Reader.{IsPlaced, GoesOver, HaveMarks, IsRead, open_lists}
-use Rattle.cil_text.specs.declared.reader.Open.{Open}
-use Rattle.cil_text.specs.declared.reader.Reader.{Reader}
-use Rattle.cil_text.specs.declared.node.Node.{Node}
 use Rattle.cil_text.specs.declared.node.Node.TheVariants.{Word, String, List as Listed}
 use Rattle.cil_text.proofs.Marks.{whole_word, whole_string, more_marks, open_marks, close_marks, open_lists-push, reverse-push}
 use Rattle.cil_text.proofs.Reading.{front-rest, byte-rest, byte-run, goes-right}

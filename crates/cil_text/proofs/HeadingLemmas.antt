@@ -1,18 +1,10 @@
 -- The first of the faults of a list, but for those of its inner statements.
 use Rattle.std.proofs.Common.{◌≡◌, ◌≢◌, ℕ, ◌+◌, ◌≤◌, ◌⊎◌, inl, inr, Bool, true, false, not, ◌&&◌, ◌||◌, [], ◌∷◌, refl, sym, ap, ◌∙◌, subst, IsTrue, Contains, arith}
-use Rattle.std.proofs.lemmas.Bool.{true≢false, and_parts, not-false}
+use Rattle.cil_text.proofs.Common.{true≢false, and_parts, not-false, TextFaultKind, unsupported, misshapen, not_in_optional, code_of, TextFault, IsNoLater, Trees, none, a_word, a_string, a_list, in_order, Form, words_of, is_optional, put_word, Fits, keywords, outside_optionals, is_among, IsAllowed, IsAtWord, IsWordFault, no_keyword, no_fit, in_optional, no_name, IsInnerFault, fits_same, fits_keyword, outside_keyword, inner_of_list, at_bracket, at-offset, word_within, fits_rise, fault_within, no_later-here, front_first, IsFirstBad, IsFaultOf, IsFirstOf, IsHeadingFault, word_of, FaultIs}
 use Rattle.cil_specs.specs.Place.{Place}
-use Rattle.cil_specs.specs.TextFault.{TextFaultKind, unsupported, misshapen, not_in_optional, code_of, TextFault, IsNoLater}
 use Rattle.cil_specs.specs.Names.{Word}
-use Rattle.cil_specs.specs.Trees.{Trees, none, a_word, a_string, a_list, in_order}
-use Rattle.cil_specs.specs.Statements.{Form, words_of, is_optional}
-use Rattle.cil_specs.specs.Shape.{put_word, Fits, keywords, outside_optionals, is_among, IsAllowed, IsAtWord, IsWordFault, no_keyword, no_fit, in_optional, no_name, IsInnerFault}
-use Rattle.cil_specs.proofs.FormSame.{fits_same}
-use Rattle.cil_specs.proofs.ShapeLemmas.{fits_keyword, outside_keyword, inner_of_list}
-use Rattle.cil_specs.proofs.FaultOrder.{at_bracket, word_at, at-offset, word_within, fits_rise, fault_within, no_later-here, front_first}
+use Rattle.cil_specs.proofs.FaultOrder.{word_at}
 use Rattle.cil_text.specs.Keyword.{spelling}
-use Rattle.cil_text.specs.Walk.{IsFirstBad, IsFaultOf, IsFirstOf, IsHeadingFault}
-use Rattle.cil_text.specs.Image.{word_of, FaultIs}
 use Rattle.cil_text.specs.declared.word.Word as code
 use Rattle.cil_text.specs.declared.fault.TextFault as fault_type
 use Rattle.cil_text.specs.declared.statement.RuleKind.TheVariants.{Allow, AuditAllow, DontAudit, NeverAllow}

@@ -1,3 +1,4 @@
+pub mod Common
 pub mod Nodes
 pub mod Marks
 pub mod ByteClasses

@@ -1,15 +1,8 @@
 -- The marks of nodes, where some lists among them are open.
-use Rattle.std.proofs.Common.{◌≡◌, ℕ, ◌+◌, ◌-◌, ◌≤◌, List, [], ◌∷◌, ◌++◌, length, map, reverse, refl, ap, sym, ◌∙◌, subst, append_assoc, append-nil, length-append, arith}
-use Rattle.std.proofs.lemmas.List.{map-append, reverse-append}
+use Rattle.std.proofs.Common.{◌≡◌, ℕ, ◌+◌, ◌-◌, List, [], ◌∷◌, ◌++◌, length, map, reverse, refl, ap, sym, ◌∙◌, subst, append_assoc, append-nil, length-append, arith}
+use Rattle.cil_text.proofs.Common.{map-append, reverse-append, take-append_seam, drop-append_seam, set-append_seam, Mark, opening_at, closing_before, marks, place_of, trees_in, AreWhole, HaveMarks, Place, Node, Open}
 use Rattle.std.proofs.Math.ListN.{set}
-use Rattle.std.proofs.Math.Seq.{take-append_seam, drop-append_seam, set-append_seam}
-use Rattle.cil_specs.specs.Trees.{Mark, opening_at, closing_before, marks}
-use Rattle.cil_text.specs.Image.{place_of, trees_in}
-use Rattle.cil_text.specs.Reader.{AreWhole, HaveMarks}
-use Rattle.cil_text.specs.declared.place.Place.{Place}
-use Rattle.cil_text.specs.declared.node.Node.{Node}
 use Rattle.cil_text.specs.declared.node.Node.TheVariants.{Word, String, List as Listed}
-use Rattle.cil_text.specs.declared.reader.Open.{Open}
 use Rattle.cil_text.proofs.Nodes.{list_in}
 
 -- the marks of the trees that nodes stand for
@@ -65,12 +58,6 @@ more_marks text (o ∷ around) nodes more seen had whole =
 pub open_marks : (text : List ℕ) (opened : List Open) (nodes : List Node) (seen : List Mark) (o : Open) (list : Node) → HaveMarks text opened nodes seen → o.node ≡ length nodes
     → HaveMarks text (o ∷ opened) (nodes ++ list ∷ []) (seen ++ opening_at (place_of o.at) ∷ [])
 open_marks text opened nodes seen o list had at = (nodes, [], list, seen, refl, at, (λ behind. refl), had, refl)
-
--- the innermost open list is a node
-pub open_within : (text : List ℕ) (around : List Open) (nodes : List Node) (seen : List Mark) (o : Open) → HaveMarks text (o ∷ around) nodes seen → o.node + 1 ≤ length nodes
-open_within text around nodes seen o had =
-    let all : length nodes ≡ length (had.0 ++ had.2 ∷ had.1) = ap length had.4 in
-    omega (arith, all, had.5, length-append had.0 (had.2 ∷ had.1))
 
 -- the innermost open list, closed
 pub close_marks : (text : List ℕ) (around : List Open) (nodes : List Node) (seen : List Mark) (o : Open) (end inner : ℕ) → HaveMarks text (o ∷ around) nodes seen → inner ≡ length nodes - o.node - 1

@@ -1,12 +1,7 @@
 -- The parts of a reference.
-use Rattle.std.proofs.Common.{◌≡◌, ℕ, Bool, not, ◌&&◌, ◌||◌, ◌==◌, true, false, cond, nat_le, List, [], ◌∷◌, length, Option, Some, None, if◌then◌else◌, refl, sym, ap, ◌∙◌, true≢false}
-use Rattle.std.specs.List.{list_all, list_any, slice_split, onto_first}
-use Rattle.std.proofs.lemmas.Bool.{eqb-true}
+use Rattle.std.proofs.Common.{◌≡◌, ℕ, Bool, not, ◌&&◌, ◌||◌, ◌==◌, true, false, cond, nat_le, List, [], ◌∷◌, length, Some, None, if◌then◌else◌, refl, sym, ap, ◌∙◌, true≢false}
+use Rattle.cil_text.proofs.Common.{list_all, list_any, slice_split, onto_first, eqb-true, bad_name, reserved, Role, declared, referred, begins_name, is_name_byte, is_name, is_reserved, components, is_spelt, name_fault, first_true, second_true, without_dot}
 use Rattle.std.proofs.lemmas.List.Splits.{slice_split-cons_no}
-use Rattle.cil_specs.specs.TextFault.{bad_name, reserved}
-use Rattle.cil_specs.specs.Names.{Role, declared, referred, begins_name, is_name_byte, is_name, is_reserved, components, is_spelt, name_fault}
-use Rattle.cil_specs.proofs.Runs.{first_true, second_true}
-use Rattle.cil_text.specs.Name.{without_dot}
 
 -- they are what the text behind a leading dot is split into
 pub components_split : (text : List ℕ) → slice_split (λ c. c == 46) (without_dot text) ≡ components text

@@ -1,14 +1,7 @@
 -- The trees that nodes stand for.
 use Rattle.std.proofs.Common.{◌≡◌, ℕ, ◌+◌, ◌-◌, ◌≤◌, zero, suc, List, [], ◌∷◌, length, take, drop, get_or, refl, ap, sym, ◌∙◌, length-drop, arith}
-use Rattle.std.proofs.lemmas.List.{length-take, take_rest}
-use Rattle.std.proofs.Math.Seq.{drop-cons}
-use Rattle.cil_specs.specs.Trees.{Trees, none, a_word, a_string, a_list}
-use Rattle.cil_text.specs.Image.{place_of, trees_upto, trees_in, trees_of, tree_then}
-use Rattle.cil_text.specs.Tree.{tree_count}
-use Rattle.cil_text.specs.declared.place.Place.{Place}
-use Rattle.cil_text.specs.declared.tree.Tree.{Tree}
+use Rattle.cil_text.proofs.Common.{length-take, take_rest, drop-cons, Trees, none, a_word, a_string, a_list, place_of, trees_upto, trees_in, trees_of, tree_then, tree_count, Place, Tree, Node}
 use Rattle.cil_text.specs.declared.tree.Tree.TheVariants as trees
-use Rattle.cil_text.specs.declared.node.Node.{Node}
 use Rattle.cil_text.specs.declared.node.Node.TheVariants.{Word, String, List as Listed}
 
 -- as many as there are is enough

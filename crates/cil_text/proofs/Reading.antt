@@ -1,24 +1,7 @@
 -- Steps of the reader.
 use Rattle.std.proofs.Common.{suc, ◌≡◌, ℕ, ◌+◌, ◌<◌, ◌≤◌, Bool, true, false, not, List, [], ◌∷◌, ◌++◌, length, take, drop, get_or, refl, ap, sym, ◌∙◌, subst, true≢false, length-append, length-drop, get_or-drop, arith}
-use Rattle.std.specs.List.{list_all, prefix_len}
-use Rattle.std.proofs.Math.Seq.{drop-cons}
-use Rattle.std.proofs.lemmas.List.{get_or_append_left, take-append-drop, drop-drop, length-take-le}
-use Rattle.std.proofs.lemmas.List.Sums.{prefix_len-le-length}
-use Rattle.cil_specs.specs.Bytes.{is_comment_byte}
-use Rattle.cil_specs.specs.Place.{is_line_feed, place_at}
-use Rattle.cil_specs.specs.Parts.{Part, spelling, IsPart, EndsBefore, Moves}
-use Rattle.cil_specs.specs.Trees.{Mark, told}
+use Rattle.cil_text.proofs.Common.{list_all, prefix_len, drop-cons, get_or_append_left, take-append-drop, drop-drop, length-take-le, prefix_len-le-length, is_comment_byte, is_line_feed, place_at, Part, spelling, IsPart, EndsBefore, Moves, Mark, told, all-at, place_of, IsPlaced, GoesOver, IsRead, open_lists, Reader}
 use Rattle.cil_specs.proofs.PlaceLemmas.{to_right, place_at-run, place_at-small}
-use Rattle.cil_specs.proofs.Runs.{all-at}
-use Rattle.cil_text.specs.Image.{place_of}
-use Rattle.cil_text.specs.Reader.{IsPlaced, GoesOver, IsRead, open_lists}
-use Rattle.cil_text.specs.declared.reader.Reader.{Reader}
-
--- lines and columns are no greater than the offset and one
-pub placed-line : {A : Type 0} (r : Reader A) → IsPlaced r → r.at.line ≤ r.at.offset + 1
-placed-line r placed =
-    let line : r.at.line ≡ (place_at r.text.now r.at.offset).line = ap (λ p. p.line) placed.place in
-    omega (arith, line, (place_at-small r.text.now r.at.offset placed.within).0)
 
 pub placed-column : {A : Type 0} (r : Reader A) → IsPlaced r → r.at.column ≤ r.at.offset + 1
 placed-column r placed =

@@ -1,15 +1,8 @@
 -- The lists in expressions and statements.
 use Rattle.std.proofs.Common.{◌≡◌, Vec, refl, ap, ◌∙◌}
-use Rattle.cil_specs.specs.Expr.{elements}
-use Rattle.cil_specs.specs.Statements.{block, optional, Statements, statement}
-use Rattle.cil_text.specs.Image.{place_of, expr_of, row_expr, word_of, statement_then, row_statements, statements_of}
-use Rattle.cil_text.specs.Expr.{exprs_of}
-use Rattle.cil_text.specs.declared.place.Place.{Place}
-use Rattle.cil_text.specs.declared.word.Word.{Word}
-use Rattle.cil_text.specs.declared.statement.Expr.{Expr, Row_of-Expr, end_of-Expr, more_of-Expr}
+use Rattle.cil_text.proofs.Common.{elements, block, optional, Statements, statement, place_of, expr_of, row_expr, word_of, statement_then, row_statements, statements_of, exprs_of, Place, Word, Expr, Row_of-Expr, end_of-Expr, more_of-Expr, Statement, Row_of-Statement, end_of-Statement, more_of-Statement}
 use Rattle.cil_text.specs.declared.statement.Expr.TheVariants.{Union}
 use Rattle.cil_text.specs.declared.statement.Expr.TheBlock.{items-the_row-Expr, hidden-the_row-Expr-0, items_hidden-the_row-Expr-0}
-use Rattle.cil_text.specs.declared.statement.Statement.{Statement, Row_of-Statement, end_of-Statement, more_of-Statement}
 use Rattle.cil_text.specs.declared.statement.Statement.TheVariants.{Block, Optional}
 use Rattle.cil_text.specs.declared.statement.Statement.TheBlock.{items-the_row-Statement, hidden-the_row-Statement-0, items_hidden-the_row-Statement-0}
 

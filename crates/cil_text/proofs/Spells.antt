@@ -1,20 +1,13 @@
 -- What the front of trees spells, as the code finds it.
 use Rattle.std.proofs.Common.{◌≡◌, ◌≢◌, ℕ, Bool, true, Option, refl, sym, ◌∙◌, ap, subst, bytes_eq}
-use Rattle.std.specs.List.{list_any}
+use Rattle.cil_text.proofs.Common.{list_any, Trees, none, a_word, a_string, a_list, put_word, every, operators, Expresses, HasNoOperator, operator_of, AreOperands, operation_spelt, operation_is, no_all, is_nothing, operator_word, SpellsOperation, Expr}
 use Rattle.cil_specs.specs.Place.{Place}
-use Rattle.cil_specs.specs.Trees.{Trees, none, a_word, a_string, a_list}
 use Rattle.cil_specs.specs.Names.{Word}
-use Rattle.cil_specs.specs.Shape.{put_word}
 use Rattle.cil_specs.specs.Expr as spec
-use Rattle.cil_specs.specs.Expr.{every, operators, Expresses, Lists, HasNoOperator}
-use Rattle.cil_specs.proofs.ExprLemmas.{operator_of, AreOperands, operation_spelt, operation_is, no_all}
-use Rattle.cil_text.specs.Tree.{is_nothing}
-use Rattle.cil_text.specs.Expr.{operator_word, SpellsOperation}
 use Rattle.cil_text.specs.declared.expr.Operator.{Operator}
 use Rattle.cil_text.specs.declared.expr.Operator.TheVariants.{And, Or, Xor, Not, All}
 use Rattle.cil_text.specs.declared.statement.Expr.TheVariants as exprs
 use Rattle.std.specs.Bool.{then_some}
-use Rattle.cil_text.specs.declared.statement.Expr.{Expr}
 
 -- where no word stands first, no operator does
 pub no_word_first : (trees : Trees) → ((word : Word) (rest : Trees) → trees ≢ put_word word rest) → HasNoOperator trees

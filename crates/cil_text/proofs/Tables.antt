@@ -1,9 +1,7 @@
 -- Looking a word up in a table.
-use Rattle.std.proofs.Common.{◌≡◌, ℕ, Bool, true, false, cond, ◌||◌, List, [], ◌∷◌, map, Bor, refl, sym, ap, subst, ◌∙◌, Option, Some, None, option_map, MatchOption, bytes_eq}
-use Rattle.std.specs.List.{find, list_all, list_any}
-use Rattle.std.proofs.lemmas.Bool.{and_parts}
+use Rattle.std.proofs.Common.{◌≡◌, ℕ, Bool, true, false, cond, ◌||◌, List, [], ◌∷◌, map, Bor, refl, ap, ◌∙◌, Option, Some, None, option_map, MatchOption, bytes_eq}
+use Rattle.cil_text.proofs.Common.{find, list_all, list_any, and_parts}
 use Rattle.std.proofs.lemmas.Slice.Eq.{bytes_eq-Decides}
-use Rattle.cil_text.specs.Words.{LooksUp}
 
 -- a word and what it stands for
 abbrev pub Row : Type 0 → Type 0
@@ -29,9 +27,3 @@ module _ {K : Type 0} (spelling : K → List ℕ) where
   finds text (row ∷ rows) spelt =
       let parts = and_parts (bytes_eq row.0.now (spelling row.1)) (are_spelt_so rows) spelt in
       finds-next text row rows (find (λ row. bytes_eq text row.0.now) rows) parts.0 (finds text rows parts.1) (bytes_eq text row.0.now) refl
-
-  -- what a table holds for a word is spelt so, and where it has nothing the word is none of its words
-  pub looked_up : {text : List ℕ} {rows : List (Row K)} {result : Option K} → LooksUp rows text result → are_spelt_so rows ≡ true
-      → MatchOption result (list_any (bytes_eq text) (map (λ row. row.0.now) rows) ≡ false) (λ k. text ≡ spelling k)
-  looked_up {text} {rows} looks spelt =
-      subst (λ result. MatchOption result (list_any (bytes_eq text) (map (λ row. row.0.now) rows) ≡ false) (λ k. text ≡ spelling k)) (sym looks.first) (finds text rows spelt)

@@ -1,24 +1,11 @@
 -- Statements one after the other, and the first fault among them.
 use Rattle.std.proofs.Common.{◌≡◌, ℕ, ◌+◌, ◌-◌, ◌≤◌, inl, inr, Bool, ◌||◌, List, [], ◌∷◌, ◌++◌, refl, sym, ◌∙◌, ap, subst, IsTrue, arith}
-use Rattle.std.proofs.lemmas.Bool.{true≢false}
+use Rattle.cil_text.proofs.Common.{true≢false, TextFault, IsNoLater, Trees, none, a_list, are_lists, in_order, Form, is_optional, Statements, no_more, Fits, Shapes, IsShapeFault, IsInnerFault, first_word, OperandsFit, fits_begin, order_list, inner_fault_is, list_no_fault, inner_of_list, shapes_no_fault, fits_rise, fault_within, list_within, tree_then, statement_then, statements_of, form_of, body_of, HasBody, IsHeading, IsStatement, IsFaultOf, IsFirstOf, IsFirstAmong, Tree, Statement}
 use Rattle.cil_specs.specs.Place.{Place}
-use Rattle.cil_specs.specs.TextFault.{TextFault, IsNoLater}
-use Rattle.cil_specs.specs.Trees.{Trees, none, a_list, are_lists, in_order}
 use Rattle.cil_specs.specs.Statements as spec
-use Rattle.cil_specs.specs.Statements.{Form, words_of, is_optional, Statements, no_more}
-use Rattle.cil_specs.specs.Shape.{Fits, Shapes, IsShapeFault, IsInnerFault}
-use Rattle.cil_specs.proofs.FormLemmas.{first_word, OperandsFit, fits_begin}
-use Rattle.cil_specs.proofs.OrderLemmas.{order_list}
-use Rattle.cil_specs.proofs.ShapeLemmas.{inner_fault_is, list_no_fault, inner_of_list, shapes_no_fault}
-use Rattle.cil_specs.proofs.FaultOrder.{fits_rise, fault_within, list_within}
-use Rattle.cil_text.specs.Image.{tree_then, statement_then, statements_of}
-use Rattle.cil_text.specs.Form.{form_of, body_of, HasBody}
-use Rattle.cil_text.specs.Walk.{IsHeading, IsStatement, IsFaultOf, IsFirstOf, IsFirstAmong}
 use Rattle.cil_text.specs.declared.place.Place as code_place
-use Rattle.cil_text.specs.declared.tree.Tree.{Tree}
 use Rattle.cil_text.specs.declared.tree.Tree.TheVariants.{Word, String, List as Listed}
 use Rattle.cil_text.specs.declared.tree.TreeSlice.{TreeSlice}
-use Rattle.cil_text.specs.declared.statement.Statement.{Statement}
 use Rattle.cil_text.proofs.Nodes.{tree_size}
 
 -- only blocks and optionals have inner statements

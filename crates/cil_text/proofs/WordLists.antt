@@ -1,12 +1,7 @@
 -- Words one after the other.
 use Rattle.std.proofs.Common.{◌≡◌, ◌≢◌, List, [], ◌∷◌, ◌++◌, map, refl, sym, ◌∙◌, ap}
-use Rattle.std.proofs.lemmas.List.{map-append}
+use Rattle.cil_text.proofs.Common.{map-append, Trees, none, put_word, all_words, word_of, tree_then, Word, Tree}
 use Rattle.cil_specs.specs.Names as spec
-use Rattle.cil_specs.specs.Trees.{Trees, none}
-use Rattle.cil_specs.specs.Shape.{put_word, all_words}
-use Rattle.cil_text.specs.Image.{word_of, tree_then}
-use Rattle.cil_text.specs.declared.word.Word.{Word}
-use Rattle.cil_text.specs.declared.tree.Tree.{Tree}
 use Rattle.cil_text.specs.declared.tree.Tree.TheVariants as trees
 
 -- the words, and then the rest

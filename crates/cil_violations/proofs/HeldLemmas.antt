@@ -1,20 +1,13 @@
 -- What elements hold, by the numbers of names and by full names.
 use Rattle.std.proofs.Common.{◌≡◌, ◌∙◌, ℕ, ◌<◌, true, List, [], bytes_eq, length, slice_get, slice_index, Some, sym, ap, arith}
-use Rattle.std.proofs.lemmas.Option.{get_or_from_slice_get, slice_get_within}
+use Rattle.cil_violations.proofs.Common.{get_or_from_slice_get, slice_get_within, holds, is_element_below, element_of, meaning_in, name_in, Resolved, is_held_in, symbols_in, AreShort}
 use Rattle.cil_bind.proofs.NamespaceLemmas.{distinct-place}
-use Rattle.cil_specs.specs.Meaning.{holds}
 use Rattle.cil_expression.specs.declared.expression.Element.{Element}
 use Rattle.cil_expression.specs.declared.expression.Element.TheVariants.{«Type»}
 use Rattle.cil_member_rows.specs.Rows.{count_now}
-use Rattle.cil_resolve.specs.Below.{is_element_below}
 use Rattle.cil_resolve.specs.Consistent.{is_element_of}
-use Rattle.cil_resolve.specs.Numbers.{element_of}
-use Rattle.cil_resolve.specs.Resolved.{meaning_in}
-use Rattle.cil_resolve.specs.Sets.{name_in}
-use Rattle.cil_resolve.specs.declared.resolved.Resolved.{Resolved}
 use Rattle.cil_rule_reach.specs.Named.{AreMembersBy}
 use Rattle.cil_rule_reach.proofs.NamedLemmas.{as-many, element-kept, has-named, has-none, same-symbol, symbol-name, symbol-within}
-use Rattle.cil_violations.specs.Held.{is_held_in, symbols_in, AreShort}
 use Rattle.cil_violations.specs.declared.members.Members.{Members}
 
 module _ {A : Type 0} (r : Resolved A) (members : Members A)

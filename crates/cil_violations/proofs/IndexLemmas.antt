@@ -1,23 +1,12 @@
 -- The allow rules of each class, found one after the other.
 use Rattle.std.proofs.Common.{◌≡◌, ◌∙◌, inl, inr, ℕ, zero, suc, ◌+◌, ◌-◌, ◌<◌, ◌≤◌, ◌==◌, ◌&&◌, Bool, true, false, List, [], length, get_or, set, replicate, Option, Some, None, slice_get, refl, sym, ap, subst, arith, true≢false}
-use Rattle.std.specs.Prelude.{nat_lt}
-use Rattle.std.specs.List.{list_all}
-use Rattle.std.proofs.lemmas.Bool.{ltb-true, and_parts, and_from, cases_eq, eqb-true, eq-eqb, ne_eqb}
-use Rattle.std.proofs.lemmas.List.{length-replicate, get_or_default, get_or-replicate, get_or-set_same, get_or-set_other}
-use Rattle.std.proofs.lemmas.Option.{none-some, same_Some, slice_get_cases, slice_get_within}
+use Rattle.cil_violations.proofs.Common.{nat_lt, list_all, ltb-true, and_parts, and_from, cases_eq, eqb-true, eq-eqb, ne_eqb, length-replicate, get_or_default, get_or-replicate, get_or-set_same, get_or-set_other, none-some, same_Some, slice_get_cases, slice_get_within, is_element_below, is_target_below, is_rule_below, NumberedRule, NoneFrom, if_there, is_kind, is_allow_of, is_met, IsNext, IsIndexFrom, hits, rules_in, permissions_at, tests_of, IsSearch, share, Search}
 use Rattle.cil_specs.specs.Rule.{kind_index}
 use Rattle.cil_text.specs.Image.{rule_kind_of}
 use Rattle.cil_text.specs.contracts.statement.RuleKindPartialEq.TheImpl as kind_eq
 use Rattle.cil_text.specs.declared.statement.RuleKind.{RuleKind}
 use Rattle.cil_text.specs.declared.statement.RuleKind.TheVariants.{Allow, AuditAllow, DontAudit, NeverAllow}
-use Rattle.cil_resolve.specs.Below.{is_element_below, is_target_below, is_rule_below}
-use Rattle.cil_resolve.specs.declared.numbered.NumberedRule.{NumberedRule}
-use Rattle.cil_violations.specs.Search.{NoneFrom}
-use Rattle.cil_violations.specs.Index.{if_there, is_kind, is_allow_of, is_met, IsNext, IsIndexFrom}
-use Rattle.cil_violations.specs.Rows.{hits, rules_in, permissions_at, tests_of, IsSearch}
-use Rattle.cil_violations.specs.Permissions.{share}
 use Rattle.cil_violations.specs.declared.index.ClassIndex.{ClassIndex}
-use Rattle.cil_violations.specs.declared.search.Search.{Search}
 use Rattle.cil_violations.proofs.HitLemmas.{hits-none, hits-past}
 use Rattle.cil_violations.proofs.TestLemmas.{all-at, is-there, if-at}
 

@@ -1,3 +1,4 @@
+pub mod Common
 pub mod HeldLemmas
 pub mod PermissionLemmas
 pub mod ShareLemmas

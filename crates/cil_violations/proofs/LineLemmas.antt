@@ -1,17 +1,7 @@
 -- The text of a line, written in parts.
 use Rattle.std.proofs.Common.{◌≡◌, ◌∙◌, ℕ, Bool, true, false, cond, List, [], ◌∷◌, ◌++◌, map, codes, decimal, flat_map, Option, refl, sym, ap, subst, append_assoc}
-use Rattle.std.specs.List.{filter}
-use Rattle.std.specs.Prelude.{slice_index_or}
+use Rattle.cil_violations.proofs.Common.{filter, slice_index_or, Gains, GainsFront, gains-both, gains-then_front, front-longer, RuleHead, rule_head, name_in, Resolved, Violation, rule_place, violation_line, is_among, shared, rule_in, violation_by, head_text, name_text, shared_text, RowNumbers}
 use Rattle.std.proofs.lemmas.List.Folds.{flat_map-map}
-use Rattle.cil_stream.specs.Device.{Gains, GainsFront}
-use Rattle.cil_stream.proofs.Gaining.{gains-both, gains-then_front, front-longer}
-use Rattle.cil_resolve.specs.Views.{RuleHead, rule_head}
-use Rattle.cil_resolve.specs.Sets.{name_in}
-use Rattle.cil_resolve.specs.declared.resolved.Resolved.{Resolved}
-use Rattle.cil_specs.specs.Violations.{Violation, rule_place, violation_line}
-use Rattle.cil_violations.specs.Permissions.{is_among, shared}
-use Rattle.cil_violations.specs.Lines.{rule_in, violation_by, head_text, name_text, shared_text}
-use Rattle.cil_violations.specs.declared.row.RowNumbers.{RowNumbers}
 
 -- three texts, one after the other
 module _ (old mid near new : Option (List ℕ)) (first second third whole : List ℕ) (is : first ++ (second ++ third) ≡ whole) where

@@ -1,15 +1,8 @@
 -- Lists of names whose symbols are in words.
-use Rattle.std.proofs.Common.{◌≡◌, ◌≢◌, ◌⊎◌, ◌↔◌, ◌∙◌, ℕ, ◌+◌, ◌*◌, ◌/◌, ◌%◌, ◌<◌, ◌==◌, Bool, true, List, [], length, slice_index, Contains, Some, slice_get, refl, sym, ap, inl, inr, arith, eqb-true, true≢false}
+use Rattle.std.proofs.Common.{◌≡◌, ◌≢◌, ◌⊎◌, ◌↔◌, ◌∙◌, ℕ, ◌+◌, ◌*◌, ◌/◌, ◌%◌, ◌<◌, ◌==◌, Bool, true, List, length, slice_index, Contains, Some, slice_get, refl, sym, ap, inl, inr, arith, eqb-true, true≢false}
 use Rattle.std.specs.Int.{bit_at}
-use Rattle.std.specs.Ordering.{nat_cmp}
-use Rattle.std.proofs.lemmas.Bool.{cases_lt}
-use Rattle.std.proofs.lemmas.Cmp.{nat_cmp_total}
-use Rattle.std.proofs.lemmas.Option.{get_or_from_slice_get, slice_get-get_or, slice_get_within}
-use Rattle.cil_specs.proofs.ReportLemmasMembers.{AnyByRecursion, contains_from, contains_to}
+use Rattle.cil_violations.proofs.Common.{nat_cmp, cases_lt, nat_cmp_total, get_or_from_slice_get, slice_get-get_or, slice_get_within, AnyByRecursion, contains_from, contains_to, IsOrdered, hits, NoneFromWord, IsFirstWordFrom, IsWordOf}
 use Rattle.cil_specs.proofs.ViolationLemmas.{one-sorted}
-use Rattle.cil_violations.specs.Permissions.{IsOrdered}
-use Rattle.cil_violations.specs.Rows.{hits}
-use Rattle.cil_violations.specs.Search.{NoneFromWord, IsFirstWordFrom, IsWordOf}
 use Rattle.cil_violations.specs.Shared.{HasBit}
 use Rattle.cil_violations.proofs.FoundLemmas.{hit-from, hit-to}
 use Rattle.cil_violations.proofs.OrderLemmas.{hits-ascend}
@@ -38,9 +31,6 @@ module _ (symbols : List ℕ) (test : ℕ → Bool) where
 
   abbrev pub AreFoundBefore : ℕ → List ℕ → Type 0
   AreFoundBefore from list = (n : ℕ) → Contains list n ↔ IsFoundBefore from n
-
-  pub found-none : AreFoundBefore 0 []
-  found-none n = (λ there. elim (contains_to [] n there) [ ], λ found. let low = found.1 in absurd (omega (arith, low)))
 
   module _ (from index word : ℕ) (first : IsFirstWordFrom test from index) (is : IsWordOf test index word) where
     found-here : (n : ℕ) → HasBit symbols index word 64 n → IsFoundBefore (index + 1) n

@@ -1,30 +1,15 @@
 -- What passes the tests by numbers violates by names, and the other way round.
 use Rattle.std.proofs.Common.{◌≡◌, ◌∙◌, ℕ, ◌==◌, ◌<◌, true, List, length, map, Some, slice_get, Contains, bytes_eq, sym, ap, subst, eqb-true, eq-eqb}
 use Rattle.std.specs.Bool.{IsTrue}
-use Rattle.std.specs.List.{list_all, list_any}
+use Rattle.cil_violations.proofs.Common.{list_all, list_any, nat_lt, ltb-true, and_parts, and_from, slice_get-map, holds, aims, covers, AnyByRecursion, any_from, any-map, any_from_map, any-filter, any_from_filter, any_from_test, test_from_any, contains_to, contains_from, any_weaker, is_element_below, is_target_below, is_rule_below, rule_of, element_of, resolved_target_of, meaning_in, name_in, NumberedRule, ResolvedTarget, Resolved, is_held_in, symbols_in, aim_of, is_among, share, shared}
 use Rattle.std.specs.Option.{option_map}
-use Rattle.std.specs.Prelude.{nat_lt}
-use Rattle.std.proofs.lemmas.Bool.{ltb-true, and_parts, and_from}
-use Rattle.std.proofs.lemmas.Option.{slice_get-map}
 use Rattle.std.proofs.lemmas.Slice.Eq.{bytes_eq-Decides}
-use Rattle.cil_specs.specs.Meaning.{holds, aims, covers}
-use Rattle.cil_specs.proofs.ReportLemmasMembers.{AnyByRecursion, any_from, any-map, any_from_map, any-filter, any_from_filter, any_from_test, test_from_any, contains_to, contains_from, any_weaker}
-use Rattle.cil_resolve.specs.Below.{is_element_below, is_target_below, is_rule_below}
 use Rattle.cil_resolve.specs.Consistent.{is_rule_of, is_element_of, is_aim_of}
-use Rattle.cil_resolve.specs.Numbers.{rule_of, element_of, resolved_target_of}
-use Rattle.cil_resolve.specs.Resolved.{meaning_in}
-use Rattle.cil_resolve.specs.Sets.{name_in}
-use Rattle.cil_resolve.specs.declared.numbered.NumberedRule.{NumberedRule}
-use Rattle.cil_resolve.specs.declared.numbered.ResolvedTarget.{ResolvedTarget}
 use Rattle.cil_resolve.specs.declared.numbered.ResolvedTarget.TheVariants as targets
-use Rattle.cil_resolve.specs.declared.resolved.Resolved.{Resolved}
 use Rattle.cil_rule_reach.specs.Named.{AreMembersBy}
 use Rattle.cil_member_rows.specs.Rows.{count_now}
-use Rattle.cil_violations.specs.Held.{is_held_in, symbols_in}
 use Rattle.cil_violations.specs.declared.members.Members.{Members}
 use Rattle.cil_violations.proofs.HeldLemmas.{held-named, same-held}
-use Rattle.cil_violations.specs.Aims.{aim_of}
-use Rattle.cil_violations.specs.Permissions.{is_among, share, shared}
 use Rattle.cil_violations.proofs.TestLemmas.{all-at}
 
 pub bytes-same : (xs ys : List ℕ) → bytes_eq xs ys ≡ true → xs ≡ ys

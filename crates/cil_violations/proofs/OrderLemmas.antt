@@ -1,18 +1,10 @@
 -- The order of violations by numbers.
 use Rattle.std.proofs.Common.{◌≡◌, ◌∙◌, ◌⊎◌, inl, inr, ℕ, zero, suc, ◌<◌, ◌≤◌, Bool, true, false, cond, List, [], ◌∷◌, ◌++◌, length, get_or, Ordering, Less, Equal, refl, sym, ap, arith}
-use Rattle.std.specs.Ordering.{nat_cmp, ordering_then, ordering_reverse, on, then_cmp}
-use Rattle.std.specs.declared.cmp.Ordering.TheVariants.{Greater}
-use Rattle.std.specs.List.{AllByRecursion, flat_map}
-use Rattle.std.specs.List.Sorted.{IsStrictlySortedBy}
+use Rattle.cil_violations.proofs.Common.{nat_cmp, ordering_then, ordering_reverse, on, then_cmp, Greater, AllByRecursion, flat_map, IsStrictlySortedBy, cases_order, tied_itself, all_weaker, hits, Tests, row_with, target_rows, source_rows, pair_rows, all_rows, RowNumbers}
 use Rattle.std.specs.Cmp.{IsTotalOrder}
-use Rattle.std.proofs.lemmas.Bool.{cases_order}
 use Rattle.std.proofs.lemmas.Bool.Decides.{nat_tests}
-use Rattle.std.proofs.lemmas.Cmp.{tied_itself}
 use Rattle.std.proofs.lemmas.Map.Keys.{Less-from_sorted}
-use Rattle.cil_specs.proofs.ReportLemmasMembers.{all_weaker}
 use Rattle.cil_specs.proofs.NamesLemmas.{all-append}
-use Rattle.cil_violations.specs.Rows.{hits, Tests, row_with, target_rows, source_rows, pair_rows, all_rows}
-use Rattle.cil_violations.specs.declared.row.RowNumbers.{RowNumbers}
 
 pub less : (i j : ℕ) → i < j → nat_cmp i j ≡ Less
 less i j h = grind (arith, nat_tests)

@@ -3,15 +3,8 @@ use Rattle.std.proofs.Common.{◌≡◌, ◌∙◌, ℕ, ◌+◌, ◌<◌, ◌&&
 use Rattle.std.specs.Option.{is_some}
 use Rattle.std.proofs.lemmas.Grind.{common_steps}
 use Rattle.cil_expression.specs.declared.expression.Element.{Element}
-use Rattle.cil_resolve.specs.Below.{is_target_below}
-use Rattle.cil_resolve.specs.declared.numbered.NumberedRule.{NumberedRule}
+use Rattle.cil_violations.proofs.Common.{is_target_below, NumberedRule, aim_of, are_both_held, both_hold, is_held_in, is_known, symbols_in, if_there, hits, names_in, row_with, rows_of, rules_in, source_rows, sources_of, target_rows, targets_of, tests_of, IsSearch, Tests, NoneFromWord, IsFirstWordFrom, Search}
 use Rattle.cil_resolve.specs.declared.numbered.ResolvedTarget.TheVariants as targets
-use Rattle.cil_violations.specs.Aims.{aim_of}
-use Rattle.cil_violations.specs.Held.{are_both_held, both_hold, is_held_in, is_known, symbols_in}
-use Rattle.cil_violations.specs.Index.{if_there}
-use Rattle.cil_violations.specs.Rows.{hits, names_in, row_with, rows_of, rules_in, source_rows, sources_of, target_rows, targets_of, tests_of, IsSearch, Tests}
-use Rattle.cil_violations.specs.Search.{NoneFromWord, IsFirstWordFrom}
-use Rattle.cil_violations.specs.declared.search.Search.{Search}
 use Rattle.cil_violations.proofs.HeldLemmas.{known, long}
 use Rattle.cil_violations.proofs.HitLemmas.{hits-none}
 use Rattle.cil_violations.proofs.MeaningLemmas.{rule-sound}

@@ -1,13 +1,7 @@
 -- Whether two lists in order share a permission, told from their fronts.
 use Rattle.std.proofs.Common.{◌≡◌, ◌∙◌, ℕ, zero, suc, ◌+◌, ◌<◌, ◌≤◌, ◌||◌, false, List, [], ◌∷◌, length, drop, get_or, refl, sym, ap, subst, arith, add-one, drop-cons}
-use Rattle.std.specs.List.{AllByRecursion}
-use Rattle.std.specs.List.Sorted.{IsStrictlySortedBy}
-use Rattle.std.specs.Ordering.{nat_cmp}
-use Rattle.std.specs.declared.cmp.Ordering.TheVariants.{Less}
-use Rattle.std.proofs.lemmas.Bool.{ne_eqb}
-use Rattle.std.proofs.lemmas.List.{drop_all}
+use Rattle.cil_violations.proofs.Common.{AllByRecursion, IsStrictlySortedBy, nat_cmp, Less, ne_eqb, drop_all, is_among, share}
 use Rattle.std.proofs.lemmas.Bool.Decides.{nat_tests}
-use Rattle.cil_violations.specs.Permissions.{is_among, share}
 
 is-less : (a b : ℕ) → nat_cmp a b ≡ Less → a < b
 is-less a b e = grind (arith, nat_tests, e)

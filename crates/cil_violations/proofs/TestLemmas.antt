@@ -1,13 +1,7 @@
 -- Rules at places, and what their tests tell.
 use Rattle.std.proofs.Common.{◌≡◌, ℕ, zero, suc, ◌<◌, Bool, true, List, [], ◌∷◌, Option, Some, None, slice_get, refl, sym, ap, subst, true≢false}
-use Rattle.std.specs.List.{list_all}
-use Rattle.std.proofs.lemmas.Bool.{and_parts, lt-ltb}
-use Rattle.std.proofs.lemmas.Option.{none-some, same_Some}
-use Rattle.cil_resolve.specs.Below.{is_element_below, is_target_below}
-use Rattle.cil_resolve.specs.declared.numbered.ResolvedTarget.{ResolvedTarget}
+use Rattle.cil_violations.proofs.Common.{list_all, and_parts, lt-ltb, none-some, same_Some, is_element_below, is_target_below, ResolvedTarget, aim_of, if_there}
 use Rattle.cil_resolve.specs.declared.numbered.ResolvedTarget.TheVariants as targets
-use Rattle.cil_violations.specs.Aims.{aim_of}
-use Rattle.cil_violations.specs.Index.{if_there}
 
 -- what holds of all holds of the one at a place
 pub all-at : {X : Type 0} (p : X → Bool) (xs : List X) (i : ℕ) (x : X) → list_all p xs ≡ true

@@ -1,42 +1,17 @@
 -- The rows that pass the tests are the violations of the policy, in order.
 use Rattle.std.proofs.Common.{◌≡◌, ◌≢◌, ◌∙◌, inl, inr, ℕ, ◌==◌, ◌&&◌, ◌<◌, Bool, true, List, [], ◌∷◌, length, map, Some, slice_get, Contains, bytes_eq, Ordering, Less, Equal, refl, sym, ap, subst, arith, eqb-true, eq-eqb}
 use Rattle.std.specs.Bool.{IsTrue}
-use Rattle.std.specs.Prelude.{nat_lt}
-use Rattle.std.specs.List.{AllByRecursion, list_all, list_any}
-use Rattle.std.specs.List.Sorted.{IsStrictlySortedBy}
-use Rattle.std.specs.Ordering.{nat_cmp, ordering_then}
-use Rattle.std.specs.declared.cmp.Ordering.TheVariants.{Greater}
-use Rattle.std.proofs.lemmas.Bool.{ltb-true, and_parts, and_from, cases_order}
-use Rattle.std.proofs.lemmas.Cmp.{tied_itself}
-use Rattle.std.proofs.lemmas.List.{get_or-map, length-map}
+use Rattle.cil_violations.proofs.Common.{nat_lt, AllByRecursion, list_all, list_any, IsStrictlySortedBy, nat_cmp, ordering_then, Greater, ltb-true, and_parts, and_from, cases_order, tied_itself, get_or-map, length-map, slice_get_within, slice_get_read, get_or_from_slice_get, keeps_type, holds, aims, covers, AnyByRecursion, any_from, any-map, any_from_map, any_from_filter, any_from_test, contains_to, contains_from, any_weaker, all_weaker, sorted_map, all_from_contains, is_name_below, rule_of, element_of, resolved_target_of, declared_of, meaning_in, name_in, NumberedRule, ResolvedTarget, is_held_in, Violation, IsViolation, AreViolations, rule_cmp, violation_cmp, aim_of, is_among, share, shared, if_there, is_kind, rules_in, permissions_at, takes_source, takes_target, tests_of, all_rows, IsSearch, rule_in, no_rule, violation_by, IsRow, AreRows, RowNumbers, Search}
 use Rattle.std.proofs.lemmas.List.Elements.{recursion_from_All, All-from_recursion}
 use Rattle.std.proofs.lemmas.List.Kept.{IsStrictlySortedBy-filter}
-use Rattle.std.proofs.lemmas.Option.{slice_get_within, slice_get_read, get_or_from_slice_get}
 use Rattle.cil_specs.specs.Statements.{allow, neverallow}
 use Rattle.cil_specs.specs.Rule as spec
 use Rattle.cil_specs.specs.Rule.{kind_index}
-use Rattle.cil_specs.specs.Meaning.{keeps_type, holds, aims, covers}
 use Rattle.cil_specs.specs.Report.{name_cmp}
 use Rattle.cil_specs.proofs.ReportLemmas.{name_total, same-kind, sorted_from_names_rise}
-use Rattle.cil_specs.proofs.ReportLemmasMembers.{AnyByRecursion, any_from, any-map, any_from_map, any_from_filter, any_from_test, contains_to, contains_from, any_weaker, all_weaker, sorted_map, all_from_contains}
 use Rattle.cil_text.specs.Image.{rule_kind_of}
-use Rattle.cil_resolve.specs.Below.{is_name_below}
-use Rattle.cil_resolve.specs.Numbers.{rule_of, element_of, resolved_target_of, declared_of}
-use Rattle.cil_resolve.specs.Resolved.{meaning_in}
-use Rattle.cil_resolve.specs.Sets.{name_in}
-use Rattle.cil_resolve.specs.declared.numbered.NumberedRule.{NumberedRule}
-use Rattle.cil_resolve.specs.declared.numbered.ResolvedTarget.{ResolvedTarget}
 use Rattle.cil_resolve.specs.declared.numbered.ResolvedTarget.TheVariants as targets
 use Rattle.cil_resolve.proofs.RisingNames.{same-number}
-use Rattle.cil_violations.specs.Held.{is_held_in}
-use Rattle.cil_specs.specs.Violations.{Violation, IsViolation, AreViolations, rule_cmp, violation_cmp}
-use Rattle.cil_violations.specs.Aims.{aim_of}
-use Rattle.cil_violations.specs.Permissions.{is_among, share, shared}
-use Rattle.cil_violations.specs.Index.{if_there, is_kind}
-use Rattle.cil_violations.specs.Rows.{rules_in, permissions_at, takes_source, takes_target, tests_of, all_rows, IsSearch}
-use Rattle.cil_violations.specs.Lines.{rule_in, no_rule, violation_by, IsRow, AreRows}
-use Rattle.cil_violations.specs.declared.row.RowNumbers.{RowNumbers}
-use Rattle.cil_violations.specs.declared.search.Search.{Search}
 use Rattle.cil_specs.proofs.ViolationLemmas.{one-sorted, rule_total}
 use Rattle.cil_violations.proofs.OrderLemmas.{ranked, row_cmp, rows-sorted, less, greater}
 use Rattle.cil_violations.proofs.TestLemmas.{is-there, if-at}

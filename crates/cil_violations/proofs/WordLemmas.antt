@@ -1,10 +1,9 @@
 -- Words of 64 bits that tell numbers.
 use Rattle.std.proofs.Common.{◌≡◌, ◌∙◌, ℕ, ◌+◌, ◌*◌, ◌/◌, ◌%◌, ◌^◌, ◌<◌, ◌≤◌, ◌==◌, ◌&&◌, Bool, false, IsTrue, min, zero, suc, bit_and, w64, refl, sym, ap, inl, inr, arith}
 use Rattle.std.specs.Int.{bit_at, trailing_zeros}
-use Rattle.std.proofs.lemmas.Bool.{cases_eq, eq-eqb, ne_eqb}
+use Rattle.cil_violations.proofs.Common.{cases_eq, eq-eqb, ne_eqb, IsFirstWordFrom, IsWordOf}
 use Rattle.std.proofs.lemmas.Nat.{one_shl}
 use Rattle.std.proofs.lemmas.Nat.Bits.{bit_at-lt, bit_at-pow_other, bit_at-pow_same, bit_at-trailing_zeros, bit_at-zero, bit_at_and}
-use Rattle.cil_violations.specs.Search.{IsFirstWordFrom, IsWordOf}
 
 -- the word of one number
 pub word-of-one : (n index : ℕ) → n / 64 ≡ index → IsWordOf (λ t. n == t) index (1 * 2 ^ (n % 64) % 2 ^ 64)

@@ -1,7 +1,6 @@
 use Rattle.std.proofs.Common.{◌≡◌, ◌-◌, ◌∙◌, IsPermutation, List, length, subst, sym}
-use Rattle.std.proofs.lemmas.List.{with_items_is}
+use Rattle.cil_accesses.proofs.Common.{with_items_is, Chunk}
 use Rattle.std.proofs.lemmas.List.Sorted.{IsPermutation-put_mid, length_permutation}
-use Rattle.cil_accesses.specs.declared.chunk.Chunk.{Chunk}
 use Rattle.cil_accesses.proofs.ordering.sort_from.Goals as goal
 
 -- the same list in another order

@@ -1,6 +1,5 @@
 use Rattle.std.proofs.Common.{◌≡◌, ◌<◌, ◌^◌, length, slice_get}
-use Rattle.std.specs.List.{All}
-use Rattle.cil_accesses.specs.View.{accesses_of}
+use Rattle.cil_accesses.proofs.Common.{All, accesses_of}
 use Rattle.cil_accesses.proofs.place.access_in.Given as goal
 
 abbrev pub invariant-loop-run : goal.invariant-loop-run

@@ -1,9 +1,5 @@
 use Rattle.std.proofs.Common.{◌≡◌, ◌∙◌, ◌<◌, ◌^◌, Bool, true, false, bit_or, get_or, if◌then◌else◌, refl, ap, arith}
-use Rattle.std.proofs.lemmas.List.{get_or_default}
-use Rattle.std.proofs.lemmas.List.Elements.{All-set}
-use Rattle.cil_accesses.specs.declared.chunk.Chunk.{Chunk}
-use Rattle.cil_accesses.specs.Chunks.{nowhere, with_bits}
-use Rattle.cil_accesses.specs.Merged.{of_one_key, taking_up}
+use Rattle.cil_accesses.proofs.Common.{get_or_default, All-set, Chunk, nowhere, with_bits, of_one_key, taking_up}
 use Rattle.cil_accesses.proofs.Renumbering.{taken-up}
 use Rattle.cil_accesses.proofs.renumber.add_to.Goals as goal
 

@@ -1,7 +1,5 @@
 use Rattle.std.proofs.Common.{◌+◌, ◌*◌, ◌∙◌, sym, ap, subst, arith, eqb-true}
-use Rattle.std.proofs.lemmas.Result.{on_ok_weaker}
-use Rattle.std.specs.Int.{bit_at}
-use Rattle.cil_accesses.specs.Renumbered.{renumbered}
+use Rattle.cil_accesses.proofs.Common.{on_ok_weaker, bit_at, renumbered}
 use Rattle.cil_accesses.proofs.Members.{access-of}
 use Rattle.cil_accesses.proofs.NextBits.{first-held, IsHeld, last-added, other-word, same-word}
 use Rattle.cil_accesses.proofs.Shifts.{target-within}

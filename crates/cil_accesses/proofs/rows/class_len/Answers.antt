@@ -1,7 +1,5 @@
 use Rattle.std.proofs.Common.{get_or, sym, arith}
-use Rattle.std.proofs.lemmas.List.Sums.{prefix_len_is}
-use Rattle.cil_accesses.specs.Chunks.{nowhere}
-use Rattle.cil_accesses.specs.Rows.{has_class}
+use Rattle.cil_accesses.proofs.Common.{prefix_len_is, nowhere, has_class}
 use Rattle.cil_accesses.proofs.RowPlaces.{other-class}
 use Rattle.cil_accesses.proofs.rows.class_len.Goals as goal
 

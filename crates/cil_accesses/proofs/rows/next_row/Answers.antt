@@ -1,6 +1,5 @@
 use Rattle.std.proofs.Common.{◌<◌, ◌^◌, subst}
-use Rattle.std.proofs.lemmas.List.Elements.{All-contains}
-use Rattle.cil_accesses.specs.Rows.{at_place, IsNextRow}
+use Rattle.cil_accesses.proofs.Common.{All-contains, at_place, IsNextRow}
 use Rattle.cil_accesses.proofs.Moves.{behind, behind-is, row-is}
 use Rattle.cil_accesses.proofs.RowPlaces.{first-of-run}
 use Rattle.cil_accesses.proofs.rows.next_row.Goals as goal

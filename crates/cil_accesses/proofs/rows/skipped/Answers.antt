@@ -1,7 +1,5 @@
 use Rattle.std.proofs.Common.{◌∙◌, not, sym, ap, arith}
-use Rattle.std.proofs.lemmas.List.Sums.{prefix_len_is}
-use Rattle.cil_accesses.specs.Chunks.{nowhere}
-use Rattle.cil_accesses.specs.View.{has_bit}
+use Rattle.cil_accesses.proofs.Common.{prefix_len_is, nowhere, has_bit}
 use Rattle.cil_accesses.proofs.rows.skipped.Goals as goal
 
 pub returns-else-not-has_bit-clause-all : goal.returns-else-not-has_bit-clause-all

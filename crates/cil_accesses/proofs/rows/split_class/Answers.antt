@@ -1,6 +1,5 @@
 use Rattle.std.proofs.Common.{◌≡◌, ◌∙◌, [], MatchOption, sym, subst}
-use Rattle.cil_accesses.specs.Rows.{IsNextClass}
-use Rattle.cil_accesses.specs.View.{at_bit}
+use Rattle.cil_accesses.proofs.Common.{IsNextClass, at_bit}
 use Rattle.cil_accesses.proofs.Moves.{next-class, no-class}
 use Rattle.cil_accesses.proofs.RowPlaces.{empty-first}
 use Rattle.cil_accesses.proofs.rows.split_class.Goals as goal

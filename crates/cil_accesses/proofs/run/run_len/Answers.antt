@@ -1,7 +1,5 @@
 use Rattle.std.proofs.Common.{◌∙◌, ◌≡◌, true, get_or, sym, below_more, arith}
-use Rattle.std.proofs.lemmas.List.Sums.{prefix_len_is}
-use Rattle.cil_accesses.specs.View.{in_run}
-use Rattle.cil_accesses.specs.Chunks.{nowhere}
+use Rattle.cil_accesses.proofs.Common.{prefix_len_is, in_run, nowhere}
 use Rattle.cil_accesses.proofs.Places.{holds_at}
 use Rattle.cil_accesses.proofs.run.run_len.Goals as goal
 

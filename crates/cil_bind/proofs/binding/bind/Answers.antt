@@ -1,10 +1,8 @@
 use Rattle.std.proofs.Common.{[], false, None, get_or, sym, ap, ◌∙◌, subst, arith}
-use Rattle.cil_bind.specs.declared.rows.Row.{Row}
+use Rattle.cil_bind.proofs.Common.{Row, none-some, AreBound}
 use Rattle.cil_bind.proofs.DeclareLemmas.{row-here, row-at}
 use Rattle.cil_bind.proofs.FromLemmas.{from-at}
 use Rattle.cil_bind.proofs.BindingLemmas.{next-bound, rows-all, kinds-next, kinds-all}
-use Rattle.std.proofs.lemmas.Option.{none-some}
-use Rattle.cil_bind.specs.Binding.{AreBound}
 use Rattle.cil_bind.proofs.binding.bind.Goals as goal
 
 -- what is read behind the end of the rows

@@ -1,10 +1,5 @@
 use Rattle.std.proofs.Common.{◌≡◌, ℕ, List, [], take}
-use Rattle.cil_specs.specs.Joined.{Placed}
-use Rattle.cil_bind.specs.Lookup.{Knows}
-use Rattle.cil_bind.specs.Rows.{AreRows}
-use Rattle.cil_bind.specs.Scope.{AreFrom}
-use Rattle.cil_bind.specs.Words.{AreWorded, RemembersOf}
-use Rattle.cil_bind.specs.Binding.{AreBound, kinds_of}
+use Rattle.cil_bind.proofs.Common.{Placed, Knows, AreRows, AreFrom, AreWorded, RemembersOf, AreBound, kinds_of}
 use Rattle.cil_bind.proofs.binding.bind.Given as goal
 
 -- so many rows are bound

@@ -1,9 +1,6 @@
 use Rattle.std.proofs.Common.{◌≤◌, ◌+◌, ◌++◌, ◌∷◌, [], take, length, rules, refl, sym, ap, ◌∙◌, subst}
-use Rattle.cil_specs.specs.Lookup.{references}
+use Rattle.cil_bind.proofs.Common.{references, texts_of, namespace_at, AreLeads, most_references}
 use Rattle.cil_parse.specs.Kinds.{table_of}
-use Rattle.cil_parse.specs.Parsed.{texts_of}
-use Rattle.cil_bind.specs.Lookup.{namespace_at}
-use Rattle.cil_bind.specs.Binding.{AreLeads, most_references}
 use Rattle.cil_bind.proofs.BindingLemmas.{leads-next, leads-stay, leads-all}
 use Rattle.cil_bind.proofs.ScopeLemmas.{read-within}
 use Rattle.cil_bind.proofs.binding.bind_statement.Goals as goal

@@ -1,13 +1,5 @@
 use Rattle.std.proofs.Common.{◌≡◌, ℕ, List, take}
-use Rattle.cil_specs.specs.Joined.{Placed}
-use Rattle.cil_specs.specs.Lookup.{references}
-use Rattle.cil_parse.specs.Flat.{FlatStatement}
-use Rattle.cil_parse.specs.Lexicon.{AreNumbersOf}
-use Rattle.cil_parse.specs.Parsed.{names_of, texts_of}
-use Rattle.cil_parse.specs.View.{IsShown}
-use Rattle.cil_bind.specs.Lookup.{namespace_at, Knows}
-use Rattle.cil_bind.specs.Words.{Remembers}
-use Rattle.cil_bind.specs.Binding.{AreLeads}
+use Rattle.cil_bind.proofs.Common.{Placed, references, FlatStatement, AreNumbersOf, names_of, texts_of, IsShown, namespace_at, Knows, Remembers, AreLeads}
 use Rattle.cil_bind.proofs.binding.bind_statement.Given as goal
 
 -- so many references are bound

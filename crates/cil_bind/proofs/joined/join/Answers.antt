@@ -1,10 +1,9 @@
 use Rattle.std.proofs.Common.{bytes_eq, rules, of_calls}
 use Rattle.std.specs.Ordering.{is_lt}
-use Rattle.std.proofs.lemmas.Cmp.{nat_list_cmp_total, nat_list_eq_equiv}
+use Rattle.cil_bind.proofs.Common.{nat_list_cmp_total, nat_list_eq_equiv, name_cmp}
 use Rattle.std.proofs.lemmas.Fn.{always_returns_same}
 use Rattle.std.proofs.lemmas.List.MinMax.{ranks_by}
 use Rattle.std.proofs.lemmas.Map.Keys.{IsDistinct-IsPermutation}
-use Rattle.cil_specs.specs.Report.{name_cmp}
 use Rattle.cil_names.proofs.TextLemmas.{names_rise-by}
 use Rattle.cil_bind.proofs.joined.join.Goals as goal
 

@@ -1,5 +1,4 @@
-use Rattle.cil_specs.specs.Kept.{is_within}
-use Rattle.cil_specs.proofs.OnceLemmas.{once-filtered}
+use Rattle.cil_bind.proofs.Common.{is_within, once-filtered}
 use Rattle.cil_bind.proofs.laws.kept_is_once.Goals as goal
 
 pub returns : goal.returns

@@ -1,8 +1,6 @@
 use Rattle.std.proofs.Common.{length, filter, not, ap, ◌∙◌, arith}
-use Rattle.std.proofs.lemmas.List.{take_all}
+use Rattle.cil_bind.proofs.Common.{take_all, is_within, kinds_of}
 use Rattle.cil_parse.specs.declared.row.StatementKind.TheVariants as kinds
-use Rattle.cil_specs.specs.Kept.{is_within}
-use Rattle.cil_bind.specs.Binding.{kinds_of}
 use Rattle.cil_bind.proofs.MoveLemmas.{places-long, kept-kind, dropped-kind}
 use Rattle.cil_bind.proofs.moving.kept_kinds.Goals as goal
 

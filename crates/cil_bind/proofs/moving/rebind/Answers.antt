@@ -1,11 +1,5 @@
 use Rattle.std.proofs.Common.{◌≡◌, [], ◌≤◌, ℕ, Option, false, None, Some, length, get_or, slice_get, filter, refl, sym, ap, ◌∙◌, subst, arith}
-use Rattle.cil_specs.specs.Lookup.{references}
-use Rattle.cil_specs.specs.Kept.{is_within, restricted}
-use Rattle.std.proofs.lemmas.Option.{none-some, same_Some}
-use Rattle.std.proofs.lemmas.List.{take_all}
-use Rattle.cil_bind.specs.Binding.{AreBound, AreLeads}
-use Rattle.cil_bind.specs.Scope.{IsFrom}
-use Rattle.cil_bind.specs.declared.rows.Row.{Row}
+use Rattle.cil_bind.proofs.Common.{references, is_within, restricted, none-some, same_Some, take_all, AreBound, AreLeads, IsFrom, Row}
 use Rattle.cil_bind.proofs.DeclareLemmas.{row-at, row-here}
 use Rattle.cil_bind.proofs.PlaceLemmas.{get-there}
 use Rattle.cil_bind.proofs.FromLemmas.{from-at}

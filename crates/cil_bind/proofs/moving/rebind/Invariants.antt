@@ -1,11 +1,5 @@
 use Rattle.std.proofs.Common.{◌≡◌, ℕ, List, [], filter, take}
-use Rattle.cil_specs.specs.Joined.{Placed}
-use Rattle.cil_specs.specs.Kept.{Optionals, AreApart, is_within, restricted}
-use Rattle.cil_bind.specs.Lookup.{Knows}
-use Rattle.cil_bind.specs.Rows.{AreRows}
-use Rattle.cil_bind.specs.Scope.{AreFrom}
-use Rattle.cil_bind.specs.Words.{AreWorded, RemembersOf}
-use Rattle.cil_bind.specs.Binding.{AreBound, places_from}
+use Rattle.cil_bind.proofs.Common.{Placed, Optionals, AreApart, is_within, restricted, Knows, AreRows, AreFrom, AreWorded, RemembersOf, AreBound, places_from}
 use Rattle.cil_bind.proofs.moving.rebind.Given as goal
 
 -- the kept ones of so many rows are bound

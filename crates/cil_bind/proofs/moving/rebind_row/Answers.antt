@@ -1,6 +1,5 @@
 use Rattle.std.proofs.Common.{map, sym, ◌∙◌}
-use Rattle.cil_specs.specs.Lookup.{references}
-use Rattle.cil_bind.specs.Binding.{moved_to}
+use Rattle.cil_bind.proofs.Common.{references, moved_to}
 use Rattle.cil_bind.proofs.MoveLemmas.{leads-moved}
 use Rattle.cil_bind.proofs.moving.rebind_row.Goals as goal
 

@@ -1,7 +1,5 @@
 use Rattle.std.proofs.Common.{[], get_or, sym, ap, ◌∙◌}
-use Rattle.cil_specs.specs.Lookup.{is_global}
-use Rattle.cil_specs.specs.Names.{components}
-use Rattle.cil_parse.specs.Parsed.{names_of, texts_of}
+use Rattle.cil_bind.proofs.Common.{is_global, components, names_of, texts_of}
 use Rattle.cil_bind.proofs.WordLemmas.{parts-are, numbers-within, path-within}
 use Rattle.cil_bind.proofs.words.lead.Goals as goal
 

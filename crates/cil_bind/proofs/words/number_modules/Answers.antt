@@ -1,6 +1,5 @@
 use Rattle.std.proofs.Common.{◌<◌, ◌≤◌, ◌+◌, take, length, rules, sym, subst}
-use Rattle.std.proofs.lemmas.List.{take_all}
-use Rattle.cil_bind.specs.Words.{AreWorded}
+use Rattle.cil_bind.proofs.Common.{take_all, AreWorded}
 use Rattle.cil_bind.proofs.WordLemmas.{worded-next}
 use Rattle.cil_bind.proofs.words.number_modules.Goals as goal
 

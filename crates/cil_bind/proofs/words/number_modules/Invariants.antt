@@ -1,6 +1,5 @@
 use Rattle.std.proofs.Common.{bytes_eq, take}
-use Rattle.std.specs.List.{IsDistinct}
-use Rattle.cil_bind.specs.Words.{AreWorded}
+use Rattle.cil_bind.proofs.Common.{IsDistinct, AreWorded}
 use Rattle.cil_bind.proofs.words.number_modules.Given as goal
 
 -- so many modules have their numbers

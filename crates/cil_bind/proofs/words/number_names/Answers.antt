@@ -1,7 +1,5 @@
 use Rattle.std.proofs.Common.{◌<◌, ◌+◌, [], take, length, refl, sym, ap, ◌∙◌, append-nil, Some, arith, subst}
-use Rattle.std.proofs.lemmas.List.{take_all}
-use Rattle.cil_parse.specs.Lexicon.{AreNumbersOf}
-use Rattle.cil_parse.specs.Parsed.{names_of}
+use Rattle.cil_bind.proofs.Common.{take_all, AreNumbersOf, names_of}
 use Rattle.cil_bind.proofs.PlaceLemmas.{kept-next}
 use Rattle.cil_bind.proofs.ScopeLemmas.{kept-more}
 use Rattle.cil_bind.proofs.WordLemmas.{numbers-next}

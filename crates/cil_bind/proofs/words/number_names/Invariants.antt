@@ -1,7 +1,5 @@
 use Rattle.std.proofs.Common.{◌≡◌, ◌++◌, List, ℕ, bytes_eq, take}
-use Rattle.std.specs.List.{IsDistinct}
-use Rattle.cil_parse.specs.Lexicon.{AreNumbersOf}
-use Rattle.cil_parse.specs.Parsed.{names_of}
+use Rattle.cil_bind.proofs.Common.{IsDistinct, AreNumbersOf, names_of}
 use Rattle.cil_bind.proofs.words.number_names.Given as goal
 
 -- so many names have their numbers

@@ -1,10 +1,5 @@
 use Rattle.std.proofs.Common.{◌<◌, length, subst, sym, ap, ◌∙◌, arith}
-use Rattle.std.proofs.lemmas.List.{take_all}
-use Rattle.cil_specs.specs.Lookup.{classes, commons}
-use Rattle.cil_bind.specs.Lookup.{IsLead}
-use Rattle.cil_check.specs.Associations.{given_lead}
-use Rattle.cil_check.specs.Inherited.{common_lead, HasInheritedOf}
-use Rattle.cil_check.specs.declared.firsts.Association.TheVariants.{Common}
+use Rattle.cil_check.proofs.Common.{take_all, classes, commons, IsLead, given_lead, common_lead, HasInheritedOf, Common}
 use Rattle.cil_check.proofs.SeenLemmas.{there-at}
 use Rattle.cil_check.proofs.InheritedLemmas.{common-led, inherited-first, inherited-next, no-class-stay, no-common-stay}
 use Rattle.cil_check.proofs.inherited.add_commons.Goals as goal

@@ -1,7 +1,5 @@
 use Rattle.std.proofs.Common.{◌≡◌, List, length, take}
-use Rattle.cil_specs.specs.Joined.{Placed}
-use Rattle.cil_check.specs.Bound.{IsOf}
-use Rattle.cil_check.specs.Inherited.{HasInheritedOf}
+use Rattle.cil_check.proofs.Common.{Placed, IsOf, HasInheritedOf}
 use Rattle.cil_check.proofs.inherited.add_commons.Given as goal
 
 -- what so many statements give is noted

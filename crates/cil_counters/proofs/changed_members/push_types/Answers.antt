@@ -1,9 +1,8 @@
 use Rattle.std.proofs.Common.{◌≡◌, ◌∙◌, ◌+◌, ◌<◌, ℕ, List, ◌∷◌, ◌++◌, [], ap, subst, sym, inl, inr, arith}
 use Rattle.std.specs.Int.{bit_at}
-use Rattle.std.proofs.lemmas.List.{map-append}
+use Rattle.cil_counters.proofs.Common.{map-append, pair_of, pairs_of, AreNamed}
 use Rattle.std.proofs.lemmas.Nat.Bits.{shr_and_one}
 use Rattle.cil_counters.specs.declared.changed_members.ChangedMember.{ChangedMember}
-use Rattle.cil_counters.specs.ChangedMembers.{pair_of, pairs_of, AreNamed}
 use Rattle.cil_counters.proofs.ChangedMemberLemmas.{bits-beyond, bits-first, bits-last, bits-more, bits-past, bits-unnamed, hit_below}
 use Rattle.cil_counters.proofs.changed_members.push_types.Goals as goal
 use Rattle.cil_counters.proofs.changed_members.push_types.Goals.{then-mask-bit-eq1+in-Some-name+in_ok-push, then-mask-bit-eq1+in_default-name, else-mask-bit-eq1}

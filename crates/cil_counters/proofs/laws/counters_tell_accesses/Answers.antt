@@ -1,7 +1,6 @@
 use Rattle.std.proofs.Common.{◌≡◌, length, subst, true}
-use Rattle.std.specs.List.{list_all}
+use Rattle.cil_counters.proofs.Common.{list_all, is_rule_below}
 use Rattle.cil_member_rows.specs.Rows as member_rows
-use Rattle.cil_resolve.specs.Below.{is_rule_below}
 use Rattle.cil_keyed_lines.specs.Keyed as access_tables
 use Rattle.cil_counters.proofs.ToldLemmas.{told-accesses}
 use Rattle.cil_counters.proofs.laws.counters_tell_accesses.Goals as goal

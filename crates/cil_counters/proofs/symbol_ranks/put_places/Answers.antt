@@ -1,6 +1,5 @@
-use Rattle.std.proofs.Common.{◌∙◌, ◌+◌, ◌<◌, ℕ, Some, arith, length, slice_get, sym, subst}
-use Rattle.std.proofs.lemmas.Option.{none-some, same_Some}
-use Rattle.cil_counters.specs.SymbolRanks.{ArePut}
+use Rattle.std.proofs.Common.{◌∙◌, ◌+◌, Some, arith, sym, subst}
+use Rattle.cil_counters.proofs.Common.{none-some, same_Some, ArePut}
 use Rattle.cil_counters.proofs.SymbolRankLemmas.{put-next, put-past}
 use Rattle.cil_counters.proofs.symbol_ranks.put_places.Goals as goal
 use Rattle.cil_counters.proofs.symbol_ranks.put_places.Goals.{in-Some+then-symbol-len, in-Some+else-symbol-len, in_default}

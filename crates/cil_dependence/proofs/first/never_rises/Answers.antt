@@ -1,6 +1,5 @@
 use Rattle.std.proofs.Common.{◌≡◌, ℕ, length, refl, slice_get, Some, All, get_or, ◌≤◌, subst, below_more}
-use Rattle.std.proofs.lemmas.Option.{slice_get_read}
-use Rattle.cil_dependence.specs.Graph.{IsEdge}
+use Rattle.cil_dependence.proofs.Common.{slice_get_read, IsEdge}
 use Rattle.cil_dependence.proofs.LeadsLemmas.{edges-all, node-edges}
 use Rattle.cil_dependence.proofs.first.never_rises.Goals as goal
 

@@ -1,7 +1,5 @@
 use Rattle.std.proofs.Common.{◌≡◌, ◌≢◌, ◌<◌, ◌≤◌, ℕ, length}
-use Rattle.cil_recorded.specs.Recorded.{count_now}
-use Rattle.cil_keyed_lines.specs.declared.symbol_key.SymbolKey.{SymbolKey}
-use Rattle.cil_keyed_lines.specs.Keyed.{count_by, AreAmong, ArePaired}
+use Rattle.cil_keyed_lines.proofs.Common.{count_now, SymbolKey, count_by, AreAmong, ArePaired}
 use Rattle.cil_keyed_lines.proofs.ended_lines.fill_place.Given as goal
 
 abbrev pub invariant-loop-lines : goal.invariant-loop-lines

@@ -1,7 +1,5 @@
 use Rattle.std.proofs.Common.{◌≡◌, ℕ, length}
-use Rattle.cil_recorded.specs.Recorded.{count_now}
-use Rattle.cil_keyed_lines.specs.declared.symbol_key.SymbolKey.{SymbolKey}
-use Rattle.cil_keyed_lines.specs.Keyed.{count_by, AreAmong, AreCounted, ArePaired}
+use Rattle.cil_keyed_lines.proofs.Common.{count_now, SymbolKey, count_by, AreAmong, AreCounted, ArePaired}
 use Rattle.cil_keyed_lines.proofs.ended_lines.take_out_ended.Given as goal
 
 -- each line has a counter above 0, but for those of steps that are left

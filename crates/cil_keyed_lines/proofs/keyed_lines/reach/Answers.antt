@@ -1,8 +1,7 @@
 use Rattle.std.proofs.Common.{◌≡◌, ◌∙◌, ◌∷◌, ◌++◌, [], if◌then◌else◌, ap, sym, subst, false, rules}
-use Rattle.std.specs.List.{list_any, IsDistinct}
+use Rattle.cil_keyed_lines.proofs.Common.{list_any, IsDistinct, is_key}
 use Rattle.cil_keyed_lines.proofs.EndLemmas.{known, placed_new}
 use Rattle.cil_keyed_lines.proofs.KeyedLemmas.{same_eq}
-use Rattle.cil_keyed_lines.specs.Keyed.{is_key}
 use Rattle.cil_keyed_lines.proofs.keyed_lines.reach.Goals as goal
 
 pub returns-in-Some-clause-keys : goal.returns-in-Some-clause-keys

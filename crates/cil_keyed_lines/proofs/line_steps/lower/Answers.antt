@@ -1,6 +1,5 @@
 use Rattle.std.proofs.Common.{arith, ap}
-use Rattle.cil_recorded.proofs.LogLemmas.{hit_nothing}
-use Rattle.cil_recorded.specs.Log.{hit_at}
+use Rattle.cil_keyed_lines.proofs.Common.{hit_nothing, hit_at}
 use Rattle.cil_keyed_lines.proofs.line_steps.lower.Goals as goal
 
 pub returns-then-mask-eq0-clause-now : goal.returns-then-mask-eq0-clause-now

@@ -1,7 +1,5 @@
 use Rattle.std.proofs.Common.{◌≡◌, ◌≤◌, ◌≢◌, ℕ, ◌+◌, ◌*◌, ◌^◌, drop}
-use Rattle.std.specs.Int.{bit_at}
-use Rattle.cil_lines.specs.Limit.{limit}
-use Rattle.cil_lines.specs.Line.{value, HasRoom}
+use Rattle.cil_lines.proofs.Common.{bit_at, limit, value, HasRoom}
 use Rattle.cil_lines.proofs.higher.add.Given as goal
 
 -- the carry has the weight of the digit that comes, and has room from there on

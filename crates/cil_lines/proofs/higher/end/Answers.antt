@@ -1,6 +1,5 @@
 use Rattle.std.proofs.Common.{◌≡◌, ◌-◌, suc, ap, drop, arith}
-use Rattle.cil_lines.specs.Digit.{Words, bits_of}
-use Rattle.cil_lines.specs.Line.{total}
+use Rattle.cil_lines.proofs.Common.{Words, bits_of, total}
 use Rattle.cil_lines.proofs.LineLemmas.{total-drop}
 use Rattle.cil_lines.proofs.higher.end.Goals as goal
 

@@ -1,5 +1,4 @@
-use Rattle.std.proofs.Common.{◌∙◌, ◌<◌, length, sym, ap, arith}
-use Rattle.cil_lines.specs.Digit.{bits_of}
+use Rattle.std.proofs.Common.{◌∙◌, ◌<◌, length, arith}
 use Rattle.cil_lines.proofs.GiveUpLemmas.{no_bits_in}
 use Rattle.cil_lines.proofs.LineLemmas.{value-set_same}
 use Rattle.cil_lines.proofs.PlaceLemmas.{limit-set}

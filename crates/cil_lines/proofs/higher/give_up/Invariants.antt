@@ -1,6 +1,5 @@
 use Rattle.std.proofs.Common.{◌≡◌, ◌≤◌, ◌≢◌, ℕ}
-use Rattle.cil_lines.specs.Limit.{limit}
-use Rattle.cil_lines.specs.Line.{value}
+use Rattle.cil_lines.proofs.Common.{limit, value}
 use Rattle.cil_lines.proofs.higher.give_up.Given as goal
 
 abbrev pub invariant-loop-i : goal.invariant-loop-i

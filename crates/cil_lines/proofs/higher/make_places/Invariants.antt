@@ -1,7 +1,5 @@
 use Rattle.std.proofs.Common.{◌≡◌, ◌≤◌, ℕ, ◌++◌, List, take}
-use Rattle.cil_lines.specs.Digit.{Words}
-use Rattle.cil_lines.specs.Limit.{limit}
-use Rattle.cil_lines.specs.Line.{value, HasRoom}
+use Rattle.cil_lines.proofs.Common.{Words, limit, value, HasRoom}
 use Rattle.cil_lines.proofs.higher.make_places.Given as goal
 
 -- with room for the carry behind the digits so far there is room for the mask

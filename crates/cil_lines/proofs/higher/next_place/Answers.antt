@@ -1,6 +1,5 @@
 use Rattle.std.proofs.Common.{drop, arith}
-use Rattle.cil_lines.specs.Digit.{bits_of}
-use Rattle.cil_lines.specs.Line.{total}
+use Rattle.cil_lines.proofs.Common.{bits_of, total}
 use Rattle.cil_lines.proofs.LineLemmas.{next_step}
 use Rattle.cil_lines.proofs.higher.next_place.Goals as goal
 

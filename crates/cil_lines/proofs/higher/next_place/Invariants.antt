@@ -1,6 +1,5 @@
 use Rattle.std.proofs.Common.{◌≤◌, length, drop}
-use Rattle.cil_lines.specs.Digit.{IsNext}
-use Rattle.cil_lines.specs.Line.{total}
+use Rattle.cil_lines.proofs.Common.{IsNext, total}
 use Rattle.cil_lines.proofs.higher.next_place.Given as goal
 
 -- the first place by the digits from i on

@@ -1,6 +1,5 @@
 use Rattle.std.proofs.Common.{◌≡◌, ◌≤◌, ℕ, min, length, drop}
-use Rattle.std.specs.Int.{bit_at}
-use Rattle.cil_lines.specs.Line.{value}
+use Rattle.cil_lines.proofs.Common.{bit_at, value}
 use Rattle.cil_lines.proofs.higher.present.Given as goal
 
 -- the bits of the digits from i on

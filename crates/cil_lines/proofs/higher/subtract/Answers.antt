@@ -1,10 +1,5 @@
 use Rattle.std.proofs.Common.{◌≡◌, ◌≤◌, ◌<◌, ◌+◌, ◌^◌, suc, ◌∙◌, ap, sym, subst, length, get_or, set, drop, bit_and, bit_xor, arith, rules}
-use Rattle.std.proofs.Math.ListN.{drop_of_length-le}
-use Rattle.std.proofs.lemmas.Nat.Bits.{bit_at-zero}
-use Rattle.std.specs.Int.{bit_at}
-use Rattle.cil_lines.specs.Digit.{bits_of}
-use Rattle.cil_lines.specs.Limit.{limit}
-use Rattle.cil_lines.specs.Line.{value}
+use Rattle.cil_lines.proofs.Common.{drop_of_length-le, bit_at-zero, bit_at, bits_of, limit, value}
 use Rattle.cil_lines.proofs.LineLemmas.{value-set_same, drop-set}
 use Rattle.cil_lines.proofs.PlaceLemmas.{limit-set}
 use Rattle.cil_lines.proofs.StepLemmas.{subtract_step, borrow-place, borrow-below, borrow-above}

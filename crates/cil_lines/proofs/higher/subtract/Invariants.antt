@@ -1,7 +1,5 @@
 use Rattle.std.proofs.Common.{◌≡◌, ◌≢◌, ◌≤◌, ◌<◌, ℕ, ◌+◌, ◌*◌, ◌^◌, drop}
-use Rattle.std.specs.Int.{bit_at}
-use Rattle.cil_lines.specs.Limit.{limit}
-use Rattle.cil_lines.specs.Line.{value}
+use Rattle.cil_lines.proofs.Common.{bit_at, limit, value}
 use Rattle.cil_lines.proofs.higher.subtract.Given as goal
 
 -- what is borrowed has the weight of the digit that comes, and is there from it on

@@ -1,7 +1,6 @@
 use Rattle.std.proofs.Common.{◌≡◌, ◌∙◌, ◌<◌, ◌+◌, None, Some, length, get_or, slice_get, ap, sym, subst}
-use Rattle.std.proofs.lemmas.Option.{slice_get-get_or}
+use Rattle.cil_matching.proofs.Common.{slice_get-get_or, IsInverse}
 use Rattle.cil_matching.proofs.InverseLemmas.{inverse-next, inverse-all, noted-length}
-use Rattle.cil_matching.specs.Inverse.{IsInverse}
 use Rattle.cil_matching.proofs.inverse.inverse.Goals as goal
 
 pub loop-i-preserved : goal.loop-i-preserved

@@ -1,9 +1,5 @@
 use Rattle.std.proofs.Common.{◌≡◌, ◌∙◌, List, ℕ, [], slice_index_or, sym, subst, arith}
-use Rattle.std.proofs.lemmas.Option.{slice_get-get_or}
-use Rattle.std.specs.declared.cmp.Ordering.{Ordering}
-use Rattle.cil_specs.specs.Report.{name_cmp}
-use Rattle.cil_specs.proofs.ReportLemmas.{name_total, sorted_from_names_rise}
-use Rattle.cil_matching.specs.Merged.{IsMissedAt}
+use Rattle.cil_matching.proofs.Common.{slice_get-get_or, Ordering, name_cmp, name_total, sorted_from_names_rise, IsMissedAt}
 use Rattle.cil_matching.proofs.MergedLemmas.{before-more, missed-at, missed-all}
 use Rattle.cil_matching.proofs.name_numbers.find_name.Goals as goal
 

@@ -1,5 +1,4 @@
-use Rattle.cil_specs.specs.Report.{name_cmp}
-use Rattle.cil_matching.specs.Merged.{AreBefore}
+use Rattle.cil_matching.proofs.Common.{name_cmp, AreBefore}
 use Rattle.cil_matching.proofs.name_numbers.find_name.Given as goal
 
 -- so many stand before

@@ -1,8 +1,5 @@
 use Rattle.std.proofs.Common.{◌≡◌, ◌∙◌, ◌+◌, ◌<◌, List, ℕ, length, Some, None, sym, subst, arith}
-use Rattle.cil_specs.specs.Report.{name_cmp}
-use Rattle.cil_specs.proofs.ReportLemmas.{name_total, sorted_from_names_rise}
-use Rattle.cil_matching.specs.Matching.{ArePlaces}
-use Rattle.cil_matching.specs.Merged.{AreBefore, IsFoundAt, IsMissedAt}
+use Rattle.cil_matching.proofs.Common.{name_cmp, name_total, sorted_from_names_rise, ArePlaces, AreBefore, IsFoundAt, IsMissedAt}
 use Rattle.cil_matching.proofs.MatchedLemmas.{places-next}
 use Rattle.cil_matching.proofs.MergedLemmas.{before-next, before-past}
 use Rattle.cil_matching.proofs.NumberLemmas.{name-found, name-missed}

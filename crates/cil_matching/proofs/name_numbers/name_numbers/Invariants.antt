@@ -1,7 +1,5 @@
 use Rattle.std.proofs.Common.{◌≡◌, ℕ, List}
-use Rattle.cil_specs.specs.Report.{name_cmp}
-use Rattle.cil_matching.specs.Matching.{ArePlaces}
-use Rattle.cil_matching.specs.Merged.{AreBefore}
+use Rattle.cil_matching.proofs.Common.{name_cmp, ArePlaces, AreBefore}
 use Rattle.cil_matching.proofs.name_numbers.name_numbers.Given as goal
 
 -- so many have their numbers, and so many of the new ones stand before the next

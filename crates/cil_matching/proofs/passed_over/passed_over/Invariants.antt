@@ -1,7 +1,5 @@
 use Rattle.std.proofs.Common.{map}
-use Rattle.cil_resolve.specs.Sets.{sets_in}
-use Rattle.cil_matching.specs.Passed.{ArePassed}
-use Rattle.cil_matching.specs.Spot.{set_spot}
+use Rattle.cil_matching.proofs.Common.{sets_in, ArePassed, set_spot}
 use Rattle.cil_matching.proofs.passed_over.passed_over.Given as goal
 
 -- those of so many places are known

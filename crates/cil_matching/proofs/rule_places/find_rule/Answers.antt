@@ -1,9 +1,5 @@
 use Rattle.std.proofs.Common.{◌∙◌, sym, subst, arith}
-use Rattle.cil_specs.proofs.ViolationLemmas.{rule_total}
-use Rattle.cil_specs.specs.Violations.{rule_cmp}
-use Rattle.cil_resolve.specs.Resolved.{meaning_in}
-use Rattle.cil_matching.specs.Merged.{IsMissedAt}
-use Rattle.cil_matching.specs.Spot.{rule_spot, spot_of}
+use Rattle.cil_matching.proofs.Common.{rule_total, rule_cmp, meaning_in, IsMissedAt, rule_spot, spot_of}
 use Rattle.cil_matching.proofs.MatchedLemmas.{from-mapped}
 use Rattle.cil_matching.proofs.MergedLemmas.{before-more, missed-at, missed-all}
 use Rattle.cil_matching.proofs.PlaceLemmas.{spots-tell}

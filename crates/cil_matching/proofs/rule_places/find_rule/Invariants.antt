@@ -1,6 +1,4 @@
-use Rattle.cil_specs.specs.Violations.{rule_cmp}
-use Rattle.cil_resolve.specs.Resolved.{meaning_in}
-use Rattle.cil_matching.specs.Merged.{AreBefore}
+use Rattle.cil_matching.proofs.Common.{rule_cmp, meaning_in, AreBefore}
 use Rattle.cil_matching.proofs.rule_places.find_rule.Given as goal
 
 -- so many stand before

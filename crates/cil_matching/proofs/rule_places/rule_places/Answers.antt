@@ -1,10 +1,5 @@
 use Rattle.std.proofs.Common.{◌≡◌, ◌∙◌, ◌+◌, None, sym, subst, arith}
-use Rattle.cil_specs.proofs.ViolationLemmas.{rule_total}
-use Rattle.cil_specs.specs.Rule.{IsSameRule}
-use Rattle.cil_specs.specs.Violations.{rule_cmp}
-use Rattle.cil_resolve.specs.Resolved.{meaning_in}
-use Rattle.cil_matching.specs.Matching.{ArePlaces}
-use Rattle.cil_matching.specs.Merged.{AreBefore, IsFoundAt, IsMissedAt}
+use Rattle.cil_matching.proofs.Common.{rule_total, IsSameRule, rule_cmp, meaning_in, ArePlaces, AreBefore, IsFoundAt, IsMissedAt}
 use Rattle.cil_matching.proofs.MatchedLemmas.{places-next}
 use Rattle.cil_matching.proofs.MergedLemmas.{before-next, before-past}
 use Rattle.cil_matching.proofs.PlaceLemmas.{rule-missed}

@@ -1,8 +1,4 @@
-use Rattle.cil_specs.specs.Rule.{IsSameRule}
-use Rattle.cil_specs.specs.Violations.{rule_cmp}
-use Rattle.cil_resolve.specs.Resolved.{meaning_in}
-use Rattle.cil_matching.specs.Matching.{ArePlaces}
-use Rattle.cil_matching.specs.Merged.{AreBefore}
+use Rattle.cil_matching.proofs.Common.{IsSameRule, rule_cmp, meaning_in, ArePlaces, AreBefore}
 use Rattle.cil_matching.proofs.rule_places.rule_places.Given as goal
 
 -- so many have their places, and so many of the new ones stand before the next

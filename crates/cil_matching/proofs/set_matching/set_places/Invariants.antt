@@ -1,5 +1,4 @@
-use Rattle.cil_specs.specs.Rule.{IsSameSet}
-use Rattle.cil_resolve.specs.Sets.{sets_in}
+use Rattle.cil_matching.proofs.Common.{IsSameSet, sets_in}
 use Rattle.cil_matching.proofs.FilledLemmas.{AreFilled}
 use Rattle.cil_matching.proofs.set_matching.set_places.Given as goal
 

@@ -1,9 +1,5 @@
 use Rattle.std.proofs.Common.{◌∙◌, sym, subst}
-use Rattle.std.proofs.lemmas.Option.{same_Some}
-use Rattle.cil_specs.specs.Rule.{IsSameSet}
-use Rattle.cil_resolve.specs.Sets.{sets_in}
-use Rattle.cil_matching.specs.Matching.{AreSameAt}
-use Rattle.cil_matching.specs.Spot.{set_spot}
+use Rattle.cil_matching.proofs.Common.{same_Some, IsSameSet, sets_in, AreSameAt, set_spot}
 use Rattle.cil_matching.proofs.ApartLemmas.{sets-agree, apart-sets}
 use Rattle.cil_matching.proofs.MatchedLemmas.{none-same, found-same, found-other, mapped-there, tested-same}
 use Rattle.cil_matching.proofs.set_walk.same.Goals as goal

@@ -1,7 +1,5 @@
 use Rattle.std.proofs.Common.{subst, arith}
-use Rattle.cil_specs.specs.Rule.{IsSameSet}
-use Rattle.cil_resolve.specs.Sets.{sets_in}
-use Rattle.cil_matching.specs.Matching.{AreRight}
+use Rattle.cil_matching.proofs.Common.{IsSameSet, sets_in, AreRight}
 use Rattle.cil_matching.proofs.MatchedLemmas.{right-none, right-next}
 use Rattle.cil_matching.proofs.set_walk.walk.Goals as goal
 

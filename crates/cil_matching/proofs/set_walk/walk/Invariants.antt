@@ -1,6 +1,4 @@
-use Rattle.cil_specs.specs.Rule.{IsSameSet}
-use Rattle.cil_resolve.specs.Sets.{sets_in}
-use Rattle.cil_matching.specs.Matching.{AreRight}
+use Rattle.cil_matching.proofs.Common.{IsSameSet, sets_in, AreRight}
 use Rattle.cil_matching.proofs.set_walk.walk.Given as goal
 
 -- so many places are right

@@ -1,7 +1,5 @@
 use Rattle.std.proofs.Common.{◌≡◌, ◌∙◌, Some, ap, rules, slice_get}
-use Rattle.cil_resolve.specs.Resolved.{meaning_in}
-use Rattle.cil_resolve.specs.Sets.{name_in}
-use Rattle.cil_member_updates.specs.Places.{no_declared}
+use Rattle.cil_member_updates.proofs.Common.{meaning_in, name_in, no_declared}
 use Rattle.cil_member_updates.proofs.SymbolLemmas.{read-at, symbol-name}
 use Rattle.cil_member_updates.proofs.kept.type_symbol.Goals as goal
 

@@ -1,9 +1,6 @@
 use Rattle.std.proofs.Common.{◌≡◌, ◌∙◌, ℕ, Some, get_or, nat_lt, of_calls, rules, slice_get, sym}
-use Rattle.cil_resolve.specs.Resolved.{meaning_in}
-use Rattle.cil_resolve.specs.Sets.{name_in}
-use Rattle.cil_member_updates.specs.Places.{set_at}
+use Rattle.cil_member_updates.proofs.Common.{meaning_in, name_in, set_at, counts_at}
 use Rattle.cil_member_updates.proofs.PlaceLemmas.{set-there}
-use Rattle.cil_member_updates.specs.Policy.{counts_at}
 use Rattle.cil_member_updates.proofs.NameLemmas.{holds-named, keeps-name, keeps-named}
 use Rattle.cil_member_updates.proofs.SymbolLemmas.{number-some, symbol-name, symbol-some, symbol-within}
 use Rattle.cil_member_updates.proofs.masks.is_held.Goals as goal

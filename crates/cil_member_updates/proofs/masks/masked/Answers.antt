@@ -1,16 +1,6 @@
 use Rattle.std.proofs.Common.{◌≡◌, ◌+◌, ◌*◌, ◌==◌, ◌∙◌, ap, bit_and, arith, refl, subst, sym}
-use Rattle.std.specs.Int.{bit_at}
-use Rattle.std.proofs.lemmas.Bool.{eq-eqb, ne_eqb}
-use Rattle.std.proofs.lemmas.Nat.Bits.{shr_and_one}
-use Rattle.cil_resolve.specs.Meter.{adjustments_in, evaluations_in}
-use Rattle.cil_resolve.specs.Resolved.{meaning_in}
-use Rattle.cil_member_updates.specs.Places.{set_at}
-use Rattle.cil_sums.specs.Rises.{up_to, RisesBy}
+use Rattle.cil_member_updates.proofs.Common.{bit_at, eq-eqb, ne_eqb, shr_and_one, adjustments_in, evaluations_in, meaning_in, set_at, up_to, RisesBy, up_to-add, up_to-skip, AreBits, is_asked, holds, keeps}
 use Rattle.cil_sums.proofs.RiseLemmas.{rises-same}
-use Rattle.cil_sums.proofs.WithinLemmas.{up_to-add, up_to-skip}
-use Rattle.cil_member_updates.specs.Bits.{AreBits}
-use Rattle.cil_member_updates.specs.Evaluated.{is_asked}
-use Rattle.cil_member_updates.specs.Given.{holds, keeps}
 use Rattle.cil_member_updates.proofs.BitLemmas.{answer-bit, answer-other, held-add, held-skip, looked-kept, looked-past, looked-visit, HeldBelow}
 use Rattle.cil_member_updates.proofs.NameLemmas.{holds-kept}
 use Rattle.cil_member_updates.proofs.masks.masked.Goals as goal

@@ -1,10 +1,5 @@
 use Rattle.std.proofs.Common.{◌≡◌, ◌==◌}
-use Rattle.std.specs.Int.{bit_at}
-use Rattle.cil_resolve.specs.Meter.{adjustments_in, evaluations_in}
-use Rattle.cil_resolve.specs.Resolved.{meaning_in}
-use Rattle.cil_member_updates.specs.Places.{set_at}
-use Rattle.cil_sums.specs.Rises.{up_to, RisesBy}
-use Rattle.cil_member_updates.specs.Given.{holds}
+use Rattle.cil_member_updates.proofs.Common.{bit_at, adjustments_in, evaluations_in, meaning_in, set_at, up_to, RisesBy, holds}
 use Rattle.cil_member_updates.proofs.BitLemmas.{HeldBelow}
 use Rattle.cil_member_updates.proofs.masks.masked.Given as goal
 

@@ -1,13 +1,5 @@
 use Rattle.std.proofs.Common.{◌≡◌, ◌∙◌, length, refl, ap, subst, arith}
-use Rattle.cil_member_rows.specs.Rows.{count_before, count_now}
-use Rattle.cil_resolve.specs.Meter.{evaluations_in}
-use Rattle.cil_resolve.specs.Sets.{sets_in}
-use Rattle.cil_member_updates.specs.Places.{set_at}
-use Rattle.cil_sums.specs.Sums.{sum_below}
-use Rattle.cil_sums.proofs.SumLemmas.{sum-none}
-use Rattle.cil_sums.proofs.WithinLemmas.{within-first, within-next}
-use Rattle.cil_member_updates.specs.Evaluated.{EvaluatesGone, Goes, MayGo}
-use Rattle.cil_member_updates.specs.Passes.{given_by, gone}
+use Rattle.cil_member_updates.proofs.Common.{count_before, count_now, evaluations_in, sets_in, set_at, sum_below, sum-none, within-first, within-next, EvaluatesGone, Goes, MayGo, given_by, gone}
 use Rattle.cil_member_updates.proofs.PassLemmas.{gone-counted, gone-more}
 use Rattle.cil_member_updates.proofs.SideLemmas.{counts-members, counts-sum}
 use Rattle.cil_member_updates.proofs.passes.lower_gone.Goals as goal

@@ -1,10 +1,5 @@
 use Rattle.std.proofs.Common.{◌≡◌, ◌+◌, ℕ, length}
-use Rattle.cil_member_rows.specs.Rows.{count_before, count_now, rows_in}
-use Rattle.cil_resolve.specs.Meter.{adjustments_in, evaluations_in}
-use Rattle.cil_resolve.specs.Sets.{sets_in}
-use Rattle.cil_sums.specs.Sums.{sum_below}
-use Rattle.cil_member_updates.specs.Evaluated.{EvaluatesGone}
-use Rattle.cil_member_updates.specs.Passes.{gone, given_by}
+use Rattle.cil_member_updates.proofs.Common.{count_before, count_now, rows_in, adjustments_in, evaluations_in, sets_in, sum_below, EvaluatesGone, gone, given_by}
 use Rattle.cil_member_updates.proofs.passes.lower_gone.Given as goal
 
 -- those so far that went aren't counted any more

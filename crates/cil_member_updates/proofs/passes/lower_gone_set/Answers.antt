@@ -1,16 +1,5 @@
 use Rattle.std.proofs.Common.{refl, arith}
-use Rattle.std.proofs.lemmas.Option.{none-some}
-use Rattle.std.proofs.lemmas.Result.{on_ok_weaker}
-use Rattle.cil_member_rows.specs.Rows.{count_now}
-use Rattle.cil_resolve.specs.Meter.{evaluations_in}
-use Rattle.cil_resolve.specs.Resolved.{meaning_in}
-use Rattle.cil_member_updates.specs.Places.{set_at}
-use Rattle.cil_sums.proofs.SumLemmas.{alone-none, alone-some}
-use Rattle.cil_sums.proofs.WithinLemmas.{within-none, within-weaker}
-use Rattle.cil_member_updates.specs.Evaluated.{Goes, IsHeld, IsKept, MayGo}
-use Rattle.cil_member_updates.specs.Moved.{nothing, AreMoved}
-use Rattle.cil_member_updates.specs.Passes.{given_by}
-use Rattle.cil_member_updates.specs.Policy.{given}
+use Rattle.cil_member_updates.proofs.Common.{none-some, on_ok_weaker, count_now, evaluations_in, meaning_in, set_at, alone-none, alone-some, within-none, within-weaker, Goes, IsHeld, IsKept, MayGo, nothing, AreMoved, given_by, given}
 use Rattle.cil_member_updates.proofs.passes.lower_gone_set.Goals as goal
 
 pub returns-in-Some-clause-now : goal.returns-in-Some-clause-now

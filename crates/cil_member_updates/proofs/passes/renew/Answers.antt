@@ -1,12 +1,5 @@
 use Rattle.std.proofs.Common.{◌≡◌, ◌∙◌, length, refl, ap, subst, arith}
-use Rattle.cil_member_rows.specs.Rows.{count_now}
-use Rattle.cil_resolve.specs.Meter.{evaluations_in}
-use Rattle.cil_resolve.specs.Sets.{sets_in}
-use Rattle.cil_sums.specs.Sums.{sum_below}
-use Rattle.cil_sums.proofs.SumLemmas.{sum-none}
-use Rattle.cil_sums.proofs.WithinLemmas.{within-first, within-next}
-use Rattle.cil_member_updates.specs.Evaluated.{Comes, EvaluatesNew, MayTurn}
-use Rattle.cil_member_updates.specs.Passes.{given_by, stayed}
+use Rattle.cil_member_updates.proofs.Common.{count_now, evaluations_in, sets_in, sum_below, sum-none, within-first, within-next, Comes, EvaluatesNew, MayTurn, given_by, stayed}
 use Rattle.cil_member_updates.proofs.PassLemmas.{renewed-more, stayed-counted}
 use Rattle.cil_member_updates.proofs.SideLemmas.{renewed-tell, sum-counts}
 use Rattle.cil_member_updates.proofs.passes.renew.Goals as goal

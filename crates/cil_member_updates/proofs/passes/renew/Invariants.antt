@@ -1,10 +1,5 @@
 use Rattle.std.proofs.Common.{◌≡◌, ◌+◌, ℕ, length}
-use Rattle.cil_member_rows.specs.Rows.{count_before, count_now, rows_in}
-use Rattle.cil_resolve.specs.Meter.{adjustments_in, evaluations_in}
-use Rattle.cil_resolve.specs.Sets.{sets_in}
-use Rattle.cil_sums.specs.Sums.{sum_below}
-use Rattle.cil_member_updates.specs.Evaluated.{EvaluatesNew}
-use Rattle.cil_member_updates.specs.Passes.{given_by, stayed}
+use Rattle.cil_member_updates.proofs.Common.{count_before, count_now, rows_in, adjustments_in, evaluations_in, sets_in, sum_below, EvaluatesNew, given_by, stayed}
 use Rattle.cil_member_updates.proofs.passes.renew.Given as goal
 
 -- The set statements so far count as in the new policy, and the others that stayed as in the old one.

@@ -1,17 +1,5 @@
 use Rattle.std.proofs.Common.{refl, inl, inr, arith}
-use Rattle.std.proofs.lemmas.Option.{none-some}
-use Rattle.std.proofs.lemmas.Result.{on_ok_weaker}
-use Rattle.cil_member_rows.specs.Rows.{count_before, count_now}
-use Rattle.cil_resolve.specs.Meter.{evaluations_in}
-use Rattle.cil_resolve.specs.Resolved.{meaning_in}
-use Rattle.cil_resolve.specs.Sets.{sets_in}
-use Rattle.cil_member_updates.specs.Places.{no_set, set_at}
-use Rattle.cil_sums.proofs.SumLemmas.{across-none, across-some}
-use Rattle.cil_sums.proofs.WithinLemmas.{within-weaker}
-use Rattle.cil_member_updates.specs.Evaluated.{Comes, IsHeld, IsKept, IsMovedAt, IsUnsettled, MayTurn}
-use Rattle.cil_member_updates.specs.Moved.{nothing, AreMoved}
-use Rattle.cil_member_updates.specs.Passes.{given_by}
-use Rattle.cil_member_updates.specs.Policy.{given}
+use Rattle.cil_member_updates.proofs.Common.{none-some, on_ok_weaker, count_before, count_now, evaluations_in, meaning_in, sets_in, no_set, set_at, across-none, across-some, within-weaker, Comes, IsHeld, IsKept, IsMovedAt, IsUnsettled, MayTurn, nothing, AreMoved, given_by, given}
 use Rattle.cil_member_updates.proofs.ComesLemmas.{comes-held, comes-moved}
 use Rattle.cil_member_updates.proofs.RenewLemmas.{same-at, same-attribute}
 use Rattle.cil_member_updates.proofs.SideLemmas.{counts-members}

@@ -1,6 +1,4 @@
-use Rattle.std.proofs.lemmas.Result.{on_ok_weaker}
-use Rattle.cil_member_rows.specs.Rows.{count_now}
-use Rattle.cil_resolve.specs.Meter.{evaluations_in}
+use Rattle.cil_member_updates.proofs.Common.{on_ok_weaker, count_now, evaluations_in}
 use Rattle.cil_member_updates.proofs.DirtyLemmas.{evaluates-few}
 use Rattle.cil_member_updates.proofs.SideLemmas.{stayed-all}
 use Rattle.cil_member_updates.proofs.passes.update.Goals as goal

@@ -1,12 +1,5 @@
 use Rattle.std.proofs.Common.{◌≡◌, ℕ}
-use Rattle.cil_member_rows.specs.Rows.{count_before, count_now, rows_in}
-use Rattle.cil_resolve.specs.Meter.{adjustments_in, evaluations_in}
-use Rattle.cil_resolve.specs.Resolved.{meaning_in}
-use Rattle.cil_member_updates.specs.Places.{set_at}
-use Rattle.cil_sums.specs.Rises.{RisesWithin}
-use Rattle.cil_member_updates.specs.Moved.{nothing}
-use Rattle.cil_member_updates.specs.Evaluated.{IsHeld, IsKept}
-use Rattle.cil_member_updates.specs.Policy.{given}
+use Rattle.cil_member_updates.proofs.Common.{count_before, count_now, rows_in, adjustments_in, evaluations_in, meaning_in, set_at, RisesWithin, nothing, IsHeld, IsKept, given}
 use Rattle.cil_member_updates.proofs.EvaluatedLemmas.{Beneath}
 use Rattle.cil_member_updates.proofs.MovedLemmas.{MovedBelow}
 use Rattle.cil_member_updates.proofs.sets.lower_set.Given as goal

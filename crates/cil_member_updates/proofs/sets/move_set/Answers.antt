@@ -1,11 +1,5 @@
 use Rattle.std.proofs.Common.{◌∙◌, ◌+◌, ◌/◌, ◌<◌, ◌≤◌, ℕ, length, slice_index, refl, sym, inl, inr, arith}
-use Rattle.std.proofs.lemmas.Bool.{cases_lt}
-use Rattle.cil_member_rows.specs.Rows.{count_before, count_now}
-use Rattle.cil_resolve.specs.Meter.{evaluations_in}
-use Rattle.cil_resolve.specs.Resolved.{meaning_in}
-use Rattle.cil_member_updates.specs.Places.{set_at}
-use Rattle.cil_member_updates.specs.Evaluated.{IsMovedAt, IsUnsettled}
-use Rattle.cil_member_updates.specs.Policy.{given}
+use Rattle.cil_member_updates.proofs.Common.{cases_lt, count_before, count_now, evaluations_in, meaning_in, set_at, IsMovedAt, IsUnsettled, given}
 use Rattle.cil_member_updates.proofs.EvaluatedLemmas.{moved-within, words-all, words-from, words-next}
 use Rattle.cil_member_updates.proofs.GivenLemmas.{tell-same}
 use Rattle.cil_member_updates.proofs.MovedLemmas.{moved-from, moved-more, moved-all, moved-other}

@@ -1,11 +1,5 @@
 use Rattle.std.proofs.Common.{◌∙◌, refl, sym, arith}
-use Rattle.cil_member_rows.specs.Rows.{count_now}
-use Rattle.cil_resolve.specs.Meter.{evaluations_in}
-use Rattle.cil_resolve.specs.Resolved.{meaning_in}
-use Rattle.cil_member_updates.specs.Places.{set_at}
-use Rattle.cil_member_updates.specs.Evaluated.{IsHeld, IsKept}
-use Rattle.cil_member_updates.specs.Moved.{nothing}
-use Rattle.cil_member_updates.specs.Policy.{given}
+use Rattle.cil_member_updates.proofs.Common.{count_now, evaluations_in, meaning_in, set_at, IsHeld, IsKept, nothing, given}
 use Rattle.cil_member_updates.proofs.EvaluatedLemmas.{holds-within, words-all, words-first, words-next}
 use Rattle.cil_member_updates.proofs.GivenLemmas.{tell-same}
 use Rattle.cil_member_updates.proofs.MovedLemmas.{moved-none, moved-more, moved-all, moved-other}

@@ -1,6 +1,5 @@
 use Rattle.std.proofs.Common.{◌≡◌, ◌∙◌, Some, ap, rules, slice_get}
-use Rattle.cil_resolve.specs.Sets.{name_in, sets_in}
-use Rattle.cil_member_updates.specs.Places.{no_set}
+use Rattle.cil_member_updates.proofs.Common.{name_in, sets_in, no_set}
 use Rattle.cil_member_updates.proofs.SymbolLemmas.{read-at, symbol-name}
 use Rattle.cil_member_updates.proofs.side.row_of.Goals as goal
 

@@ -1,14 +1,7 @@
 use Rattle.std.proofs.Common.{◌<◌, ℕ, get_or, length, subst, arith}
-use Rattle.std.specs.List.{Contains}
-use Rattle.std.proofs.lemmas.List.Elements.{Contains-get_or}
-use Rattle.cil_expression.specs.declared.expression.Element.TheVariants.{«Type»}
-use Rattle.cil_member_rows.specs.Rows.{count_before, count_now}
-use Rattle.cil_resolve.specs.Numbers.{element_of}
-use Rattle.cil_member_updates.specs.Places.{set_at}
+use Rattle.cil_member_updates.proofs.Common.{Contains, Contains-get_or, «Type», count_before, count_now, element_of, set_at, leaves, IsUnchanged}
 use Rattle.cil_member_updates.proofs.PlaceLemmas.{set-there}
-use Rattle.cil_specs.specs.Expr.{leaves}
 use Rattle.cil_sums.proofs.PairLemmas.{mapped}
-use Rattle.cil_member_updates.specs.Given.{IsUnchanged}
 use Rattle.cil_member_updates.proofs.NameLemmas.{unchanged-more}
 use Rattle.cil_member_updates.proofs.SymbolLemmas.{place-of}
 use Rattle.cil_member_updates.proofs.TurnedLemmas.{turned-first, turned-more}

@@ -1,8 +1,5 @@
 use Rattle.std.proofs.Common.{◌<◌, ℕ, get_or}
-use Rattle.cil_expression.specs.declared.expression.Element.TheVariants.{«Type»}
-use Rattle.cil_member_rows.specs.Rows.{count_before, count_now}
-use Rattle.cil_resolve.specs.Numbers.{element_of}
-use Rattle.cil_member_updates.specs.Given.{IsUnchanged}
+use Rattle.cil_member_updates.proofs.Common.{«Type», count_before, count_now, element_of, IsUnchanged}
 use Rattle.cil_member_updates.proofs.TurnedLemmas.{TurnedBelow}
 use Rattle.cil_member_updates.proofs.visits.changed_by_names.Given as goal
 

@@ -1,12 +1,5 @@
 use Rattle.std.proofs.Common.{◌≡◌, Contains, Some, rules, slice_get, subst, sym}
-use Rattle.cil_specs.specs.Expr.{leaves}
-use Rattle.cil_resolve.specs.Numbers.{element_of}
-use Rattle.cil_resolve.specs.Resolved.{meaning_in}
-use Rattle.cil_resolve.specs.Sets.{name_in}
-use Rattle.cil_member_updates.specs.Places.{set_at}
-use Rattle.cil_member_updates.specs.Bits.{Cover}
-use Rattle.cil_member_updates.specs.Given.{element_holds}
-use Rattle.cil_member_updates.specs.Policy.{counts_at}
+use Rattle.cil_member_updates.proofs.Common.{leaves, element_of, meaning_in, name_in, set_at, Cover, element_holds, counts_at}
 use Rattle.cil_member_updates.proofs.NameLemmas.{cover-attribute, cover-type, there-mentioned}
 use Rattle.cil_member_updates.proofs.SymbolLemmas.{symbol-name}
 use Rattle.cil_member_updates.proofs.visits.element_bits.Goals as goal

@@ -1,12 +1,6 @@
 use Rattle.std.proofs.Common.{get_or, subst, arith}
-use Rattle.cil_expression.specs.declared.expression.Element.TheVariants.{«Type»}
-use Rattle.cil_resolve.specs.Numbers.{element_of}
-use Rattle.cil_resolve.specs.Resolved.{meaning_in}
-use Rattle.cil_member_updates.specs.Places.{set_at}
+use Rattle.cil_member_updates.proofs.Common.{«Type», element_of, meaning_in, set_at, leaves, Cover, element_holds}
 use Rattle.cil_member_updates.proofs.PlaceLemmas.{set-there}
-use Rattle.cil_specs.specs.Expr.{leaves}
-use Rattle.cil_member_updates.specs.Bits.{Cover}
-use Rattle.cil_member_updates.specs.Given.{element_holds}
 use Rattle.cil_member_updates.proofs.BitLemmas.{cover-more}
 use Rattle.cil_member_updates.proofs.SymbolLemmas.{place-of}
 use Rattle.cil_member_updates.proofs.visits.name_bits.Goals as goal

@@ -1,9 +1,5 @@
 use Rattle.std.proofs.Common.{◌<◌, ℕ, get_or}
-use Rattle.cil_expression.specs.declared.expression.Element.TheVariants.{«Type»}
-use Rattle.cil_resolve.specs.Numbers.{element_of}
-use Rattle.cil_resolve.specs.Resolved.{meaning_in}
-use Rattle.cil_member_updates.specs.Bits.{Cover}
-use Rattle.cil_member_updates.specs.Given.{element_holds}
+use Rattle.cil_member_updates.proofs.Common.{«Type», element_of, meaning_in, Cover, element_holds}
 use Rattle.cil_member_updates.proofs.visits.name_bits.Given as goal
 
 -- the names so far are covered

@@ -1,9 +1,6 @@
 use Rattle.std.proofs.Common.{◌∙◌, sym, subst}
-use Rattle.cil_resolve.specs.Resolved.{meaning_in}
-use Rattle.cil_member_updates.specs.Places.{set_at}
+use Rattle.cil_member_updates.proofs.Common.{meaning_in, set_at, AreBits, keeps}
 use Rattle.cil_member_updates.proofs.PlaceLemmas.{set-there}
-use Rattle.cil_member_updates.specs.Bits.{AreBits}
-use Rattle.cil_member_updates.specs.Given.{keeps}
 use Rattle.cil_member_updates.proofs.NameLemmas.{cover-kept, cover-reach}
 use Rattle.cil_member_updates.proofs.visits.reached.Goals as goal
 

@@ -1,14 +1,5 @@
 use Rattle.std.proofs.Common.{◌≡◌, ℕ, List, IsTrue, Some, arith, bit_or, bit_xor, slice_get, subst, sym}
-use Rattle.std.proofs.lemmas.List.Elements.{Contains-get_or}
-use Rattle.std.proofs.lemmas.Nat.Bits.{bit_at_or, bit_at_xor, bit_at-lt}
-use Rattle.cil_specs.specs.Rule.{an_attribute}
-use Rattle.cil_specs.specs.Sets.{mentions}
-use Rattle.cil_member_rows.specs.Rows.{count_before, count_now}
-use Rattle.cil_resolve.specs.Resolved.{meaning_in}
-use Rattle.cil_resolve.specs.Sets.{sets_in}
-use Rattle.cil_member_updates.specs.Places.{no_set, set_at}
-use Rattle.cil_member_updates.specs.Bits.{AreBits}
-use Rattle.cil_member_updates.specs.Given.{keeps}
+use Rattle.cil_member_updates.proofs.Common.{Contains-get_or, bit_at_or, bit_at_xor, bit_at-lt, an_attribute, mentions, count_before, count_now, meaning_in, sets_in, no_set, set_at, AreBits, keeps}
 use Rattle.cil_member_updates.proofs.NameLemmas.{cover-stayed, mention-there, unchanged-first}
 use Rattle.cil_member_updates.proofs.RenewLemmas.{same-expr}
 use Rattle.cil_member_updates.proofs.SymbolLemmas.{symbol-of}

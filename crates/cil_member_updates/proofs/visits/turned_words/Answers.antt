@@ -1,12 +1,5 @@
 use Rattle.std.proofs.Common.{◌≡◌, ℕ, List, IsTrue, Some, ap, slice_get, slice_index}
-use Rattle.std.specs.Int.{bit_at}
-use Rattle.std.proofs.lemmas.List.Elements.{Contains-get_or}
-use Rattle.cil_specs.specs.Rule.{an_attribute}
-use Rattle.cil_specs.specs.Sets.{mentions}
-use Rattle.cil_member_rows.specs.Rows.{count_before, count_now}
-use Rattle.cil_resolve.specs.Resolved.{meaning_in}
-use Rattle.cil_resolve.specs.Sets.{sets_in}
-use Rattle.cil_member_updates.specs.Places.{no_set, set_at}
+use Rattle.cil_member_updates.proofs.Common.{bit_at, Contains-get_or, an_attribute, mentions, count_before, count_now, meaning_in, sets_in, no_set, set_at}
 use Rattle.cil_member_updates.proofs.NameLemmas.{cover-stayed, mention-there}
 use Rattle.cil_member_updates.proofs.RenewLemmas.{same-expr}
 use Rattle.cil_member_updates.proofs.SymbolLemmas.{symbol-of}

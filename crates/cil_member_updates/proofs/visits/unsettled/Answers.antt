@@ -1,10 +1,5 @@
 use Rattle.std.proofs.Common.{subst}
-use Rattle.cil_resolve.specs.Resolved.{meaning_in}
-use Rattle.cil_member_updates.specs.Places.{set_at}
-use Rattle.cil_specs.specs.Sets.{differ}
-use Rattle.cil_member_updates.specs.Bits.{Cover}
-use Rattle.cil_member_updates.specs.Evaluated.{AreUnsettledAt}
-use Rattle.cil_member_updates.specs.Given.{holds}
+use Rattle.cil_member_updates.proofs.Common.{meaning_in, set_at, differ, Cover, AreUnsettledAt, holds}
 use Rattle.cil_member_updates.proofs.BitLemmas.{cover-either, set-among}
 use Rattle.cil_member_updates.proofs.visits.unsettled.Goals as goal
 

@@ -1,9 +1,5 @@
 use Rattle.std.proofs.Common.{◌≡◌, Some, rules, slice_get, subst, sym}
-use Rattle.cil_member_rows.specs.Rows.{count_before, count_now}
-use Rattle.cil_member_rows.specs.Words.{IsOutside}
-use Rattle.cil_resolve.specs.Numbers.{element_of}
-use Rattle.cil_resolve.specs.Sets.{name_in}
-use Rattle.cil_member_updates.specs.Given.{IsUnchanged}
+use Rattle.cil_member_updates.proofs.Common.{count_before, count_now, IsOutside, element_of, name_in, IsUnchanged}
 use Rattle.cil_member_updates.proofs.StayLemmas.{unchanged-word}
 use Rattle.cil_member_updates.proofs.SymbolLemmas.{symbol-name}
 use Rattle.cil_member_updates.proofs.visits.words_of_name.Goals as goal

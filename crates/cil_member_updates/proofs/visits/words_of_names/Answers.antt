@@ -1,12 +1,6 @@
 use Rattle.std.proofs.Common.{ℕ, get_or, subst, arith, below_more}
-use Rattle.cil_expression.specs.declared.expression.Element.TheVariants.{«Type»}
-use Rattle.cil_member_rows.specs.Rows.{count_before, count_now}
-use Rattle.cil_member_rows.specs.Words.{IsOutside}
-use Rattle.cil_resolve.specs.Numbers.{element_of}
-use Rattle.cil_member_updates.specs.Places.{set_at}
+use Rattle.cil_member_updates.proofs.Common.{«Type», count_before, count_now, IsOutside, element_of, set_at, leaves, IsUnchanged}
 use Rattle.cil_member_updates.proofs.PlaceLemmas.{set-there}
-use Rattle.cil_specs.specs.Expr.{leaves}
-use Rattle.cil_member_updates.specs.Given.{IsUnchanged}
 use Rattle.cil_member_updates.proofs.SymbolLemmas.{place-of}
 use Rattle.cil_member_updates.proofs.visits.words_of_names.Goals as goal
 

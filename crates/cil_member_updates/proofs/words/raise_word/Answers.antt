@@ -1,13 +1,5 @@
 use Rattle.std.proofs.Common.{refl, arith, slice_index}
-use Rattle.std.proofs.lemmas.Option.{slice_get_within}
-use Rattle.std.proofs.lemmas.Result.{on_ok_weaker}
-use Rattle.cil_member_rows.specs.Rows.{count_now}
-use Rattle.cil_resolve.specs.Meter.{evaluations_in}
-use Rattle.cil_resolve.specs.Resolved.{meaning_in}
-use Rattle.cil_member_updates.specs.Places.{set_at}
-use Rattle.cil_member_updates.specs.Evaluated.{IsKept}
-use Rattle.cil_member_updates.specs.Given.{holds, keeps}
-use Rattle.cil_member_updates.specs.Policy.{given}
+use Rattle.cil_member_updates.proofs.Common.{slice_get_within, on_ok_weaker, count_now, evaluations_in, meaning_in, set_at, IsKept, holds, keeps, given}
 use Rattle.cil_member_updates.proofs.BitLemmas.{held-zero}
 use Rattle.cil_member_updates.proofs.EvaluatedLemmas.{word-none, word-once}
 use Rattle.cil_member_updates.proofs.NameLemmas.{holds-keeps}

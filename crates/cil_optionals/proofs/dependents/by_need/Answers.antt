@@ -1,7 +1,5 @@
 use Rattle.std.proofs.Common.{◌≡◌, ◌+◌, ◌++◌, [], ◌∷◌, length, sym, subst, arith, take, get_or, None}
-use Rattle.std.proofs.lemmas.List.{take_more, take_all, length-take}
-use Rattle.cil_optionals.specs.Dependents.{AreDependents}
-use Rattle.cil_optionals.specs.declared.greatest.Need.{Need}
+use Rattle.cil_optionals.proofs.Common.{take_more, take_all, length-take, AreDependents, Need}
 use Rattle.cil_optionals.proofs.DependentLemmas.{dependents-push, dependents-within}
 use Rattle.cil_optionals.proofs.dependents.by_need.Goals as goal
 

@@ -1,7 +1,4 @@
-use Rattle.std.proofs.lemmas.List.Elements.{All-weaker}
-use Rattle.std.proofs.lemmas.List.Sorted.{Contains-permutation, IsPermutation-sym}
-use Rattle.cil_optionals.specs.Needs.{meeting}
-use Rattle.cil_optionals.specs.Dependents.{dependent, IsDependent}
+use Rattle.cil_optionals.proofs.Common.{All-weaker, Contains-permutation, IsPermutation-sym, meeting, dependent, IsDependent}
 use Rattle.cil_optionals.proofs.dependents.dependents.Goals as goal
 
 pub returns-clause-within : goal.returns-clause-within

@@ -1,8 +1,5 @@
 use Rattle.std.proofs.Common.{ltb, leb, get_or, arith, rules}
-use Rattle.std.proofs.lemmas.List.Sorted.{IsPartitionPoint-from_clause, IsPartitionedBy-leb, IsPartitionedBy-ltb}
-use Rattle.std.proofs.lemmas.Option.{slice_get-get_or}
-use Rattle.cil_optionals.specs.Dependents.{node_of}
-use Rattle.cil_optionals.specs.declared.dependents.Dependent.{Dependent}
+use Rattle.cil_optionals.proofs.Common.{IsPartitionPoint-from_clause, IsPartitionedBy-leb, IsPartitionedBy-ltb, slice_get-get_or, node_of, Dependent}
 use Rattle.cil_optionals.proofs.DependentLemmas.{opened-more, opened-all, IsStart, IsEnd}
 use Rattle.cil_optionals.proofs.dependents.reopen.Goals as goal
 

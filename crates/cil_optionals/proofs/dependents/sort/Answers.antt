@@ -1,7 +1,5 @@
 use Rattle.std.proofs.Common.{rules}
-use Rattle.std.proofs.lemmas.List.Sorted.{IsNonDecreasingBy-from_sort_by_key}
-use Rattle.std.proofs.lemmas.Result.{on_ok_weaker}
-use Rattle.cil_optionals.specs.Dependents.{node_of}
+use Rattle.cil_optionals.proofs.Common.{IsNonDecreasingBy-from_sort_by_key, on_ok_weaker, node_of}
 use Rattle.cil_optionals.proofs.dependents.sort.Goals as goal
 
 pub returns-clause-sorted : goal.returns-clause-sorted

@@ -1,9 +1,5 @@
 use Rattle.std.proofs.Common.{◌≡◌, ◌≢◌, ◌<◌, ◌+◌, true, false, length, None, get_or, replicate, sym, ◌∙◌, subst, arith, All}
-use Rattle.std.proofs.lemmas.List.{get_or-set_other, get_or-replicate, length-replicate, length-set, nil_from_length}
-use Rattle.std.specs.List.{range_with_len}
-use Rattle.cil_optionals.specs.Dependents.{AreReopened}
-use Rattle.cil_optionals.specs.Needs.{is_met, is_need_below}
-use Rattle.cil_optionals.specs.declared.greatest.Need.{Need}
+use Rattle.cil_optionals.proofs.Common.{get_or-set_other, get_or-replicate, length-replicate, length-set, nil_from_length, range_with_len, AreReopened, is_met, is_need_below, Need}
 use Rattle.cil_optionals.proofs.GreatestLemmas.{has_kept, AreSettled, IsAbove, looked, tested-met, tested-unmet, unmet-kept, measure-less, reopened-below, settled-all, above-all, range-below, settled-met, settled-taken, settled-none, above-taken}
 use Rattle.cil_optionals.proofs.greatest.greatest.Goals as goal
 

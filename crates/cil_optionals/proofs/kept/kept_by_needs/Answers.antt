@@ -1,9 +1,5 @@
 use Rattle.std.proofs.Common.{◌≡◌, ◌<◌, ◌+◌, ◌++◌, false, length, get_or, sym, ap, ◌∙◌, subst, arith}
-use Rattle.std.specs.List.{list_all}
-use Rattle.std.proofs.lemmas.List.{get_or-take}
-use Rattle.cil_bind.proofs.DeclareLemmas.{rows-length}
-use Rattle.cil_optionals.specs.Needs.{are_met, is_need_below}
-use Rattle.cil_optionals.specs.Nested.{ShowsKept}
+use Rattle.cil_optionals.proofs.Common.{list_all, get_or-take, rows-length, are_met, is_need_below, ShowsKept}
 use Rattle.cil_optionals.proofs.KeptLemmas.{rows-there, all-below, shows-kept, shows-taken}
 use Rattle.cil_optionals.proofs.kept.kept_by_needs.Goals as goal
 

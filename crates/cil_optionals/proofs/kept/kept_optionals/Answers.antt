@@ -1,8 +1,5 @@
 use Rattle.std.proofs.Common.{◌≡◌, ◌+◌, true, false, not, length, get_or, sym, ap, ◌∙◌, subst, arith}
-use Rattle.std.specs.List.{list_all}
-use Rattle.std.proofs.lemmas.List.{get_or-replicate, length-replicate}
-use Rattle.std.proofs.lemmas.Result.{IfOk-weaker}
-use Rattle.cil_optionals.specs.Nested.{ShowsKept}
+use Rattle.cil_optionals.proofs.Common.{list_all, get_or-replicate, length-replicate, IfOk-weaker, ShowsKept}
 use Rattle.cil_optionals.proofs.KeptLemmas.{shows-all}
 use Rattle.cil_optionals.proofs.kept.kept_optionals.Goals as goal
 

@@ -1,7 +1,5 @@
 use Rattle.std.proofs.Common.{◌<◌, length, sym, ◌∙◌, subst, None, arith}
-use Rattle.std.proofs.lemmas.Option.{same_Some}
-use Rattle.cil_optionals.specs.Asks.{AddsNeed, IsOf, optional_at}
-use Rattle.cil_optionals.specs.Providers.{IsReady}
+use Rattle.cil_optionals.proofs.Common.{same_Some, AddsNeed, IsOf, optional_at, IsReady}
 use Rattle.cil_optionals.proofs.AsksLemmas.{row-one, around-low}
 use Rattle.cil_optionals.proofs.ProviderLemmas.{row-of}
 use Rattle.cil_optionals.proofs.OthersLemmas.{of-row, module-low, asks-there, asks-lacking}

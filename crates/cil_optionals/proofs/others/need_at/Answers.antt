@@ -1,7 +1,5 @@
 use Rattle.std.proofs.Common.{◌+◌, ◌&&◌, ap, subst}
-use Rattle.cil_specs.specs.Kept.{restricted}
-use Rattle.cil_specs.specs.Lookup.{references, named_permissions}
-use Rattle.cil_optionals.specs.Asks.{are_found, are_there, row_optional, Asks}
+use Rattle.cil_optionals.proofs.Common.{restricted, references, named_permissions, are_found, are_there, row_optional, Asks}
 use Rattle.cil_optionals.proofs.ProviderLemmas.{row-of}
 use Rattle.cil_optionals.proofs.OthersLemmas.{others-skip, others-asks}
 use Rattle.cil_optionals.proofs.others.need_at.Goals as goal

@@ -1,7 +1,5 @@
 use Rattle.std.proofs.Common.{◌≤◌, length, refl, sym, ◌∙◌, subst, arith}
-use Rattle.cil_bind.proofs.DeclareLemmas.{rows-length}
-use Rattle.cil_optionals.specs.Given.{permissions_in}
-use Rattle.cil_optionals.specs.Permissions.{HavePermissions}
+use Rattle.cil_optionals.proofs.Common.{rows-length, permissions_in, HavePermissions}
 use Rattle.cil_optionals.proofs.OthersLemmas.{others-none, others-all}
 use Rattle.cil_optionals.proofs.others.others_by.Goals as goal
 

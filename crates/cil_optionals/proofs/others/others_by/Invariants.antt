@@ -1,9 +1,5 @@
 use Rattle.std.proofs.Common.{◌≡◌, List}
-use Rattle.cil_specs.specs.Joined.{Placed}
-use Rattle.cil_optionals.specs.Given.{permissions_in}
-use Rattle.cil_optionals.specs.Others.{AreOthersTo}
-use Rattle.cil_optionals.specs.Permissions.{HavePermissions}
-use Rattle.cil_optionals.specs.Providers.{IsReady}
+use Rattle.cil_optionals.proofs.Common.{Placed, permissions_in, AreOthersTo, HavePermissions, IsReady}
 use Rattle.cil_optionals.proofs.others.others_by.Given as goal
 
 -- so many rows

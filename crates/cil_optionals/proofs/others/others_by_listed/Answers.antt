@@ -1,7 +1,5 @@
 use Rattle.std.proofs.Common.{sym, subst}
-use Rattle.std.proofs.lemmas.Result.{IfOk-weaker}
-use Rattle.cil_optionals.specs.Given.{permissions_in}
-use Rattle.cil_optionals.specs.Permissions.{HavePermissions}
+use Rattle.cil_optionals.proofs.Common.{IfOk-weaker, permissions_in, HavePermissions}
 use Rattle.cil_optionals.proofs.others.others_by_listed.Goals as goal
 
 pub returns : goal.returns

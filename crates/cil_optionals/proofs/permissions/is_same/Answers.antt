@@ -1,6 +1,5 @@
 use Rattle.std.proofs.Common.{◌≤◌, length, sym, ◌∙◌, arith}
-use Rattle.std.proofs.lemmas.List.{take_all}
-use Rattle.std.proofs.lemmas.Slice.Eq.{bytes_eq-Decides}
+use Rattle.cil_optionals.proofs.Common.{take_all, bytes_eq-Decides}
 use Rattle.cil_optionals.proofs.permissions.is_same.Goals as goal
 
 pub returns : goal.returns

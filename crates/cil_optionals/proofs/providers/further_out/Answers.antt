@@ -1,7 +1,6 @@
 use Rattle.std.proofs.Common.{sym, subst}
-use Rattle.cil_bind.specs.Lookup.{word_at, table_of, IsLead}
+use Rattle.cil_optionals.proofs.Common.{word_at, table_of, IsLead, further_out}
 use Rattle.cil_bind.proofs.LookupLemmas.{around}
-use Rattle.cil_optionals.specs.Providers.{further_out}
 use Rattle.cil_optionals.proofs.providers.further_out.Goals as goal
 
 pub returns : goal.returns

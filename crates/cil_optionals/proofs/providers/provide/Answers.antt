@@ -1,8 +1,5 @@
 use Rattle.std.proofs.Common.{◌+◌, ◌∷◌, sym, ap, ◌∙◌, subst, arith}
-use Rattle.std.proofs.lemmas.Option.{same_Some}
-use Rattle.std.specs.Option.{option_to_list}
-use Rattle.cil_bind.proofs.DeclareLemmas.{rows-length}
-use Rattle.cil_optionals.specs.Providers.{alternatives, IsDeclaration, AreProviders}
+use Rattle.cil_optionals.proofs.Common.{same_Some, option_to_list, rows-length, alternatives, IsDeclaration, AreProviders}
 use Rattle.cil_optionals.proofs.ProviderLemmas.{providers-skip, providers-next, row-nothing, row-scopes, row-of, row-next}
 use Rattle.cil_optionals.proofs.providers.provide.Goals as goal
 

@@ -1,7 +1,5 @@
 use Rattle.std.proofs.Common.{List}
-use Rattle.cil_specs.specs.Joined.{Placed}
-use Rattle.cil_bind.specs.declared.joined.NamedModule.{NamedModule}
-use Rattle.cil_optionals.specs.Providers.{IsReady, AreProviders}
+use Rattle.cil_optionals.proofs.Common.{Placed, NamedModule, IsReady, AreProviders}
 use Rattle.cil_optionals.proofs.providers.providers.Given as goal
 
 -- the names of so many rows

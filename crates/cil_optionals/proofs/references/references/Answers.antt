@@ -1,11 +1,5 @@
 use Rattle.std.proofs.Common.{◌≤◌, ◌<◌, ◌+◌, [], not, ◌&&◌, None, IfSome, length, get_or, take, refl, sym, ap, subst, arith}
-use Rattle.cil_specs.specs.Kept.{restricted}
-use Rattle.cil_specs.specs.Lookup.{references, leads}
-use Rattle.cil_specs.specs.PolicyFault.{is_unfound}
-use Rattle.cil_bind.proofs.DeclareLemmas.{rows-length}
-use Rattle.cil_parse.specs.Parsed.{texts_of}
-use Rattle.cil_bind.specs.Lookup.{table_of}
-use Rattle.cil_optionals.specs.Asks.{are_found, optional_at, AddsNeed}
+use Rattle.cil_optionals.proofs.Common.{restricted, references, leads, is_unfound, rows-length, texts_of, table_of, are_found, optional_at, AddsNeed}
 use Rattle.cil_optionals.proofs.AsksLemmas.{asks-none, asks-same, asks-need, bound-at, row-one, leads-of, seen-of, reference-of, reference-there, reference-met, reference-lead, found-next, found-outside, found-all}
 use Rattle.cil_optionals.proofs.references.references.Goals as goal
 

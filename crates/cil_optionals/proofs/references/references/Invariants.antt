@@ -1,10 +1,5 @@
 use Rattle.std.proofs.Common.{◌≡◌, List, Some, slice_get, take}
-use Rattle.cil_specs.specs.Joined.{Placed}
-use Rattle.cil_specs.specs.Kept.{restricted}
-use Rattle.cil_specs.specs.Lookup.{references}
-use Rattle.cil_bind.specs.declared.joined.NamedModule.{NamedModule}
-use Rattle.cil_optionals.specs.Providers.{IsReady}
-use Rattle.cil_optionals.specs.Asks.{are_found, optional_at, Asks, IsOf}
+use Rattle.cil_optionals.proofs.Common.{Placed, restricted, references, NamedModule, IsReady, are_found, optional_at, Asks, IsOf}
 use Rattle.cil_optionals.proofs.references.references.Given as goal
 
 -- so many references

@@ -1,7 +1,5 @@
 use Rattle.std.proofs.Common.{◌∙◌, ap, sym, map}
-use Rattle.cil_text.specs.Image.{word_of}
-use Rattle.cil_text.specs.Form.{form_of}
-use Rattle.cil_parse.specs.Forms.{kind_of}
+use Rattle.cil_parse.proofs.Common.{word_of, form_of, kind_of}
 use Rattle.cil_parse.proofs.builder.kind.Goals as goal
 
 pub returns-in-Rule : goal.returns-in-Rule

@@ -1,6 +1,4 @@
-use Rattle.cil_specs.specs.Shape.{IsFirstShapeFault}
-use Rattle.cil_text.specs.Forest.{forest_of}
-use Rattle.cil_text.proofs.FirstBad.{handed_on, fault_weaker}
+use Rattle.cil_parse.proofs.Common.{IsFirstShapeFault, forest_of, handed_on, fault_weaker}
 use Rattle.cil_specs.specs.ModuleText.{IsTextFault, in_shape}
 use Rattle.cil_parse.proofs.from_text.parse.Goals as goal
 

@@ -6,7 +6,7 @@ use Rattle.cil_keyed_lines.specs.Keyed.{count_now, hit_of, is_key}
 use Rattle.cil_keyed_lines.specs.declared.symbol_key.SymbolKey.{SymbolKey}
 use Rattle.cil_keyed_lines.proofs.KeyedLemmas.{one_key}
 use Rattle.cil_rule_shifts.proofs.ShiftLemmas.{hit-keyed}
-use Rattle.cil_symbol_changes.specs.Numbered.{AreNumbered, ArePresentNumbered, IsNumbered}
+use Rattle.cil_symbol_changes.specs.Numbered.{ArePresentNumbered, IsNumbered}
 use Rattle.cil_part_tests.proofs.symbol_changes.shift.Goals as goal
 
 -- a target of a mask stands in its word

@@ -1,10 +1,7 @@
 use Rattle.std.proofs.Common.{◌≡◌, ◌∙◌, ◌⊎◌, inl, inr, ℕ, List, Bool, true, false, true≢false, [], codes, Option, Some, unwrap_or, ap, sym, subst}
-use Rattle.std.proofs.lemmas.Result.{IfOk-weaker}
-use Rattle.clap.specs.Walk.{Row, Text, rows_of}
+use Rattle.cil_program.proofs.Common.{IfOk-weaker, Row, Text, rows_of, CompilesFiles, Content, IsReportAsked, IsReportFor, IsToBeWritten, files_asked}
 use Rattle.clap.specs.Matches.{found_of}
 use Rattle.clap.proofs.WalkLemmas.{one_text-rows, raw_values-rows}
-use Rattle.cil_program.specs.CommandLine.{CompilesFiles, Content}
-use Rattle.cil_program.specs.Program.{IsReportAsked, IsReportFor, IsToBeWritten, files_asked}
 use Rattle.cil_program.proofs.CommandLineLemmas.{on-err}
 use Rattle.cil_program.specs.declared.command_line.compile.Report.{Report}
 use Rattle.cil_program.specs.declared.command_line.compile.Report.TheVariants.{Listing, Violations}

@@ -1,11 +1,5 @@
 use Rattle.std.proofs.Common.{◌≡◌, ◌≢◌, ◌∙◌, ◌⊎◌, inl, inr, Result, Ok, Err, OnOk, IfOk, refl, sym, subst}
-use Rattle.std.proofs.lemmas.Result.{IfOk-weaker}
-use Rattle.cil_store_specs.specs.Store.{Store}
-use Rattle.cil_program.specs.CommandLine.{exit_status_of}
-use Rattle.cil_program.specs.Session.{Leaves, LeavesByRead, LeavesByWrite}
-use Rattle.cil_program.specs.declared.script.session.SessionFault.{SessionFault}
-use Rattle.cil_program.specs.declared.script.session.SessionFault.TheVariants.{Read, Write}
-use Rattle.cil_program.specs.declared.script.session.Status.{Status}
+use Rattle.cil_program.proofs.Common.{IfOk-weaker, Store, exit_status_of, Leaves, LeavesByRead, LeavesByWrite, SessionFault, Read, Write, Status}
 use Rattle.cil_program.specs.declared.script.session.Status.TheVariants.{Clean, Refused, Script}
 use Rattle.cil_program.proofs.command_line.answer_session.Goals as goal
 

@@ -1,14 +1,7 @@
 use Rattle.std.proofs.Common.{◌≡◌, ◌∙◌, ◌⊎◌, ◌≤◌, ◌<◌, inl, inr, ℕ, List, [], Result, Ok, Err, Option, IfOk, OnErr, option_map, unwrap_or, ap, sym, subst, arith}
 use Rattle.std.proofs.Math.Nat.{eq-or-lt_of_le}
-use Rattle.std.proofs.lemmas.Result.{IfOk-weaker}
-use Rattle.clap.specs.Walk.{Row, rows_of}
+use Rattle.cil_program.proofs.Common.{IfOk-weaker, Row, rows_of, Gains, GainsFront, HasFailed, failed-later, for_memory, refusal_line, untold, IsToBeWritten}
 use Rattle.clap.specs.Matches.{found_of}
-use Rattle.cil_stream.specs.Device.{Gains, GainsFront, HasFailed}
-use Rattle.cil_stream.proofs.Gaining.{failed-later}
-use Rattle.cil_store_specs.specs.Next.{for_memory}
-use Rattle.cil_store_specs.specs.Script.{refusal_line}
-use Rattle.cil_program.specs.CommandLine.{untold}
-use Rattle.cil_program.specs.Program.{IsToBeWritten}
 use Rattle.cil_program.proofs.CommandLineLemmas.{front-all, on-err}
 use Rattle.cil_program.proofs.command_line.command.Goals as goal
 

@@ -1,15 +1,7 @@
 use Rattle.std.proofs.Common.{◌∙◌, ℕ, List, [], ◌∷◌, All, map, ap, refl, sym, subst}
-use Rattle.std.specs.List.{AllZip}
+use Rattle.cil_program.proofs.Common.{AllZip, IfOk-weaker, Gains, GainsFront, gains-none, Entry, for_memory, refusal_line, entry_of, Content, IsEntryAt, IsEntryFor, IsReadOf, compiles, is_unreadable, is_not_held, unreadable_line}
 use Rattle.std.proofs.lemmas.List.Elements.{All-head, All-tail}
-use Rattle.std.proofs.lemmas.Result.{IfOk-weaker}
 use Rattle.cil_specs.proofs.NamesLemmas.{contains-map}
-use Rattle.cil_stream.specs.Device.{Gains, GainsFront}
-use Rattle.cil_stream.proofs.Gaining.{gains-none}
-use Rattle.cil_store_specs.specs.Store.{Entry}
-use Rattle.cil_store_specs.specs.Next.{for_memory}
-use Rattle.cil_store_specs.specs.Script.{refusal_line}
-use Rattle.cil_store.specs.Stored.{entry_of}
-use Rattle.cil_program.specs.CommandLine.{Content, IsEntryAt, IsEntryFor, IsReadOf, compiles, is_unreadable, is_not_held, unreadable_line}
 use Rattle.cil_program.proofs.CommandLineLemmas.{front-none, on-err}
 use Rattle.cil_program.proofs.command_line.compile_files.Goals as goal
 

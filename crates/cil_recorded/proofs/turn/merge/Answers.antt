@@ -1,10 +1,7 @@
 use Rattle.std.proofs.Common.{◌≡◌, ◌≤◌, ℕ, length, refl, ap, get_or, take_all, arith}
-use Rattle.std.proofs.lemmas.List.{get_or_default}
-use Rattle.std.proofs.lemmas.List.Sums.{sum_by_more, sum_by_push}
+use Rattle.cil_recorded.proofs.Common.{get_or_default, sum_by_more, sum_by_push, Turn, balance_of, turn_key, key_of}
 use Rattle.cil_recorded.proofs.LogLemmas.{hit_nothing}
 use Rattle.cil_recorded.proofs.TurnLemmas.{ascends-push, next-push}
-use Rattle.cil_recorded.specs.declared.turn.Turn.{Turn}
-use Rattle.cil_recorded.specs.Differences.{balance_of, turn_key, key_of}
 use Rattle.cil_recorded.proofs.turn.merge.Goals as goal
 use Rattle.cil_recorded.proofs.turn.merge.Goals.{then-is_same_word, else-is_same_word+in_ok-push}
 

@@ -1,7 +1,6 @@
 use Rattle.std.proofs.Common.{◌∙◌, ap, arith}
-use Rattle.std.proofs.lemmas.List.{with_items_is}
+use Rattle.cil_recorded.proofs.Common.{with_items_is, balance_at}
 use Rattle.cil_recorded.proofs.TurnLemmas.{IfOk-map}
-use Rattle.cil_recorded.specs.Differences.{balance_at}
 use Rattle.cil_recorded.proofs.turn.net_turns.Goals as goal
 
 pub merge-requires : goal.merge-requires

@@ -1,6 +1,5 @@
 use Rattle.std.proofs.Common.{◌+◌, ◌∙◌, [], ap}
-use Rattle.std.proofs.lemmas.List.{get_or_default}
-use Rattle.cil_lines.specs.Line.{Counters, count_of, hit}
+use Rattle.cil_recorded.proofs.Common.{get_or_default, Counters, count_of, hit}
 use Rattle.cil_recorded.proofs.LogLemmas.{set_raised}
 use Rattle.cil_recorded.proofs.word_steps.raise.Goals as goal
 

@@ -1,10 +1,5 @@
 use Rattle.std.proofs.Common.{◌≡◌, ◌++◌, [], ◌∷◌, map, sym, ap, ◌∙◌, arith, append-nil}
-use Rattle.std.proofs.lemmas.List.{map-append}
-use Rattle.cil_bind.proofs.DeclareLemmas.{rows-length}
-use Rattle.cil_check.proofs.SeenLemmas.{there-at}
-use Rattle.cil_resolve.specs.Dropped.{dropped_if}
-use Rattle.cil_resolve.specs.Lowering.{modules_of}
-use Rattle.cil_resolve.specs.Numbers.{dropped_with}
+use Rattle.cil_resolve.proofs.Common.{map-append, rows-length, there-at, dropped_if, modules_of, dropped_with}
 use Rattle.cil_resolve.proofs.DroppedLemmas.{row-here, row-optional, one-dropped, kept-none, other-none}
 use Rattle.cil_resolve.proofs.dropped.add_dropped.Goals as goal
 use Rattle.cil_resolve.proofs.dropped.add_dropped.Goals.{else-row-via-then-row+else-not-is_marked, else-row-via-else-row}

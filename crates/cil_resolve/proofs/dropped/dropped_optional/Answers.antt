@@ -1,10 +1,6 @@
 use Rattle.std.proofs.Common.{◌<◌, length, arith, rules, sym, ap, ◌∙◌}
-use Rattle.std.proofs.lemmas.List.{length-map}
-use Rattle.std.proofs.lemmas.Option.{none-some}
-use Rattle.cil_specs.specs.Lookup.{declared_in, scopes, full_name, word_text}
+use Rattle.cil_resolve.proofs.Common.{length-map, none-some, declared_in, scopes, full_name, word_text, texts_of, is-there, from-within}
 use Rattle.cil_parse.specs.Kinds.{table_of}
-use Rattle.cil_parse.specs.Parsed.{texts_of}
-use Rattle.cil_bind.proofs.FromLemmas.{is-there, from-within}
 use Rattle.cil_bind.proofs.ScopeLemmas.{read-text, read-within}
 use Rattle.cil_bind.proofs.TwiceLemmas.{declares-one}
 use Rattle.cil_resolve.proofs.FullNamesLemmas.{space_name_of}

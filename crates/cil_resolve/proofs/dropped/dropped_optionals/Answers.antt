@@ -1,8 +1,5 @@
-use Rattle.std.proofs.Common.{◌≡◌, ◌≤◌, ◌+◌, ◌++◌, length, map, take, flat_map, sym, ap, ◌∙◌, arith}
-use Rattle.std.proofs.lemmas.List.{take_all}
-use Rattle.cil_bind.proofs.DeclareLemmas.{rows-length}
-use Rattle.cil_check.proofs.SeenLemmas.{there-at}
-use Rattle.cil_resolve.specs.Dropped.{dropped_if}
+use Rattle.std.proofs.Common.{◌≤◌, ◌+◌, ◌++◌, length, map, take, flat_map, sym, ap, ◌∙◌, arith}
+use Rattle.cil_resolve.proofs.Common.{take_all, rows-length, there-at, dropped_if}
 use Rattle.cil_resolve.proofs.StatementLemmas.{flat-one}
 use Rattle.cil_resolve.proofs.dropped.dropped_optionals.Goals as goal
 

@@ -1,10 +1,5 @@
 use Rattle.std.proofs.Common.{◌≡◌, List, map, take, flat_map}
-use Rattle.cil_specs.specs.Joined.{Placed}
-use Rattle.cil_specs.specs.Kept.{Optionals}
-use Rattle.cil_bind.specs.Policy.{IsBoundTo}
-use Rattle.cil_resolve.specs.Dropped.{dropped_if, HaveMarks}
-use Rattle.cil_resolve.specs.Lowering.{modules_of}
-use Rattle.cil_resolve.specs.Numbers.{dropped_with}
+use Rattle.cil_resolve.proofs.Common.{Placed, Optionals, IsBoundTo, dropped_if, HaveMarks, modules_of, dropped_with}
 use Rattle.cil_resolve.proofs.dropped.dropped_optionals.Given as goal
 
 abbrev pub invariant-loop-i : goal.invariant-loop-i

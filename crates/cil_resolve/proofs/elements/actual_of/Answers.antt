@@ -1,7 +1,5 @@
-use Rattle.std.proofs.Common.{◌≡◌, ◌∙◌, Some, None, slice_get, sym, ap, subst}
-use Rattle.std.proofs.lemmas.Option.{none-some, same_Some}
-use Rattle.cil_specs.specs.Lookup.{types}
-use Rattle.cil_bind.specs.Lookup.{IsLead}
+use Rattle.std.proofs.Common.{◌≡◌, ◌∙◌, Some, slice_get, sym, ap, subst}
+use Rattle.cil_resolve.proofs.Common.{none-some, same_Some, types, IsLead}
 use Rattle.cil_resolve.proofs.ElementLemmas.{actual-here}
 use Rattle.cil_resolve.proofs.elements.actual_of.Goals as goal
 

@@ -1,7 +1,5 @@
-use Rattle.std.proofs.Common.{◌≡◌, ◌∙◌, Some, get_or, sym, ap, subst, refl}
-use Rattle.cil_specs.specs.Lookup.{types}
-use Rattle.cil_specs.specs.Rule.{element_at}
-use Rattle.cil_resolve.specs.Lowering.{IsElement}
+use Rattle.std.proofs.Common.{◌∙◌, sym, ap, subst}
+use Rattle.cil_resolve.proofs.Common.{types, element_at, IsElement}
 use Rattle.cil_expression.specs.declared.expression.Element.TheVariants as elements
 use Rattle.cil_resolve.proofs.ElementLemmas.{first-declares, element-type, element-attribute, element-alias, actual-here, set-given, alias-kind}
 use Rattle.cil_resolve.proofs.elements.element_at.Goals as goal

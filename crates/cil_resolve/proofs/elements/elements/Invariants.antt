@@ -1,8 +1,6 @@
-use Rattle.std.proofs.Common.{◌≡◌, ◌<◌, ℕ, List, length, slice_get, Some, get_or, IsTrue}
-use Rattle.cil_specs.specs.Joined.{Placed}
+use Rattle.std.proofs.Common.{◌≡◌, ℕ, List, length}
+use Rattle.cil_resolve.proofs.Common.{Placed, IsFaultless, HavePlaces}
 use Rattle.cil_check.specs.Checker.{IsNoted}
-use Rattle.cil_check.specs.Ordered.{IsFaultless}
-use Rattle.cil_resolve.specs.Numbering.{HavePlaces}
 use Rattle.cil_resolve.proofs.ElementLemmas.{HaveElementsBelow}
 use Rattle.cil_resolve.proofs.elements.elements.Given as goal
 

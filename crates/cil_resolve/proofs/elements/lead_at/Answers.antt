@@ -1,8 +1,5 @@
-use Rattle.std.proofs.Common.{◌≡◌, ◌≤◌, length, get_or, None, Option, ℕ, sym, ap, subst, arith}
-use Rattle.std.proofs.lemmas.Option.{slice_get_within}
-use Rattle.cil_specs.specs.Lookup.{leads}
-use Rattle.cil_bind.specs.Lookup.{IsLead}
-use Rattle.cil_check.proofs.SeenLemmas.{seen-lead}
+use Rattle.std.proofs.Common.{sym, subst}
+use Rattle.cil_resolve.proofs.Common.{leads, IsLead, seen-lead}
 use Rattle.cil_resolve.proofs.elements.lead_at.Goals as goal
 
 pub returns : goal.returns

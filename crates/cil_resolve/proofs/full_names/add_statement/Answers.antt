@@ -1,9 +1,5 @@
 use Rattle.std.proofs.Common.{◌≡◌, ◌<◌, ◌++◌, ◌∷◌, [], length, map, rules, arith, sym, ap, ◌∙◌}
-use Rattle.std.proofs.lemmas.List.{length-map}
-use Rattle.cil_specs.specs.Lookup.{full_name}
-use Rattle.cil_check.proofs.AskedLemmas.{reads-word}
-use Rattle.cil_check.proofs.SeenLemmas.{is-long, there-at}
-use Rattle.cil_resolve.specs.FullNames.{name_in, numbered_id, full_name_or, is_numbered_kind}
+use Rattle.cil_resolve.proofs.Common.{length-map, full_name, reads-word, is-long, there-at, name_in, numbered_id, full_name_or, is_numbered_kind}
 use Rattle.cil_resolve.proofs.FullNamesLemmas.{space_name_of, kind-absent, name-here, reads-absent}
 use Rattle.cil_resolve.proofs.StatementLemmas.{row-of}
 use Rattle.cil_resolve.proofs.full_names.add_statement.Goals as goal

@@ -1,6 +1,5 @@
-use Rattle.std.proofs.Common.{◌≡◌, ◌<◌, ◌++◌, ◌∷◌, length, [], map, arith, sym, ap, ◌∙◌}
-use Rattle.cil_check.proofs.SeenLemmas.{there-at}
-use Rattle.cil_resolve.specs.FullNames.{full_name_of}
+use Rattle.std.proofs.Common.{◌<◌, ◌++◌, ◌∷◌, length, [], map, arith, sym, ap, ◌∙◌}
+use Rattle.cil_resolve.proofs.Common.{there-at, full_name_of}
 use Rattle.cil_resolve.proofs.StatementLemmas.{map-one}
 use Rattle.cil_resolve.proofs.full_names.full_names.Goals as goal
 

@@ -1,7 +1,5 @@
 use Rattle.std.proofs.Common.{◌≡◌, [], List, map, take}
-use Rattle.cil_specs.specs.Joined.{Placed}
-use Rattle.cil_check.specs.Bound.{IsOf}
-use Rattle.cil_resolve.specs.FullNames.{full_name_of}
+use Rattle.cil_resolve.proofs.Common.{Placed, IsOf, full_name_of}
 use Rattle.cil_resolve.proofs.full_names.full_names.Given as goal
 
 abbrev pub invariant-loop-i : goal.invariant-loop-i

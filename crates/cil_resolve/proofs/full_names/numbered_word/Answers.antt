@@ -1,7 +1,5 @@
 use Rattle.std.proofs.Common.{◌∙◌, sym, ap}
-use Rattle.cil_check.proofs.AskedLemmas.{reads-as}
-use Rattle.cil_check.proofs.SeenLemmas.{seen-kind, seen-word}
-use Rattle.cil_resolve.specs.FullNames.{is_numbered_kind}
+use Rattle.cil_resolve.proofs.Common.{seen-kind, seen-word, is_numbered_kind}
 use Rattle.cil_resolve.proofs.FullNamesLemmas.{numbered-first}
 use Rattle.cil_resolve.proofs.full_names.numbered_word.Goals as goal
 

@@ -1,5 +1,5 @@
-use Rattle.std.proofs.Common.{◌∙◌, sym, ap}
-use Rattle.cil_resolve.proofs.FullNamesLemmas.{space_name_of, word-within, space-named, word-some, word-is}
+use Rattle.std.proofs.Common.{ap}
+use Rattle.cil_resolve.proofs.FullNamesLemmas.{word-within, space-named, word-some, word-is}
 use Rattle.cil_resolve.proofs.full_names.space_name.Goals as goal
 
 pub unwrap-word-requires : goal.unwrap-word-requires

@@ -1,22 +1,10 @@
-use Rattle.std.proofs.Common.{rules, ◌≡◌, ◌∙◌, List, [], ℕ, ◌<◌, ◌^◌, length, map, IsTrue, sym, ap, subst}
-use Rattle.std.specs.List.{list_all, AllPairs}
-use Rattle.std.specs.List.Sorted.{IsStrictlySortedBy}
-use Rattle.std.proofs.lemmas.List.{length-map}
-use Rattle.cil_specs.specs.Joined.{Placed}
-use Rattle.cil_specs.specs.Members.{HasSoundSets}
-use Rattle.cil_specs.specs.Meaning.{Meaning, meaning_of}
-use Rattle.cil_check.specs.Checker.{IsNoted}
-use Rattle.cil_check.specs.Ordered.{IsFaultless}
-use Rattle.cil_resolve.specs.Consistent.{are_rules_of, are_placed_in}
-use Rattle.cil_resolve.specs.Lowering.{HaveElements, modules_of}
-use Rattle.cil_resolve.specs.Numbering.{HavePlaces}
-use Rattle.cil_resolve.specs.Numbers.{declared_of, class_of, set_of, rule_of, dropped_with}
+use Rattle.std.proofs.Common.{rules, ◌≡◌, ◌∙◌, [], ◌<◌, ◌^◌, length, map, IsTrue, sym, ap, subst}
+use Rattle.cil_resolve.proofs.Common.{list_all, AllPairs, IsStrictlySortedBy, length-map, HasSoundSets, meaning_of, are_rules_of, are_placed_in, HaveElements, modules_of, HavePlaces, declared_of, class_of, set_of, dropped_with, HasNoCircle, is_set_below}
+use Rattle.cil_resolve.specs.Numbers.{rule_of}
 use Rattle.cil_resolve.proofs.ConsistentLemmas.{rules-declared}
 use Rattle.cil_resolve.proofs.PlacedLemmas.{from-named, all-placed}
-use Rattle.cil_specs.specs.Sets.{HasNoCircle}
 use Rattle.cil_specs.specs.Violations.{rule_cmp}
 use Rattle.cil_resolve.specs.Apart.{StandApart}
-use Rattle.cil_resolve.specs.Below.{is_set_below}
 use Rattle.cil_resolve.proofs.ApartLemmas.{sets-apart, sets-few}
 use Rattle.cil_resolve.proofs.RuleOrderLemmas.{rules-sorted}
 use Rattle.cil_resolve.proofs.SetNameLemmas.{numbers-straight}

@@ -1,12 +1,5 @@
-use Rattle.std.proofs.Common.{◌≡◌, ◌∙◌, ◌++◌, ◌∷◌, [], List, fold, sym, ap, true, false, if◌then◌else◌, append-nil}
-use Rattle.std.proofs.lemmas.List.Sums.{fold-append}
-use Rattle.cil_specs.specs.Lookup.{with_name, texts, own_permissions}
-use Rattle.cil_parse.specs.Forms.{kind_of, permissions_in}
-use Rattle.cil_parse.specs.Parsed.{texts_of}
-use Rattle.cil_check.specs.Permissions.{lists_own}
-use Rattle.cil_check.proofs.PermissionLemmas.{own-listed, none-listed}
-use Rattle.cil_check.proofs.SeenLemmas.{seen-kind}
-use Rattle.cil_resolve.specs.FullNames.{is_numbered, is_numbered_kind, full_name_of}
+use Rattle.std.proofs.Common.{◌≡◌, ◌∙◌, ◌∷◌, [], fold, sym, ap, true, false, if◌then◌else◌}
+use Rattle.cil_resolve.proofs.Common.{fold-append, with_name, texts, own_permissions, permissions_in, texts_of, lists_own, own-listed, seen-kind, is_numbered, is_numbered_kind, full_name_of}
 use Rattle.cil_resolve.proofs.FullNamesLemmas.{kind-numbered}
 use Rattle.cil_resolve.proofs.numbering.insert_names.Goals as goal
 use Rattle.cil_resolve.proofs.numbering.insert_names.Goals.{then-is_numbered+in_ok-insert, else-is_numbered}

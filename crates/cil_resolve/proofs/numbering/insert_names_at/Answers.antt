@@ -1,9 +1,5 @@
 use Rattle.std.proofs.Common.{◌∙◌, ◌||◌, [], fold, get_or, sym, ap}
-use Rattle.std.proofs.lemmas.Result.{on_ok_weaker}
-use Rattle.cil_specs.specs.Lookup.{with_name}
-use Rattle.cil_check.specs.Permissions.{lists_own}
-use Rattle.cil_check.proofs.SeenLemmas.{there-at}
-use Rattle.cil_resolve.specs.FullNames.{full_name_of, is_numbered_kind}
+use Rattle.cil_resolve.proofs.Common.{on_ok_weaker, with_name, lists_own, there-at, full_name_of, is_numbered_kind}
 use Rattle.cil_resolve.proofs.NumberLemmas.{none-brought}
 use Rattle.cil_resolve.proofs.StatementLemmas.{mapped-at}
 use Rattle.cil_resolve.proofs.numbering.insert_names_at.Goals as goal

@@ -1,8 +1,5 @@
-use Rattle.std.proofs.Common.{◌≡◌, ◌∙◌, sym, ap, fold, take, arith}
-use Rattle.std.proofs.lemmas.List.{take_all}
-use Rattle.cil_specs.specs.Lookup.{with_name, texts}
-use Rattle.cil_parse.specs.Parsed.{texts_of}
-use Rattle.cil_check.proofs.PermissionLemmas.{no_word, word-read, as-many}
+use Rattle.std.proofs.Common.{◌∙◌, sym, ap, fold, take, arith}
+use Rattle.cil_resolve.proofs.Common.{take_all, with_name, texts, texts_of, no_word, word-read, as-many}
 use Rattle.cil_resolve.proofs.NumberLemmas.{words-fold}
 use Rattle.cil_resolve.proofs.numbering.insert_words.Goals as goal
 

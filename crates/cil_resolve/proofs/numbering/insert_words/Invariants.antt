@@ -1,8 +1,5 @@
 use Rattle.std.proofs.Common.{◌≡◌, List, fold, map, take, Some}
-use Rattle.cil_specs.specs.Names.{Word}
-use Rattle.cil_specs.specs.Lookup.{with_name, texts}
-use Rattle.cil_parse.specs.Builder.{read}
-use Rattle.cil_parse.specs.Parsed.{texts_of}
+use Rattle.cil_resolve.proofs.Common.{Word, with_name, texts, read, texts_of}
 use Rattle.cil_resolve.proofs.numbering.insert_words.Given as goal
 
 abbrev pub invariant-loop-word : goal.invariant-loop-word

@@ -1,12 +1,5 @@
 use Rattle.std.proofs.Common.{◌≡◌, ◌<◌, ◌++◌, ◌∙◌, true, subst, length, sym, ap, arith, rules, take}
-use Rattle.std.specs.List.{AllByRecursion}
-use Rattle.std.proofs.lemmas.List.{take_all, length-set}
-use Rattle.std.proofs.lemmas.Option.{slice_get_within}
-use Rattle.cil_bind.proofs.FromLemmas.{all-get}
-use Rattle.cil_specs.specs.Lookup.{has_name, texts}
-use Rattle.cil_parse.specs.Parsed.{texts_of}
-use Rattle.cil_check.proofs.PermissionLemmas.{no_word, word-read, as-many, one-name-at}
-use Rattle.cil_resolve.specs.Numbering.{number_in, HavePermissionsOf}
+use Rattle.cil_resolve.proofs.Common.{take_all, length-set, slice_get_within, all-get, has_name, texts, texts_of, no_word, word-read, as-many, one-name-at, number_in, HavePermissionsOf}
 use Rattle.cil_resolve.proofs.NumberLemmas.{note-next}
 use Rattle.cil_resolve.proofs.numbering.note_words.Goals as goal
 

@@ -1,12 +1,7 @@
 use Rattle.std.proofs.Common.{◌≡◌, ◌++◌, ℕ, List, length, map, take, Some, bytes_eq}
-use Rattle.std.specs.List.{AllByRecursion, IsDistinct}
-use Rattle.cil_specs.specs.Names.{Word}
-use Rattle.cil_specs.specs.Lookup.{texts}
-use Rattle.cil_parse.specs.Builder.{read}
+use Rattle.cil_resolve.proofs.Common.{AllByRecursion, IsDistinct, Word, texts, read, texts_of, IsOneName, HavePermissionsOf}
 use Rattle.cil_parse.specs.Lexicon.{AreNumbersOf}
-use Rattle.cil_parse.specs.Parsed.{texts_of, names_of}
-use Rattle.cil_bind.specs.Written.{IsOneName}
-use Rattle.cil_resolve.specs.Numbering.{HavePermissionsOf}
+use Rattle.cil_parse.specs.Parsed.{names_of}
 use Rattle.cil_resolve.proofs.numbering.note_words.Given as goal
 
 abbrev pub invariant-loop-word : goal.invariant-loop-word

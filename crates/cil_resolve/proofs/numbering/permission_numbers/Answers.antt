@@ -1,14 +1,5 @@
-use Rattle.std.proofs.Common.{◌≡◌, ◌≤◌, ◌+◌, ◌++◌, ◌∙◌, length, take, map, Some, sym, ap, subst, arith, append-nil}
-use Rattle.std.specs.List.{AllByRecursion}
-use Rattle.std.proofs.lemmas.List.{take_all}
-use Rattle.cil_specs.specs.Lookup.{has_name, texts, own_permissions}
-use Rattle.cil_parse.specs.Forms.{permissions_in, kind_of}
-use Rattle.cil_parse.specs.Parsed.{texts_of}
-use Rattle.cil_bind.specs.Written.{IsOneName}
-use Rattle.cil_check.specs.Permissions.{lists_own}
-use Rattle.cil_check.proofs.PermissionLemmas.{own-listed, none-listed}
-use Rattle.cil_check.proofs.SeenLemmas.{there-at}
-use Rattle.cil_resolve.specs.Numbering.{names_with, listed_names, HavePermissionsOf}
+use Rattle.std.proofs.Common.{◌≡◌, ◌≤◌, ◌+◌, ◌++◌, ◌∙◌, length, take, sym, ap, subst, arith, append-nil}
+use Rattle.cil_resolve.proofs.Common.{AllByRecursion, take_all, has_name, texts, own_permissions, permissions_in, texts_of, IsOneName, lists_own, own-listed, none-listed, there-at, names_with, listed_names, HavePermissionsOf}
 use Rattle.cil_resolve.proofs.NumberLemmas.{has-words, named-in, own-named}
 use Rattle.cil_resolve.proofs.StatementLemmas.{at-place, flat-one}
 use Rattle.cil_resolve.proofs.numbering.permission_numbers.Goals as goal

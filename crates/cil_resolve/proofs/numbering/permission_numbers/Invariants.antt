@@ -1,7 +1,5 @@
-use Rattle.std.proofs.Common.{◌≡◌, ℕ, List, length, take}
-use Rattle.cil_specs.specs.Joined.{Placed}
-use Rattle.cil_check.specs.Bound.{IsOf}
-use Rattle.cil_resolve.specs.Numbering.{listed_names, HavePermissionsOf}
+use Rattle.std.proofs.Common.{◌≡◌, List, length, take}
+use Rattle.cil_resolve.proofs.Common.{Placed, IsOf, listed_names, HavePermissionsOf}
 use Rattle.cil_resolve.proofs.numbering.permission_numbers.Given as goal
 
 abbrev pub invariant-loop-i : goal.invariant-loop-i

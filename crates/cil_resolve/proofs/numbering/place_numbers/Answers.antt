@@ -1,10 +1,5 @@
-use Rattle.std.proofs.Common.{◌≡◌, ◌≤◌, ◌<◌, ◌+◌, ◌++◌, ◌∷◌, ◌∙◌, [], ℕ, length, get_or, sym, ap, subst, arith, true≢false, true}
-use Rattle.std.proofs.lemmas.List.{length_push}
-use Rattle.std.proofs.lemmas.Option.{slice_get_within}
-use Rattle.cil_specs.specs.Lookup.{has_name}
-use Rattle.cil_check.proofs.SeenLemmas.{there-at}
-use Rattle.cil_resolve.specs.FullNames.{is_numbered, is_numbered_kind, full_name_of}
-use Rattle.cil_resolve.specs.Numbering.{names_with, number_in}
+use Rattle.std.proofs.Common.{◌+◌, ◌∙◌, [], length, get_or, sym, ap, subst, arith, true≢false, true}
+use Rattle.cil_resolve.proofs.Common.{length_push, slice_get_within, has_name, there-at, is_numbered, is_numbered_kind, full_name_of, names_with, number_in}
 use Rattle.cil_resolve.proofs.FullNamesLemmas.{kind-numbered}
 use Rattle.cil_resolve.proofs.NumberLemmas.{HavePlacesBelow, place-next, full-named, named-in}
 use Rattle.cil_resolve.proofs.StatementLemmas.{mapped-at, at-place}

@@ -1,8 +1,5 @@
-use Rattle.std.proofs.Common.{◌≡◌, ◌<◌, ℕ, List, length, map, take, slice_get, Some, IsTrue, get_or}
-use Rattle.cil_specs.specs.Joined.{Placed}
-use Rattle.cil_check.specs.Bound.{IsOf}
-use Rattle.cil_resolve.specs.FullNames.{is_numbered, full_name_of}
-use Rattle.cil_resolve.specs.Numbering.{number_in}
+use Rattle.std.proofs.Common.{◌≡◌, ◌<◌, ℕ, List, length, map, slice_get, Some, IsTrue, get_or}
+use Rattle.cil_resolve.proofs.Common.{Placed, IsOf, is_numbered, full_name_of, number_in}
 use Rattle.cil_resolve.proofs.numbering.place_numbers.Given as goal
 
 abbrev pub invariant-loop-i : goal.invariant-loop-i

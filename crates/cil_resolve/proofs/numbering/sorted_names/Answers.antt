@@ -1,9 +1,5 @@
-use Rattle.std.proofs.Common.{◌≡◌, ◌≤◌, ◌∙◌, [], fold, take, length, sym, ap, arith}
-use Rattle.std.proofs.lemmas.List.{take_all}
-use Rattle.std.proofs.lemmas.List.Sums.{fold-append}
-use Rattle.cil_specs.specs.Lookup.{with_name, distinct}
-use Rattle.cil_check.proofs.SeenLemmas.{there-at}
-use Rattle.cil_resolve.specs.Numbering.{names_with, names_of}
+use Rattle.std.proofs.Common.{◌≤◌, ◌∙◌, [], fold, take, length, sym, ap, arith}
+use Rattle.cil_resolve.proofs.Common.{take_all, fold-append, with_name, distinct, there-at, names_with, names_of}
 use Rattle.cil_resolve.proofs.NumberLemmas.{names-sorted}
 use Rattle.cil_resolve.proofs.StatementLemmas.{flat-one}
 use Rattle.cil_resolve.proofs.numbering.sorted_names.Goals as goal

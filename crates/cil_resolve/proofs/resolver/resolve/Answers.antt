@@ -1,10 +1,5 @@
 use Rattle.std.proofs.Common.{ap}
-use Rattle.std.proofs.lemmas.Result.{err_from_is_err_and}
-use Rattle.cil_specs.specs.Joined.{joined}
-use Rattle.cil_specs.specs.Kept.{restricted, IsFirstFault}
-use Rattle.cil_bind.specs.Ordered.{IsLeast}
-use Rattle.cil_check.specs.Ordered.{IsFaultIn}
-use Rattle.cil_resolve.specs.Resolved.{meaning_in}
+use Rattle.cil_resolve.proofs.Common.{err_from_is_err_and, joined, restricted, IsFirstFault, IsLeast, IsFaultIn, meaning_in}
 use Rattle.cil_resolve.proofs.FaultLemmas.{fault-weaker}
 use Rattle.cil_resolve.proofs.JudgedLemmas.{judged-in-order, judged-first, kept-means}
 use Rattle.cil_resolve.proofs.resolver.resolve.Goals as goal

@@ -1,6 +1,5 @@
 use Rattle.std.proofs.Common.{◌≡◌, ◌↔◌, ℕ, length, take}
-use Rattle.cil_dependence.specs.Graph.{IsEdge}
-use Rattle.cil_resolve.specs.SetOrder.{IsNext}
+use Rattle.cil_resolve.proofs.Common.{IsEdge, IsNext}
 use Rattle.cil_resolve.proofs.set_order.graph.Given as goal
 
 -- the statements gone over have their edges

@@ -1,6 +1,5 @@
-use Rattle.std.proofs.Common.{◌≡◌, ◌∙◌, length, sym, subst}
-use Rattle.std.proofs.lemmas.Bool.{eqb-true}
-use Rattle.cil_resolve.specs.SetOrder.{IsSetOrder}
+use Rattle.std.proofs.Common.{◌∙◌, length, sym, subst}
+use Rattle.cil_resolve.proofs.Common.{eqb-true, IsSetOrder}
 use Rattle.cil_resolve.proofs.SetOrderLemmas.{none-in-order}
 use Rattle.cil_resolve.proofs.set_order.order.Goals as goal
 

@@ -1,7 +1,5 @@
 use Rattle.std.proofs.Common.{ℕ, ◌≡◌, ◌+◌, cond, take}
-use Rattle.cil_keyed_lines.specs.Keyed.{count_now, is_key, steps_in}
-use Rattle.cil_keyed_lines.specs.declared.symbol_key.SymbolKey.{SymbolKey}
-use Rattle.cil_rule_shifts.specs.Pieces.{hits_of}
+use Rattle.cil_rule_shifts.proofs.Common.{count_now, is_key, steps_in, SymbolKey, hits_of}
 use Rattle.cil_rule_shifts.proofs.put.put_line.Given as goal
 
 -- the targets of the pieces so far are counted

@@ -1,10 +1,8 @@
 use Rattle.std.proofs.Common.{◌∙◌, ap, arith, sym, true}
-use Rattle.cil_rule_shifts.specs.Pieces.{has_target}
-use Rattle.cil_rule_shifts.specs.Reach.{one_if}
+use Rattle.cil_rule_shifts.proofs.Common.{has_target, one_if, rises-none}
 use Rattle.cil_rule_shifts.specs.declared.pieces.Pieces.{Pieces}
 use Rattle.cil_rule_shifts.proofs.PieceLemmas.{put-first, put_up_to, source-put, source-within, sources-done, sources-step}
 use Rattle.cil_rule_shifts.proofs.ShiftLemmas.{short-source}
-use Rattle.cil_sums.proofs.RiseLemmas.{rises-none}
 use Rattle.cil_rule_shifts.proofs.put.put_rule.Goals as goal
 
 pub loop-source-init : goal.loop-source-init

@@ -1,10 +1,6 @@
 use Rattle.std.proofs.Common.{ℕ, ◌≡◌, ◌+◌, ◌-◌, ◌^◌, false}
-use Rattle.cil_keyed_lines.specs.Keyed.{count_now, steps_in}
-use Rattle.cil_keyed_lines.specs.declared.symbol_key.SymbolKey.{SymbolKey}
-use Rattle.cil_rule_shifts.specs.Pieces.{has_target, ArePieces}
-use Rattle.cil_rule_shifts.specs.Reach.{one_if, takes}
+use Rattle.cil_rule_shifts.proofs.Common.{count_now, steps_in, SymbolKey, has_target, ArePieces, one_if, takes, RisesBy}
 use Rattle.cil_rule_shifts.proofs.PieceLemmas.{put_up_to}
-use Rattle.cil_sums.specs.Rises.{RisesBy}
 use Rattle.cil_rule_shifts.proofs.put.put_rule.Given as goal
 
 -- the lines of the sources so far have what the rule gives, and the pieces are those of each source, unless they depend on it

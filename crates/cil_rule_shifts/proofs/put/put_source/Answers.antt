@@ -1,10 +1,7 @@
 use Rattle.std.proofs.Common.{◌&&◌, ap, arith, refl, slice_index_or}
-use Rattle.cil_keyed_lines.specs.Keyed.{is_key}
-use Rattle.cil_rule_shifts.specs.Pieces.{has_target, put_for}
-use Rattle.cil_rule_shifts.specs.Reach.{one_if}
+use Rattle.cil_rule_shifts.proofs.Common.{is_key, has_target, put_for, one_if, rises-none}
 use Rattle.cil_rule_shifts.proofs.PieceLemmas.{put-step}
 use Rattle.cil_rule_shifts.proofs.ShiftLemmas.{head-more, head-within, of_head, first, no-permission}
-use Rattle.cil_sums.proofs.RiseLemmas.{rises-none}
 use Rattle.cil_rule_shifts.proofs.put.put_source.Goals as goal
 
 pub loop-permission-preserved : goal.loop-permission-preserved

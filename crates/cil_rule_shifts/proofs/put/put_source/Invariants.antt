@@ -1,10 +1,6 @@
 use Rattle.std.proofs.Common.{ℕ, ◌≡◌, ◌+◌, ◌&&◌}
-use Rattle.cil_keyed_lines.specs.Keyed.{count_now, steps_in}
-use Rattle.cil_keyed_lines.specs.declared.symbol_key.SymbolKey.{SymbolKey}
-use Rattle.cil_rule_shifts.specs.Pieces.{has_target, put_for}
-use Rattle.cil_rule_shifts.specs.Reach.{is_line, one_if}
+use Rattle.cil_rule_shifts.proofs.Common.{count_now, steps_in, SymbolKey, has_target, put_for, is_line, one_if, RisesBy}
 use Rattle.cil_rule_shifts.proofs.ShiftLemmas.{first}
-use Rattle.cil_sums.specs.Rises.{RisesBy}
 use Rattle.cil_rule_shifts.proofs.put.put_source.Given as goal
 
 -- the lines of the permissions so far have the targets

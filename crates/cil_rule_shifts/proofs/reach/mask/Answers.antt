@@ -1,8 +1,5 @@
 use Rattle.std.proofs.Common.{◌+◌, ◌*◌, ◌∙◌, ap, sym}
-use Rattle.std.proofs.lemmas.Nat.Bits.{bit_at_or, bit_at_xor}
-use Rattle.std.specs.Int.{bit_at}
-use Rattle.cil_rule_shifts.specs.Moves.{goes_over}
-use Rattle.cil_rule_shifts.specs.Reach.{has_source, one_if}
+use Rattle.cil_rule_shifts.proofs.Common.{bit_at_or, bit_at_xor, bit_at, goes_over, has_source, one_if}
 use Rattle.cil_rule_shifts.proofs.MoveLemmas.{bit-either, bit-turned}
 use Rattle.cil_rule_shifts.proofs.ReachLemmas.{present-one}
 use Rattle.cil_rule_shifts.proofs.reach.mask.Goals as goal

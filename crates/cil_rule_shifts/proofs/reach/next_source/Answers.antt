@@ -1,10 +1,8 @@
 use Rattle.std.proofs.Common.{◌^◌, ◌<◌, arith, subst, sym, MatchOption}
-use Rattle.cil_rule_shifts.specs.Moves.{has_either}
-use Rattle.cil_rule_shifts.specs.Reach.{IsNext, NoneFrom}
+use Rattle.cil_rule_shifts.proofs.Common.{has_either, IsNext, NoneFrom}
 use Rattle.cil_rule_shifts.proofs.ReachLemmas.{fits-next, next-here, next-there, none-here, none-there}
 use Rattle.cil_rule_shifts.proofs.ShiftLemmas.{short-either}
 use Rattle.cil_rule_shifts.proofs.reach.next_source.Goals as goal
-use Rattle.cil_rule_shifts.proofs.reach.next_source.Goals.{After-mask-bits}
 
 pub overflow_add-result : goal.overflow_add-result
 overflow_add-result g c =

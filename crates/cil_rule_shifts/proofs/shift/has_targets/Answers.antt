@@ -1,8 +1,6 @@
 use Rattle.std.proofs.Common.{◌&&◌, ◌<◌, ◌∙◌, ap, arith, sym}
 use Rattle.std.proofs.Math.Bool.{and-false}
-use Rattle.std.proofs.lemmas.Bool.{ltb-true}
-use Rattle.cil_lines.specs.Line.{count_of}
-use Rattle.cil_rule_shifts.specs.Reach.{has_source, takes}
+use Rattle.cil_rule_shifts.proofs.Common.{ltb-true, count_of, has_source, takes}
 use Rattle.cil_rule_shifts.proofs.ReachLemmas.{present-some, takes-nothing}
 use Rattle.cil_rule_shifts.proofs.shift.has_targets.Goals as goal
 

@@ -1,12 +1,7 @@
 use Rattle.std.proofs.Common.{◌<◌, ◌^◌, ◌∙◌, ◌/◌, arith, refl, slice_index_or, true, w64, ap, subst, []}
-use Rattle.std.specs.Int.{bit_not}
-use Rattle.cil_keyed_lines.specs.Keyed.{count_now, is_key}
-use Rattle.cil_rule_shifts.specs.Reach.{takes, one_if}
+use Rattle.cil_rule_shifts.proofs.Common.{bit_not, count_now, is_key, takes, one_if, turns, rises-none, RisesBy}
 use Rattle.cil_rule_shifts.proofs.MoveLemmas.{line-step, line-done, moves_in_words}
 use Rattle.cil_rule_shifts.proofs.ShiftLemmas.{above-word, hit-keyed, hit-line, line-more, no-word}
-use Rattle.cil_rule_shifts.specs.Moves.{turns}
-use Rattle.cil_sums.proofs.RiseLemmas.{rises-none}
-use Rattle.cil_sums.specs.Rises.{RisesBy}
 use Rattle.std.proofs.lemmas.List.{take_all}
 use Rattle.cil_rule_shifts.proofs.shift.shift_line.Goals as goal
 

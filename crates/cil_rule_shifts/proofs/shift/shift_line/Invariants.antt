@@ -1,10 +1,6 @@
 use Rattle.std.proofs.Common.{ℕ, ◌≡◌, ◌+◌, ◌&&◌, take}
-use Rattle.cil_keyed_lines.specs.Keyed.{count_before, count_now, is_key}
-use Rattle.cil_keyed_lines.specs.declared.symbol_key.SymbolKey.{SymbolKey}
-use Rattle.cil_rule_shifts.specs.Moves.{has_word}
-use Rattle.cil_rule_shifts.specs.Reach.{one_if, takes}
+use Rattle.cil_rule_shifts.proofs.Common.{count_before, count_now, is_key, SymbolKey, has_word, one_if, takes, RisesBy}
 use Rattle.cil_rule_shifts.proofs.MoveLemmas.{moves_in_words}
-use Rattle.cil_sums.specs.Rises.{RisesBy}
 use Rattle.cil_rule_shifts.proofs.shift.shift_line.Given as goal
 
 -- the targets of the words so far are moved

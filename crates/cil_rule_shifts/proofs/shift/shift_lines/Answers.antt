@@ -1,10 +1,7 @@
 use Rattle.std.proofs.Common.{◌∙◌, slice_index_or, refl, arith, ap}
-use Rattle.cil_keyed_lines.specs.Keyed.{count_now}
-use Rattle.cil_rule_shifts.specs.Reach.{takes, one_if}
+use Rattle.cil_rule_shifts.proofs.Common.{count_now, takes, one_if, moves_for, turns, rises-none}
 use Rattle.cil_rule_shifts.proofs.MoveLemmas.{lines-step}
 use Rattle.cil_rule_shifts.proofs.ShiftLemmas.{above-line, head-more, head-within, of_head, first, no-permission}
-use Rattle.cil_rule_shifts.specs.Moves.{moves_for, turns}
-use Rattle.cil_sums.proofs.RiseLemmas.{rises-none}
 use Rattle.cil_rule_shifts.proofs.shift.shift_lines.Goals as goal
 
 pub shift_line-requires-clause-counted : goal.shift_line-requires-clause-counted

@@ -1,10 +1,6 @@
 use Rattle.std.proofs.Common.{ℕ, ◌≡◌, ◌+◌, ◌&&◌}
-use Rattle.cil_keyed_lines.specs.Keyed.{count_before, count_now}
-use Rattle.cil_keyed_lines.specs.declared.symbol_key.SymbolKey.{SymbolKey}
-use Rattle.cil_rule_shifts.specs.Moves.{moves_for}
-use Rattle.cil_rule_shifts.specs.Reach.{is_line, one_if, takes}
+use Rattle.cil_rule_shifts.proofs.Common.{count_before, count_now, SymbolKey, moves_for, is_line, one_if, takes, RisesBy}
 use Rattle.cil_rule_shifts.proofs.ShiftLemmas.{first}
-use Rattle.cil_sums.specs.Rises.{RisesBy}
 use Rattle.cil_rule_shifts.proofs.shift.shift_lines.Given as goal
 
 -- the lines of the permissions so far are moved

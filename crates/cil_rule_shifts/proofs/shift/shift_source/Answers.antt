@@ -1,9 +1,7 @@
 use Rattle.std.proofs.Common.{◌≤◌, ◌∙◌, refl, subst, sym}
 use Rattle.std.specs.Option.{IfSome}
 use Rattle.std.proofs.lemmas.Result.{IfOk-weaker}
-use Rattle.cil_keyed_lines.specs.Keyed.{count_now}
-use Rattle.cil_rule_shifts.specs.Moves.{AreTurned, AreTurnedForAll}
-use Rattle.cil_rule_shifts.specs.Reach.{one_if, takes}
+use Rattle.cil_rule_shifts.proofs.Common.{count_now, AreTurned, AreTurnedForAll, one_if, takes}
 use Rattle.cil_rule_shifts.proofs.MoveLemmas.{source-moves}
 use Rattle.cil_rule_shifts.proofs.ReachLemmas.{takes-nothing}
 use Rattle.cil_rule_shifts.proofs.ShiftLemmas.{source-gives}

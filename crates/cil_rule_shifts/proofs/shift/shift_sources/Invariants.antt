@@ -1,9 +1,6 @@
 use Rattle.std.proofs.Common.{ℕ, ◌≡◌, ◌+◌, ◌-◌, ◌^◌, ◌&&◌, nat_lt}
-use Rattle.cil_keyed_lines.specs.Keyed.{count_before, count_now}
-use Rattle.cil_keyed_lines.specs.declared.symbol_key.SymbolKey.{SymbolKey}
-use Rattle.cil_rule_shifts.specs.Reach.{gives, one_if}
+use Rattle.cil_rule_shifts.proofs.Common.{count_before, count_now, SymbolKey, gives, one_if, RisesBy}
 use Rattle.cil_rule_shifts.proofs.MoveLemmas.{moves_up_to}
-use Rattle.cil_sums.specs.Rises.{RisesBy}
 use Rattle.cil_rule_shifts.proofs.shift.shift_sources.Given as goal
 
 -- the lines of the sources so far are moved

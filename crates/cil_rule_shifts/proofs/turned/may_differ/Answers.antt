@@ -1,6 +1,5 @@
 use Rattle.std.proofs.Common.{◌≡◌, Bool, true, false, not, vec_len, refl, subst, sym, ◌∙◌}
-use Rattle.std.proofs.lemmas.Bool.{eqb-true}
-use Rattle.cil_rule_shifts.specs.Moves.{HasNone}
+use Rattle.cil_rule_shifts.proofs.Common.{eqb-true, HasNone}
 use Rattle.cil_rule_shifts.proofs.turned.may_differ.Goals as goal
 
 pub returns-in-Some : goal.returns-in-Some

@@ -1,8 +1,5 @@
 use Rattle.std.proofs.Common.{◌≡◌, ◌∙◌, ◌++◌, [], codes, get_or, ap, subst}
-use Rattle.std.proofs.lemmas.List.{get_or_read}
-use Rattle.cil_stream.specs.Device.{GainsFront}
-use Rattle.cil_stream.proofs.Gaining.{on_err, gains-pieces_front}
-use Rattle.cil_rules.specs.Rows.{name_text}
+use Rattle.cil_rules.proofs.Common.{get_or_read, GainsFront, on_err, gains-pieces_front, name_text}
 use Rattle.cil_rules.proofs.listing.write_names.Goals as goal
 
 pub returns-in_err-write_permission-clause-err : goal.returns-in_err-write_permission-clause-err

@@ -1,7 +1,5 @@
 use Rattle.std.proofs.Common.{◌≤◌, take}
-use Rattle.std.specs.List.{flat_map}
-use Rattle.cil_stream.specs.Device.{Gains}
-use Rattle.cil_rules.specs.Rows.{name_text}
+use Rattle.cil_rules.proofs.Common.{flat_map, Gains, name_text}
 use Rattle.cil_rules.proofs.listing.write_names.Given as goal
 
 abbrev pub invariant-loop-number : goal.invariant-loop-number

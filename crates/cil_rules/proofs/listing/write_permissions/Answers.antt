@@ -1,5 +1,4 @@
-use Rattle.cil_stream.proofs.Gaining.{on_err, gains-pieces_front}
-use Rattle.cil_rules.specs.Rows.{chunk_text}
+use Rattle.cil_rules.proofs.Common.{on_err, gains-pieces_front, chunk_text}
 use Rattle.cil_rules.proofs.ListingLemmas.{no_chunk}
 use Rattle.cil_rules.proofs.listing.write_permissions.Goals as goal
 

@@ -1,7 +1,5 @@
 use Rattle.std.proofs.Common.{◌≤◌, take}
-use Rattle.std.specs.List.{flat_map}
-use Rattle.cil_stream.specs.Device.{Gains}
-use Rattle.cil_rules.specs.Rows.{chunk_text}
+use Rattle.cil_rules.proofs.Common.{flat_map, Gains, chunk_text}
 use Rattle.cil_rules.proofs.listing.write_permissions.Given as goal
 
 abbrev pub invariant-loop-chunk : goal.invariant-loop-chunk

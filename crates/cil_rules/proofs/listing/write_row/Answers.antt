@@ -1,10 +1,5 @@
 use Rattle.std.proofs.Common.{codes, subst}
-use Rattle.std.specs.List.{flat_map}
-use Rattle.std.proofs.lemmas.Result.{on_ok_weaker, on_err_weaker}
-use Rattle.cil_stream.specs.Device.{Gains, GainsFront}
-use Rattle.cil_stream.proofs.Gaining.{on_err}
-use Rattle.cil_rules.specs.Atoms.{atom_at}
-use Rattle.cil_rules.specs.Rows.{row_head, chunk_text}
+use Rattle.cil_rules.proofs.Common.{flat_map, on_ok_weaker, on_err_weaker, Gains, GainsFront, on_err, atom_at, row_head, chunk_text}
 use Rattle.cil_rules.proofs.ListingLemmas.{permissions-within, row-line-is, front-in_first, front-in_second, front-in_third, gains-three}
 use Rattle.cil_rules.proofs.listing.write_row.Goals as goal
 

@@ -1,11 +1,5 @@
 use Rattle.std.proofs.Common.{◌++◌, codes, subst}
-use Rattle.std.specs.List.{flat_map}
-use Rattle.std.proofs.lemmas.Result.{on_ok_weaker, on_err_weaker}
-use Rattle.cil_stream.specs.Device.{Gains, GainsFront}
-use Rattle.cil_stream.proofs.Gaining.{on_err}
-use Rattle.cil_rules.specs.Atoms.{name_at}
-use Rattle.cil_rules.specs.Rows.{row_head}
-use Rattle.cil_rules.specs.NumberedRows.{row_of}
+use Rattle.cil_rules.proofs.Common.{flat_map, on_ok_weaker, on_err_weaker, Gains, GainsFront, on_err, name_at, row_head, row_of}
 use Rattle.cil_rules.proofs.ListingLemmas.{line-parts, mapped-text, front-in_first, front-in_second, front-in_third, gains-three}
 use Rattle.cil_rules.proofs.listing.write_row_line.Goals as goal
 

@@ -1,12 +1,5 @@
 use Rattle.std.proofs.Common.{[], refl, ◌≡◌, ◌∙◌, ◌++◌, ◌∷◌, map, length, cond, ap, sym, arith, rules}
-use Rattle.std.specs.List.{flat_map}
-use Rattle.cil_specs.specs.Report.{row_line, is_listed}
-use Rattle.cil_stream.proofs.Gaining.{gains-none, gains-both}
-use Rattle.cil_stream.proofs.Gaining.{on_err}
-use Rattle.cil_text.specs.Image.{rule_kind_of}
-use Rattle.cil_accesses.specs.Renumbered.{IsWithin}
-use Rattle.cil_rules.specs.Atoms.{atom_at}
-use Rattle.cil_rules.specs.Rows.{rows_of, row_at}
+use Rattle.cil_rules.proofs.Common.{flat_map, row_line, is_listed, gains-none, gains-both, on_err, rule_kind_of, IsWithin, atom_at, rows_of, row_at}
 use Rattle.cil_rules.proofs.GroupLemmas.{parts-length, row-all, later-all, first-all, rows-parts}
 use Rattle.cil_rules.proofs.ListingLemmas.{text-more, front-in_row}
 use Rattle.cil_accesses.specs.Rows.{accesses_in}

@@ -1,10 +1,5 @@
 use Rattle.std.proofs.Common.{◌≡◌, ◌≤◌, ◌+◌, ◌++◌, ℕ, List, length, map}
-use Rattle.std.specs.List.{All, flat_map}
-use Rattle.cil_specs.specs.Report.{row_line}
-use Rattle.cil_stream.specs.Device.{Gains}
-use Rattle.cil_accesses.specs.Renumbered.{IsWithin}
-use Rattle.cil_rules.specs.Atoms.{atom_at}
-use Rattle.cil_rules.specs.Rows.{rows_of}
+use Rattle.cil_rules.proofs.Common.{All, flat_map, row_line, Gains, IsWithin, atom_at, rows_of}
 use Rattle.cil_rules.proofs.listing.write_rows.Given as goal
 
 abbrev pub invariant-loop-row : goal.invariant-loop-row

@@ -1,8 +1,5 @@
 use Rattle.std.proofs.Common.{subst, rules}
-use Rattle.cil_specs.specs.Report.{row_line}
-use Rattle.cil_stream.specs.Device.{Gains, GainsFront}
-use Rattle.cil_stream.proofs.Gaining.{on_err, gains-pieces_more, gains-pieces_front}
-use Rattle.cil_rules.specs.NumberedRows.{line_by}
+use Rattle.cil_rules.proofs.Common.{row_line, Gains, GainsFront, on_err, gains-pieces_more, gains-pieces_front, line_by}
 use Rattle.cil_rules.proofs.NumberedRowLemmas.{no_row}
 use Rattle.cil_rules.proofs.rows.write_numbered.Goals as goal
 

@@ -1,7 +1,5 @@
 use Rattle.std.proofs.Common.{◌≤◌, take}
-use Rattle.std.specs.List.{flat_map}
-use Rattle.cil_stream.specs.Device.{Gains}
-use Rattle.cil_rules.specs.NumberedRows.{line_by}
+use Rattle.cil_rules.proofs.Common.{flat_map, Gains, line_by}
 use Rattle.cil_rules.proofs.rows.write_numbered.Given as goal
 
 abbrev pub invariant-loop-row : goal.invariant-loop-row

@@ -1,7 +1,5 @@
 use Rattle.std.proofs.Common.{◌≡◌, map, take}
-use Rattle.cil_store_specs.specs.Next.{install_of}
-use Rattle.cil_store.specs.Edits.{edit_of}
-use Rattle.cil_store.specs.Stored.{entry_of}
+use Rattle.cil_store.proofs.Common.{install_of, edit_of, entry_of}
 use Rattle.cil_store.proofs.batch.installs.Given as goal
 
 abbrev pub invariant-loop-entry : goal.invariant-loop-entry

@@ -1,6 +1,5 @@
 use Rattle.std.proofs.Common.{◌≡◌, ◌*◌, ◌≤◌, map, take, sum_by}
-use Rattle.cil_store_specs.specs.Next.{held_bytes}
-use Rattle.cil_store.specs.Edits.{edit_of}
+use Rattle.cil_store.proofs.Common.{held_bytes, edit_of}
 use Rattle.cil_store.proofs.batch.is_too_long.Given as goal
 
 -- so many edits are counted

@@ -1,6 +1,5 @@
 use Rattle.std.proofs.Common.{map}
-use Rattle.std.proofs.lemmas.Result.{err_from_is_err_and}
-use Rattle.cil_store.specs.Edits.{edit_of, refusal_of}
+use Rattle.cil_store.proofs.Common.{err_from_is_err_and, edit_of, refusal_of}
 use Rattle.cil_store.proofs.BatchLemmas.{policy-refused-all, stopped-refused}
 use Rattle.cil_store.proofs.batch.judge.Goals as goal
 

@@ -1,7 +1,5 @@
 use Rattle.std.proofs.Common.{◌∙◌, map, refl, sym}
-use Rattle.std.proofs.lemmas.Result.{IfErr-weaker}
-use Rattle.cil_store_specs.specs.Next.{batch_word}
-use Rattle.cil_store.specs.Edits.{edit_of, refusal_of}
+use Rattle.cil_store.proofs.Common.{IfErr-weaker, batch_word, edit_of, refusal_of}
 use Rattle.cil_store.proofs.BatchLemmas.{refused-batch, refused-long}
 use Rattle.cil_store.proofs.batch.judge_batch.Goals as goal
 

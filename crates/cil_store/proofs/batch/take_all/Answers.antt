@@ -1,5 +1,4 @@
-use Rattle.std.proofs.lemmas.Result.{err_from_is_err_and}
-use Rattle.cil_store.specs.Edits.{refusal_of}
+use Rattle.cil_store.proofs.Common.{err_from_is_err_and, refusal_of}
 use Rattle.cil_store.proofs.BatchLemmas.{first-taken, next-refused}
 use Rattle.cil_store.proofs.batch.take_all.Goals as goal
 

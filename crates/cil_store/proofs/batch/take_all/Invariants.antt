@@ -1,6 +1,5 @@
 use Rattle.std.proofs.Common.{map, take}
-use Rattle.cil_store_specs.specs.Next.{AreTaken}
-use Rattle.cil_store.specs.Edits.{edit_of}
+use Rattle.cil_store.proofs.Common.{AreTaken, edit_of}
 use Rattle.cil_store.proofs.batch.take_all.Given as goal
 
 abbrev pub invariant-loop-edit : goal.invariant-loop-edit

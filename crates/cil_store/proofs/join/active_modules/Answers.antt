@@ -1,7 +1,5 @@
 use Rattle.std.proofs.Common.{◌<◌, ◌+◌, ◌∙◌, [], filter, take, length, sym, subst, arith}
-use Rattle.std.proofs.lemmas.List.{take_all}
-use Rattle.cil_store_specs.specs.Store.{entry_at, is_active}
-use Rattle.cil_store.specs.Stored.{AreParsedOf}
+use Rattle.cil_store.proofs.Common.{take_all, entry_at, is_active, AreParsedOf}
 use Rattle.cil_store.proofs.JoinLemmas.{active-more, active-same}
 use Rattle.cil_store.proofs.join.active_modules.Goals as goal
 

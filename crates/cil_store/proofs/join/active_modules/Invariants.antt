@@ -1,6 +1,5 @@
 use Rattle.std.proofs.Common.{filter, take}
-use Rattle.cil_store_specs.specs.Store.{is_active}
-use Rattle.cil_store.specs.Stored.{AreParsedOf}
+use Rattle.cil_store.proofs.Common.{is_active, AreParsedOf}
 use Rattle.cil_store.proofs.join.active_modules.Given as goal
 
 abbrev pub invariant-loop-i : goal.invariant-loop-i

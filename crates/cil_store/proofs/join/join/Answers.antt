@@ -1,9 +1,5 @@
 use Rattle.std.proofs.Common.{sym, subst}
-use Rattle.std.specs.List.Sorted.{IsStrictlySortedBy}
-use Rattle.cil_specs.specs.Report.{name_cmp}
-use Rattle.cil_store_specs.specs.Store.{IsStore, active}
-use Rattle.cil_store_specs.proofs.ActiveLemmas.{active-ascend}
-use Rattle.cil_store.specs.Stored.{AreParsedOf}
+use Rattle.cil_store.proofs.Common.{IsStrictlySortedBy, name_cmp, IsStore, active, active-ascend, AreParsedOf}
 use Rattle.cil_store.proofs.JoinLemmas.{parsed-names, distinct-from_sorted, permutation-one}
 use Rattle.cil_store.proofs.join.join.Goals as goal
 

@@ -1,6 +1,4 @@
-use Rattle.cil_resolve.specs.Resolved.{meaning_in}
-use Rattle.cil_store_specs.specs.Store.{active}
-use Rattle.cil_store.specs.Edits.{refusal_of}
+use Rattle.cil_store.proofs.Common.{meaning_in, active, refusal_of}
 use Rattle.cil_store.proofs.ParsedLemmas.{kept-modules}
 use Rattle.cil_store.proofs.StepLemmas.{policy-refused, store-meaning}
 use Rattle.cil_store.proofs.resolving.resolve_store.Goals as goal

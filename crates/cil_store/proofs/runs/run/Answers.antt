@@ -1,9 +1,6 @@
 use Rattle.std.proofs.Common.{◌≡◌, ◌∙◌, ◌++◌, ◌∷◌, ◌+◌, ◌<◌, ℕ, List, [], ap, subst, sym, take, map, length, get_or, is_ok, if◌then◌else◌, rules}
-use Rattle.std.proofs.lemmas.List.{take_more, map-append}
-use Rattle.cil_store_specs.specs.Run.{Step, Run}
-use Rattle.cil_store_specs.specs.Store.{Store}
+use Rattle.cil_store.proofs.Common.{take_more, map-append, Step, Run, Store, call_of, reply_of}
 use Rattle.cil_store_specs.proofs.RunLemmas.{run-more}
-use Rattle.cil_store.specs.Calls.{call_of, reply_of}
 use Rattle.cil_store.specs.declared.call.Call.{Call}
 use Rattle.cil_store.specs.declared.call.Reply.{Reply}
 use Rattle.cil_store.proofs.runs.run.Goals as goal

@@ -1,7 +1,6 @@
 use Rattle.std.proofs.Common.{◌≡◌, ◌≤◌, take, map, length, vec_len}
 use Rattle.std.specs.Vec.{vec_capacity}
-use Rattle.cil_store_specs.specs.Run.{Run}
-use Rattle.cil_store.specs.Calls.{call_of, reply_of}
+use Rattle.cil_store.proofs.Common.{Run, call_of, reply_of}
 use Rattle.cil_store.proofs.runs.run.Given as goal
 
 abbrev pub invariant-loop-call : goal.invariant-loop-call

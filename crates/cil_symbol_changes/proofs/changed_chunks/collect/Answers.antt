@@ -1,7 +1,5 @@
 use Rattle.std.proofs.Common.{◌∙◌, length, subst, sym}
-use Rattle.cil_keyed_lines.specs.Keyed.{count_before, count_now}
-use Rattle.cil_symbol_changes.specs.Numbered.{IsNew}
-use Rattle.cil_symbol_changes.specs.SourceOrder.{AreAllPlaces}
+use Rattle.cil_symbol_changes.proofs.Common.{count_before, count_now, IsNew, AreAllPlaces}
 use Rattle.cil_symbol_changes.proofs.ChangeLemmas.{known-appeared, known-gone, new-appeared, new-gone}
 use Rattle.cil_symbol_changes.proofs.GainedLemmas.{gained-all, gained-short}
 use Rattle.cil_symbol_changes.proofs.changed_chunks.collect.Goals as goal

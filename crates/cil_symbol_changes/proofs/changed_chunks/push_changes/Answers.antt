@@ -1,6 +1,4 @@
-use Rattle.cil_recorded.specs.Log.{hit_at}
-use Rattle.cil_recorded.proofs.LogLemmas.{hit_nothing}
-use Rattle.cil_symbol_changes.specs.SourceOrder.{HasAppeared, HasGone}
+use Rattle.cil_symbol_changes.proofs.Common.{hit_at, hit_nothing, HasAppeared, HasGone}
 use Rattle.cil_symbol_changes.proofs.ChangeLemmas.{in-all}
 use Rattle.cil_symbol_changes.proofs.OrderLemmas.{missing-all, missing-less, missing-none}
 use Rattle.cil_symbol_changes.proofs.changed_chunks.push_changes.Goals as goal

@@ -1,5 +1,4 @@
-use Rattle.cil_recorded.specs.Log.{hit_at}
-use Rattle.cil_recorded.proofs.LogLemmas.{hit_nothing}
+use Rattle.cil_symbol_changes.proofs.Common.{hit_at, hit_nothing}
 use Rattle.cil_symbol_changes.proofs.ChangeLemmas.{in-no_change, known-one, no_change}
 use Rattle.cil_symbol_changes.proofs.changed_chunks.push_place.Goals as goal
 

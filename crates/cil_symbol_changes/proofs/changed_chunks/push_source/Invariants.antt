@@ -1,6 +1,5 @@
 use Rattle.std.proofs.Common.{take}
-use Rattle.cil_symbol_changes.specs.Gained.{AreGained}
-use Rattle.cil_symbol_changes.specs.SourceOrder.{HasAppeared, HasGone, IsAmong}
+use Rattle.cil_symbol_changes.proofs.Common.{AreGained, HasAppeared, HasGone, IsAmong}
 use Rattle.cil_symbol_changes.proofs.changed_chunks.push_source.Given as goal
 
 -- the changes so far are taken

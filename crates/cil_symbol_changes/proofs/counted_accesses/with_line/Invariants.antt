@@ -1,6 +1,5 @@
 use Rattle.std.proofs.Common.{◌-◌, ◌^◌}
-use Rattle.cil_keyed_lines.specs.Keyed.{now_at}
-use Rattle.cil_sums.specs.Rises.{RisesBy}
+use Rattle.cil_symbol_changes.proofs.Common.{now_at, RisesBy}
 use Rattle.cil_symbol_changes.proofs.PresentCountLemmas.{is_before}
 use Rattle.cil_symbol_changes.proofs.counted_accesses.with_line.Given as goal
 

@@ -1,8 +1,5 @@
 use Rattle.std.proofs.Common.{◌≡◌, ◌<◌, ◌^◌, ap, arith, cond, count_ones, get_or, false}
-use Rattle.std.proofs.lemmas.List.Elements.{All-more}
-use Rattle.std.proofs.lemmas.List.Sums.{sum_by_more}
-use Rattle.cil_recorded.specs.declared.step.Step.{Step}
-use Rattle.cil_symbol_changes.specs.Counts.{came, went}
+use Rattle.cil_symbol_changes.proofs.Common.{All-more, sum_by_more, Step, came, went}
 use Rattle.cil_symbol_changes.proofs.counted_changes.count_steps.Goals as goal
 use Rattle.cil_symbol_changes.proofs.counted_changes.count_steps.Goals.{then-step, else-step}
 

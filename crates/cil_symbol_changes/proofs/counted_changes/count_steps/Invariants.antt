@@ -1,7 +1,5 @@
 use Rattle.std.proofs.Common.{◌≡◌, ◌*◌, ◌^◌, ◌<◌, ◌≤◌, count_ones, take}
-use Rattle.std.specs.List.{All, sum_by}
-use Rattle.cil_recorded.specs.declared.step.Step.{Step}
-use Rattle.cil_symbol_changes.specs.Counts.{came, went}
+use Rattle.cil_symbol_changes.proofs.Common.{All, sum_by, Step, came, went}
 use Rattle.cil_symbol_changes.proofs.counted_changes.count_steps.Given as goal
 
 -- the steps so far are counted

@@ -1,7 +1,5 @@
 use Rattle.std.proofs.Common.{◌<◌, ◌^◌, arith, count_ones}
-use Rattle.std.proofs.lemmas.List.Elements.{All-more}
-use Rattle.std.proofs.lemmas.List.Sums.{sum_by_more}
-use Rattle.cil_recorded.specs.declared.recorded_lines.changes.Change.{Change}
+use Rattle.cil_symbol_changes.proofs.Common.{All-more, sum_by_more, Change}
 use Rattle.cil_symbol_changes.proofs.counted_changes.count_targets.Goals as goal
 
 pub loop-change-preserved : goal.loop-change-preserved

@@ -1,6 +1,5 @@
 use Rattle.std.proofs.Common.{◌≡◌, ◌*◌, ◌^◌, ◌<◌, ◌≤◌, count_ones, take}
-use Rattle.std.specs.List.{All, sum_by}
-use Rattle.cil_recorded.specs.declared.recorded_lines.changes.Change.{Change}
+use Rattle.cil_symbol_changes.proofs.Common.{All, sum_by, Change}
 use Rattle.cil_symbol_changes.proofs.counted_changes.count_targets.Given as goal
 
 -- the changes so far are counted

@@ -1,7 +1,5 @@
 use Rattle.std.proofs.Common.{◌≡◌, ◌<◌, ◌++◌, ◌∷◌, [], ◌∙◌, ℕ, List, ap, arith, length, slice_index, subst, sym}
-use Rattle.cil_accesses.specs.declared.chunk.Chunk.{Chunk}
-use Rattle.cil_lines.specs.Line.{hit}
-use Rattle.cil_symbol_changes.specs.Gained.{AreGained, IsTo}
+use Rattle.cil_symbol_changes.proofs.Common.{Chunk, hit, AreGained, IsTo}
 use Rattle.cil_symbol_changes.proofs.GainedLemmas.{gained-kept, known-mask}
 use Rattle.cil_symbol_changes.proofs.kept_words.push_mask.Goals as goal
 

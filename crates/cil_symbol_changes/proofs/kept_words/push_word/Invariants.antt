@@ -1,6 +1,5 @@
 use Rattle.std.proofs.Common.{take}
-use Rattle.cil_symbol_changes.specs.Gained.{AreGained}
-use Rattle.cil_symbol_changes.specs.SourceOrder.{IsAmong, IsAtWord}
+use Rattle.cil_symbol_changes.proofs.Common.{AreGained, IsAmong, IsAtWord}
 use Rattle.cil_symbol_changes.proofs.kept_words.push_word.Given as goal
 
 -- the lines so far are taken

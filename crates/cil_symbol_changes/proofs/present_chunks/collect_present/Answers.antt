@@ -1,7 +1,5 @@
 use Rattle.std.proofs.Common.{subst, sym}
-use Rattle.cil_keyed_lines.specs.Keyed.{count_now}
-use Rattle.cil_symbol_changes.specs.Numbered.{listed, IsPresent}
-use Rattle.cil_symbol_changes.specs.SourceOrder.{AreListedPlaces}
+use Rattle.cil_symbol_changes.proofs.Common.{count_now, listed, IsPresent, AreListedPlaces}
 use Rattle.cil_symbol_changes.proofs.GainedLemmas.{gained-all, gained-short}
 use Rattle.cil_symbol_changes.proofs.PresentLemmas.{in-present, known-now}
 use Rattle.cil_symbol_changes.proofs.present_chunks.collect_present.Goals as goal

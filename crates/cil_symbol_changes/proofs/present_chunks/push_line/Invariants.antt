@@ -1,6 +1,5 @@
 use Rattle.std.proofs.Common.{◌-◌, length}
-use Rattle.cil_keyed_lines.specs.Keyed.{now_at}
-use Rattle.cil_symbol_changes.specs.Gained.{AreGained, IsTo}
+use Rattle.cil_symbol_changes.proofs.Common.{now_at, AreGained, IsTo}
 use Rattle.cil_symbol_changes.proofs.PresentLemmas.{IsBefore}
 use Rattle.cil_symbol_changes.proofs.present_chunks.push_line.Given as goal
 

@@ -1,6 +1,5 @@
 use Rattle.std.proofs.Common.{take}
-use Rattle.cil_symbol_changes.specs.Gained.{AreGained}
-use Rattle.cil_symbol_changes.specs.SourceOrder.{IsAmong, IsAt}
+use Rattle.cil_symbol_changes.proofs.Common.{AreGained, IsAmong, IsAt}
 use Rattle.cil_symbol_changes.proofs.present_chunks.push_source.Given as goal
 
 -- the lines so far are taken

@@ -1,7 +1,5 @@
 use Rattle.std.proofs.Common.{◌∙◌, arith, ap, cond, false, subst, sym, ◌∷◌, []}
-use Rattle.std.proofs.lemmas.List.Sums.{sum_by-append}
-use Rattle.cil_check.proofs.PositionLemmas.{get-append}
-use Rattle.cil_symbols.specs.InUse.{used_in, IsUsed}
+use Rattle.cil_symbols.proofs.Common.{sum_by-append, used_in, IsUsed}
 use Rattle.cil_symbols.proofs.InUseLemmas.{used-past}
 use Rattle.cil_symbols.proofs.numbering.pad.Goals as goal
 

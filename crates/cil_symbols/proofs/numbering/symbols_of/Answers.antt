@@ -1,7 +1,5 @@
 use Rattle.std.proofs.Common.{◌≡◌, ◌<◌, ◌+◌, ◌∙◌, [], Some, length, take, get_or, sym, ap, subst, arith}
-use Rattle.std.proofs.lemmas.List.Sums.{fold_more}
-use Rattle.cil_specs.specs.Lookup.{with_name}
-use Rattle.cil_parse.specs.Lexicon.{AreNumbersOf}
+use Rattle.cil_symbols.proofs.Common.{fold_more, with_name, AreNumbersOf}
 use Rattle.cil_bind.proofs.WordLemmas.{numbers-next}
 use Rattle.cil_symbols.proofs.NumberLemmas.{name-more, grown-by}
 use Rattle.cil_symbols.proofs.numbering.symbols_of.Goals as goal

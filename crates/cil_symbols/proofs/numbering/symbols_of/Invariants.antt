@@ -1,6 +1,5 @@
 use Rattle.std.proofs.Common.{◌≡◌, fold, take}
-use Rattle.cil_specs.specs.Lookup.{with_name}
-use Rattle.cil_parse.specs.Lexicon.{AreNumbersOf}
+use Rattle.cil_symbols.proofs.Common.{with_name, AreNumbersOf}
 use Rattle.cil_symbols.proofs.numbering.symbols_of.Given as goal
 
 -- so many names have their symbols

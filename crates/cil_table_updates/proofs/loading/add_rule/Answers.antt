@@ -1,13 +1,6 @@
 use Rattle.std.proofs.Common.{◌≡◌, ◌==◌, ◌∙◌, ℕ, ap, arith, refl, slice_index}
-use Rattle.std.specs.List.{list_any}
-use Rattle.cil_keyed_lines.specs.declared.symbol_key.SymbolKey.{SymbolKey}
-use Rattle.cil_resolve.specs.Meter.{adjustments_in}
-use Rattle.cil_rule_reach.specs.Reaches.{members_of}
-use Rattle.cil_rule_shifts.specs.Reach.{gives, has_permission, one_if}
-use Rattle.cil_rule_shifts.specs.declared.head.RuleHead.{RuleHead}
-use Rattle.cil_table_updates.specs.Adjusted.{gives_it}
-use Rattle.cil_table_updates.specs.Given.{gives_by}
-use Rattle.cil_table_updates.specs.Moves.{lists}
+use Rattle.cil_table_updates.proofs.Common.{list_any, SymbolKey, adjustments_in, members_of, has_permission, one_if, RuleHead, gives_it, gives_by, lists}
+use Rattle.cil_rule_shifts.specs.Reach.{gives}
 use Rattle.cil_table_updates.proofs.AdjustedLemmas.{counter-rises}
 use Rattle.cil_table_updates.proofs.MoveLemmas.{gives-covered, gives-listed}
 use Rattle.cil_table_updates.proofs.loading.add_rule.Goals as goal

@@ -1,9 +1,5 @@
 use Rattle.std.proofs.Common.{◌∙◌, refl, ap, arith, length, subst, sym, ◌<◌, nat_lt}
-use Rattle.cil_resolve.specs.Meter.{adjustments_in}
-use Rattle.cil_sums.proofs.RiseLemmas.{rises-first, rises-next, rises-same}
-use Rattle.cil_sums.proofs.SumLemmas.{sum-more, sum-none, sum-part}
-use Rattle.cil_table_updates.specs.Adjusted.{comes, gives_it}
-use Rattle.cil_table_updates.specs.Given.{given}
+use Rattle.cil_table_updates.proofs.Common.{adjustments_in, rises-first, rises-next, rises-same, sum-more, sum-none, sum-part, comes, gives_it, given}
 use Rattle.cil_table_updates.proofs.AdjustedLemmas.{counted-some}
 use Rattle.cil_table_updates.proofs.GivenLemmas.{given-rule}
 use Rattle.cil_table_updates.proofs.PlaceLemmas.{read-at}

@@ -1,11 +1,5 @@
 use Rattle.std.proofs.Common.{◌≡◌, ◌+◌, ℕ}
-use Rattle.cil_resolve.specs.Meter.{adjustments_in, evaluations_in}
-use Rattle.cil_sums.specs.Rises.{below, RisesBy}
-use Rattle.cil_sums.specs.Sums.{sum_below}
-use Rattle.cil_keyed_lines.specs.declared.symbol_key.SymbolKey.{SymbolKey}
-use Rattle.cil_keyed_lines.specs.Keyed.{count_now, steps_in}
-use Rattle.cil_table_updates.specs.Adjusted.{comes}
-use Rattle.cil_table_updates.specs.Given.{given}
+use Rattle.cil_table_updates.proofs.Common.{adjustments_in, evaluations_in, below, RisesBy, sum_below, SymbolKey, count_now, steps_in, comes, given}
 use Rattle.cil_table_updates.proofs.loading.add_rules.Given as goal
 
 -- what the rules so far give is added

@@ -1,11 +1,6 @@
 use Rattle.std.proofs.Common.{◌∙◌, arith, length, ap, subst}
-use Rattle.std.proofs.lemmas.Result.{on_ok_weaker}
+use Rattle.cil_table_updates.proofs.Common.{on_ok_weaker, adjustments_in, meaning_in, count_now, AdjustsAtMost, count_named}
 use Rattle.cil_matching.proofs.ApartLemmas.{apart-rules}
-use Rattle.cil_resolve.specs.Meter.{adjustments_in}
-use Rattle.cil_resolve.specs.Resolved.{meaning_in}
-use Rattle.cil_keyed_lines.specs.Keyed.{count_now}
-use Rattle.cil_table_updates.specs.Adjusted.{AdjustsAtMost}
-use Rattle.cil_table_updates.specs.Policies.{count_named}
 use Rattle.cil_table_updates.proofs.DirtyLemmas.{on-ok-both}
 use Rattle.cil_table_updates.proofs.GivenLemmas.{given-named}
 use Rattle.cil_table_updates.proofs.LoadLemmas.{load-at-least, load-at-most}

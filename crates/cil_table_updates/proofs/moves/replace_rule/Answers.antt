@@ -1,11 +1,5 @@
 use Rattle.std.proofs.Common.{◌≡◌, ◌∙◌, ℕ, ap, arith}
-use Rattle.std.proofs.lemmas.Result.{on_ok_weaker}
-use Rattle.cil_keyed_lines.specs.declared.symbol_key.SymbolKey.{SymbolKey}
-use Rattle.cil_resolve.specs.Meter.{adjustments_in}
-use Rattle.cil_rule_reach.specs.Reaches.{covers_by, members_of}
-use Rattle.cil_rule_shifts.specs.Reach.{one_if}
-use Rattle.cil_table_updates.specs.Given.{gives_by}
-use Rattle.cil_table_updates.specs.Moves.{gives_as}
+use Rattle.cil_table_updates.proofs.Common.{on_ok_weaker, SymbolKey, adjustments_in, covers_by, members_of, one_if, gives_by, gives_as}
 use Rattle.cil_table_updates.proofs.AdjustedLemmas.{replace-rises}
 use Rattle.cil_table_updates.proofs.MoveLemmas.{covered-alike, gives-covered}
 use Rattle.cil_table_updates.proofs.moves.replace_rule.Goals as goal

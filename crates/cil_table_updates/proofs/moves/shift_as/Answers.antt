@@ -1,11 +1,5 @@
 use Rattle.std.proofs.Common.{◌≡◌, ◌==◌, ◌∙◌, ℕ, ap, arith, refl, slice_index}
-use Rattle.std.specs.List.{list_any}
-use Rattle.cil_resolve.specs.Meter.{adjustments_in}
-use Rattle.cil_rule_shifts.specs.Moves.{differs, moves_where}
-use Rattle.cil_rule_shifts.specs.Reach.{has_permission, one_if}
-use Rattle.cil_rule_shifts.specs.declared.head.RuleHead.{RuleHead}
-use Rattle.cil_table_updates.specs.Adjusted.{shifts}
-use Rattle.cil_table_updates.specs.Moves.{lists}
+use Rattle.cil_table_updates.proofs.Common.{list_any, adjustments_in, differs, moves_where, has_permission, one_if, RuleHead, shifts, lists}
 use Rattle.cil_table_updates.proofs.AdjustedLemmas.{counter-rises}
 use Rattle.cil_table_updates.proofs.MoveLemmas.{gives-listed}
 use Rattle.cil_table_updates.proofs.moves.shift_as.Goals as goal

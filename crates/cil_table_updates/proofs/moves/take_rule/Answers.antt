@@ -1,8 +1,5 @@
 use Rattle.std.proofs.Common.{ap, arith}
-use Rattle.std.proofs.lemmas.Result.{on_ok_weaker}
-use Rattle.cil_resolve.specs.Meter.{adjustments_in}
-use Rattle.cil_rule_reach.specs.Reaches.{covers_by, members_of}
-use Rattle.cil_rule_shifts.specs.Reach.{one_if}
+use Rattle.cil_table_updates.proofs.Common.{on_ok_weaker, adjustments_in, covers_by, members_of, one_if}
 use Rattle.cil_table_updates.proofs.AdjustedLemmas.{take-rises}
 use Rattle.cil_table_updates.proofs.MoveLemmas.{gives-covered, gives-nothing}
 use Rattle.cil_table_updates.proofs.moves.take_rule.Goals as goal

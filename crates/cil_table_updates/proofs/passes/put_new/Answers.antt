@@ -1,10 +1,5 @@
 use Rattle.std.proofs.Common.{◌∙◌, refl, arith, length, subst, ◌<◌}
-use Rattle.cil_resolve.specs.Meter.{adjustments_in}
-use Rattle.cil_sums.specs.Sums.{across}
-use Rattle.cil_sums.proofs.RiseLemmas.{rises-first, rises-next}
-use Rattle.cil_sums.proofs.SumLemmas.{sum-more, sum-none, sum-part}
-use Rattle.cil_table_updates.specs.Adjusted.{turns}
-use Rattle.cil_table_updates.specs.Given.{given}
+use Rattle.cil_table_updates.proofs.Common.{adjustments_in, across, rises-first, rises-next, sum-more, sum-none, sum-part, turns, given}
 use Rattle.cil_table_updates.proofs.passes.put_new.Goals as goal
 
 pub loop-j-init : goal.loop-j-init

@@ -1,11 +1,6 @@
 use Rattle.std.proofs.Common.{◌≡◌, ◌+◌, ℕ}
-use Rattle.cil_resolve.specs.Meter.{adjustments_in, evaluations_in}
-use Rattle.cil_sums.specs.Rises.{below, RisesBy}
-use Rattle.cil_sums.specs.Sums.{across, sum_below}
-use Rattle.cil_keyed_lines.specs.declared.symbol_key.SymbolKey.{SymbolKey}
-use Rattle.cil_keyed_lines.specs.Keyed.{count_before, count_now}
-use Rattle.cil_table_updates.specs.Adjusted.{turns}
-use Rattle.cil_table_updates.specs.Given.{given}
+use Rattle.cil_table_updates.proofs.Common.{adjustments_in, evaluations_in, below, RisesBy, across, sum_below, SymbolKey, count_now, turns, given}
+use Rattle.cil_keyed_lines.specs.Keyed.{count_before}
 use Rattle.cil_table_updates.proofs.passes.put_new.Given as goal
 
 -- the rules so far are put in, in place of what they gave in the old policy

@@ -1,12 +1,5 @@
 use Rattle.std.proofs.Common.{◌≡◌, ◌+◌, ◌≤◌, ◌==◌, ◌∙◌, false, sym, ap, add-zero, arith, length, not, slice_get, subst, Some}
-use Rattle.std.proofs.lemmas.Result.{on_ok_weaker}
-use Rattle.cil_resolve.specs.Below.{is_rule_below}
-use Rattle.cil_resolve.specs.Meter.{adjustments_in}
-use Rattle.cil_sums.proofs.RiseLemmas.{rises-same}
-use Rattle.cil_sums.proofs.SumLemmas.{across-none, across-some}
-use Rattle.cil_keyed_lines.specs.Keyed.{count_now}
-use Rattle.cil_table_updates.specs.Adjusted.{gives_it, swaps, turns}
-use Rattle.cil_table_updates.specs.Given.{given}
+use Rattle.cil_table_updates.proofs.Common.{on_ok_weaker, is_rule_below, adjustments_in, rises-same, across-none, across-some, count_now, gives_it, swaps, turns, given}
 use Rattle.cil_table_updates.proofs.AdjustedLemmas.{counted-other}
 use Rattle.cil_table_updates.proofs.GivenLemmas.{given-rule}
 use Rattle.cil_table_updates.proofs.PlaceLemmas.{never, passes-at, read-at}

@@ -1,16 +1,6 @@
 use Rattle.std.proofs.Common.{◌≡◌, ◌+◌, ◌≤◌, ◌<◌, ◌==◌, ◌∙◌, sym, ap, arith, length, not, subst}
-use Rattle.std.proofs.lemmas.Option.{same_Some, slice_get_within}
-use Rattle.std.proofs.lemmas.Result.{on_ok_weaker}
+use Rattle.cil_table_updates.proofs.Common.{same_Some, slice_get_within, on_ok_weaker, is_rule_below, adjustments_in, covers_by, one_if, rises-none, rises-same, count_now, gives_it, replaces, swaps, given, HaveSameHead}
 use Rattle.cil_member_rows.specs.Rows.{count_before, count_now as members_now}
-use Rattle.cil_resolve.specs.Below.{is_rule_below}
-use Rattle.cil_resolve.specs.Meter.{adjustments_in}
-use Rattle.cil_rule_reach.specs.Reaches.{covers_by}
-use Rattle.cil_rule_shifts.specs.Reach.{one_if}
-use Rattle.cil_sums.proofs.RiseLemmas.{rises-none, rises-same}
-use Rattle.cil_keyed_lines.specs.Keyed.{count_now}
-use Rattle.cil_table_updates.specs.Adjusted.{gives_it, replaces, swaps}
-use Rattle.cil_table_updates.specs.Given.{given}
-use Rattle.cil_table_updates.specs.Moves.{HaveSameHead}
 use Rattle.cil_table_updates.proofs.AdjustedLemmas.{counted-other, no-other}
 use Rattle.cil_table_updates.proofs.GivenLemmas.{given-rule}
 use Rattle.cil_table_updates.proofs.MoveLemmas.{stays-given}

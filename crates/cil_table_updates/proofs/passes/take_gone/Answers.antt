@@ -1,11 +1,5 @@
 use Rattle.std.proofs.Common.{◌+◌, ◌∙◌, refl, ap, add-zero, arith, length, subst, ◌<◌}
-use Rattle.cil_resolve.specs.Meter.{adjustments_in}
-use Rattle.cil_sums.specs.Sums.{alone}
-use Rattle.cil_sums.proofs.RiseLemmas.{rises-first, rises-next}
-use Rattle.cil_sums.proofs.SumLemmas.{sum-more, sum-none, sum-part}
-use Rattle.cil_keyed_lines.specs.Keyed.{count_now}
-use Rattle.cil_table_updates.specs.Adjusted.{goes}
-use Rattle.cil_table_updates.specs.Given.{given}
+use Rattle.cil_table_updates.proofs.Common.{adjustments_in, alone, rises-first, rises-next, sum-more, sum-none, sum-part, count_now, goes, given}
 use Rattle.cil_table_updates.proofs.passes.take_gone.Goals as goal
 
 pub loop-i-init : goal.loop-i-init

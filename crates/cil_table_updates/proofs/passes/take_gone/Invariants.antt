@@ -1,11 +1,6 @@
 use Rattle.std.proofs.Common.{◌≡◌, ◌+◌, ℕ}
-use Rattle.cil_resolve.specs.Meter.{adjustments_in, evaluations_in}
-use Rattle.cil_sums.specs.Rises.{below, RisesBy}
-use Rattle.cil_sums.specs.Sums.{alone, sum_below}
-use Rattle.cil_keyed_lines.specs.declared.symbol_key.SymbolKey.{SymbolKey}
-use Rattle.cil_keyed_lines.specs.Keyed.{count_before, count_now}
-use Rattle.cil_table_updates.specs.Adjusted.{goes}
-use Rattle.cil_table_updates.specs.Given.{given}
+use Rattle.cil_table_updates.proofs.Common.{adjustments_in, evaluations_in, below, RisesBy, alone, sum_below, SymbolKey, count_now, goes, given}
+use Rattle.cil_keyed_lines.specs.Keyed.{count_before}
 use Rattle.cil_table_updates.proofs.passes.take_gone.Given as goal
 
 -- the rules so far are taken out, but for those that stay

@@ -1,11 +1,5 @@
 use Rattle.std.proofs.Common.{◌≡◌, ◌+◌, ◌≤◌, ◌∙◌, ap, sym, add-zero, nat_lt, slice_get, subst, Some}
-use Rattle.std.proofs.lemmas.Result.{on_ok_weaker}
-use Rattle.cil_resolve.specs.Meter.{adjustments_in}
-use Rattle.cil_sums.proofs.RiseLemmas.{rises-none, rises-same}
-use Rattle.cil_sums.proofs.SumLemmas.{alone-some}
-use Rattle.cil_keyed_lines.specs.Keyed.{count_now}
-use Rattle.cil_table_updates.specs.Adjusted.{gives_it, goes}
-use Rattle.cil_table_updates.specs.Given.{given}
+use Rattle.cil_table_updates.proofs.Common.{on_ok_weaker, adjustments_in, rises-none, rises-same, alone-some, count_now, gives_it, goes, given}
 use Rattle.cil_table_updates.proofs.AdjustedLemmas.{counted-some}
 use Rattle.cil_table_updates.proofs.GivenLemmas.{gone-rule}
 use Rattle.cil_table_updates.proofs.PlaceLemmas.{never, read-at}

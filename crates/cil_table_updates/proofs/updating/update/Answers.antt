@@ -1,13 +1,6 @@
 use Rattle.std.proofs.Common.{◌∙◌, arith, length, sym, ap, subst}
-use Rattle.std.proofs.lemmas.Result.{on_ok_weaker}
+use Rattle.cil_table_updates.proofs.Common.{on_ok_weaker, adjustments_in, meaning_in, count_now, AdjustsAtMost, given, AreReplaced, count_named}
 use Rattle.cil_matching.proofs.ApartLemmas.{apart-rules}
-use Rattle.cil_resolve.specs.Meter.{adjustments_in}
-use Rattle.cil_resolve.specs.Resolved.{meaning_in}
-use Rattle.cil_keyed_lines.specs.Keyed.{count_now}
-use Rattle.cil_table_updates.specs.Adjusted.{AdjustsAtMost}
-use Rattle.cil_table_updates.specs.Given.{given}
-use Rattle.cil_table_updates.specs.Moves.{AreReplaced}
-use Rattle.cil_table_updates.specs.Policies.{count_named}
 use Rattle.cil_table_updates.proofs.DirtyLemmas.{on-ok-both, rises-at-least, update-at-most}
 use Rattle.cil_table_updates.proofs.GivenLemmas.{given-named}
 use Rattle.cil_table_updates.proofs.UpdateLemmas.{counts-new, gone-counted, rules-replaced, stayed-counted}

@@ -1,8 +1,5 @@
 use Rattle.std.proofs.Common.{◌+◌, ◌++◌, drop, subst, sym, ap, ◌∙◌, map}
-use Rattle.cil_specs.specs.Expr.{leaves}
-use Rattle.cil_specs.specs.Statements.{as_referred}
-use Rattle.cil_text.specs.Image.{expr_of}
-use Rattle.cil_text.specs.Walk.{Checks}
+use Rattle.cil_text.proofs.Common.{leaves, as_referred, expr_of, Checks}
 use Rattle.cil_text.proofs.Rows.{union_of}
 use Rattle.cil_text.proofs.FirstBad.{GoesOn, goes_first, goes_more, checks_error, checks_rest}
 use Rattle.cil_text.proofs.CheckLemmas.{of_expr, of_exprs, exprs_from, of_both}

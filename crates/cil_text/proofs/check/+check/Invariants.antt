@@ -1,7 +1,5 @@
 use Rattle.std.proofs.Common.{◌+◌, ◌*◌, max, map, drop}
-use Rattle.cil_specs.specs.Expr.{leaves}
-use Rattle.cil_specs.specs.Statements.{as_referred}
-use Rattle.cil_text.specs.Expr.{exprs_of}
+use Rattle.cil_text.proofs.Common.{leaves, as_referred, exprs_of}
 use Rattle.cil_text.specs.declared.statement.Expr.TheViews.{size-Expr}
 use Rattle.cil_text.proofs.FirstBad.{GoesOn}
 use Rattle.cil_text.proofs.check.+check.Given as goal

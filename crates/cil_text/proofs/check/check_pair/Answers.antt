@@ -1,6 +1,5 @@
 use Rattle.std.proofs.Common.{[], ◌∷◌}
-use Rattle.cil_specs.specs.Statements.{as_referred}
-use Rattle.cil_text.specs.Image.{word_of}
+use Rattle.cil_text.proofs.Common.{as_referred, word_of}
 use Rattle.cil_text.proofs.FirstBad.{goes_first, checks_error}
 use Rattle.cil_text.proofs.check.check_pair.Goals as goal
 

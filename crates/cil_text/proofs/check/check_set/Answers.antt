@@ -1,7 +1,5 @@
 use Rattle.std.proofs.Common.{[], ◌∷◌, map}
-use Rattle.cil_specs.specs.Expr.{leaves}
-use Rattle.cil_specs.specs.Statements.{as_referred}
-use Rattle.cil_text.specs.Image.{word_of, expr_of}
+use Rattle.cil_text.proofs.Common.{leaves, as_referred, word_of, expr_of}
 use Rattle.cil_text.proofs.FirstBad.{goes_first, checks_error}
 use Rattle.cil_text.proofs.check.check_set.Goals as goal
 

@@ -1,13 +1,8 @@
 use Rattle.std.proofs.Common.{◌≡◌, ◌∙◌, ◌+◌, [], ◌∷◌, ◌++◌, ap, sym, subst, refl, inl, rules, arith, codes}
 use Rattle.std.proofs.lemmas.Result.{IfOk-weaker}
 use Rattle.std.proofs.lemmas.Slice.Eq.{bytes_eq-Decides}
-use Rattle.cil_specs.specs.Trees.{none, a_word, a_list}
-use Rattle.cil_specs.specs.Expr.{opposite, both, either, one_of, Expresses}
-use Rattle.std.proofs.lemmas.Bool.{true≢false}
+use Rattle.cil_text.proofs.Common.{none, a_word, a_list, opposite, both, either, one_of, Expresses, true≢false, string_spells, union_spelt, union_is, no_not, no_and, no_or, no_xor, place_of, trees_of, tree_then, expr_of, operator_word, exprs_of, SpellsExpr, SpellsElements, SpellsOperation, SpellsOne, SpellsTwo}
 use Rattle.cil_specs.proofs.ExprSame.{none_expresses}
-use Rattle.cil_specs.proofs.ExprLemmas.{string_spells, union_spelt, union_is, no_not, no_and, no_or, no_xor}
-use Rattle.cil_text.specs.Image.{place_of, trees_of, tree_then, expr_of}
-use Rattle.cil_text.specs.Expr.{operator_word, exprs_of, SpellsExpr, SpellsElements, SpellsOperation, SpellsOne, SpellsTwo}
 use Rattle.cil_text.specs.declared.expr.Operator.TheVariants.{And, Or, Xor, Not}
 use Rattle.cil_text.proofs.Rows.{union_of}
 use Rattle.cil_text.proofs.Nodes.{tree_size, size_first, size_behind}

@@ -1,8 +1,5 @@
 use Rattle.std.proofs.Common.{◌∙◌, sym, ap, subst, MatchOption}
-use Rattle.cil_specs.specs.Trees.{a_word}
-use Rattle.cil_specs.specs.Expr.{HasNoOperator}
-use Rattle.cil_text.specs.Image.{place_of, trees_of}
-use Rattle.cil_text.specs.Expr.{BeginsOperation}
+use Rattle.cil_text.proofs.Common.{a_word, HasNoOperator, place_of, trees_of, BeginsOperation}
 use Rattle.cil_text.proofs.Spells.{no_word_first}
 use Rattle.cil_text.proofs.expr.split_operator.Goals as goal
 

@@ -1,10 +1,5 @@
 use Rattle.std.proofs.Common.{◌∙◌, sym, subst}
-use Rattle.std.proofs.lemmas.Bool.{true≢false}
-use Rattle.cil_specs.specs.Trees.{none}
-use Rattle.cil_specs.specs.Expr.{Expresses}
-use Rattle.cil_specs.proofs.FormSame.{put_same}
-use Rattle.cil_text.specs.Image.{trees_of, tree_then, word_of, expr_of}
-use Rattle.cil_text.specs.Expr.{SpellsExpr}
+use Rattle.cil_text.proofs.Common.{true≢false, none, Expresses, put_same, trees_of, tree_then, word_of, expr_of, SpellsExpr}
 use Rattle.cil_text.proofs.Elements.{one_tree}
 use Rattle.cil_text.proofs.form.attribute_and_set.Goals as goal
 

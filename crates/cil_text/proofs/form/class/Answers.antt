@@ -1,8 +1,5 @@
 use Rattle.std.proofs.Common.{subst, codes}
-use Rattle.cil_specs.proofs.FormLemmas.{fits_parts}
-use Rattle.cil_specs.proofs.FormSame.{no_class}
-use Rattle.cil_text.specs.Image.{trees_of}
-use Rattle.cil_text.specs.Split.{AreWordAndList}
+use Rattle.cil_text.proofs.Common.{fits_parts, no_class, trees_of, AreWordAndList}
 use Rattle.cil_text.proofs.form.class.Goals as goal
 
 pub returns-in-None : goal.returns-in-None

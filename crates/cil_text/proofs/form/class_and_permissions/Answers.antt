@@ -1,7 +1,5 @@
 use Rattle.std.proofs.lemmas.Result.{IfOk-weaker}
-use Rattle.cil_text.specs.Image.{trees_of}
-use Rattle.cil_text.specs.Split.{AreWordAndList}
-use Rattle.cil_text.specs.Form.{AreClassAndPermissions}
+use Rattle.cil_text.proofs.Common.{trees_of, AreWordAndList, AreClassAndPermissions}
 use Rattle.cil_text.proofs.Fitting.{in_a_list}
 use Rattle.cil_text.proofs.form.class_and_permissions.Goals as goal
 

@@ -1,8 +1,5 @@
 use Rattle.std.proofs.Common.{subst, codes}
-use Rattle.cil_specs.proofs.FormLemmas.{fits_parts}
-use Rattle.cil_specs.proofs.FormSame.{no_class_order}
-use Rattle.cil_text.specs.Image.{trees_of}
-use Rattle.cil_text.specs.Form.{AreClasses}
+use Rattle.cil_text.proofs.Common.{fits_parts, no_class_order, trees_of, AreClasses}
 use Rattle.cil_text.proofs.form.class_order.Goals as goal
 
 pub returns-in-None : goal.returns-in-None

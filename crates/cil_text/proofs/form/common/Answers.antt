@@ -1,8 +1,5 @@
 use Rattle.std.proofs.Common.{subst, codes}
-use Rattle.cil_specs.proofs.FormLemmas.{fits_parts}
-use Rattle.cil_specs.proofs.FormSame.{no_common}
-use Rattle.cil_text.specs.Image.{trees_of}
-use Rattle.cil_text.specs.Split.{AreWordAndList}
+use Rattle.cil_text.proofs.Common.{fits_parts, no_common, trees_of, AreWordAndList}
 use Rattle.cil_text.proofs.form.common.Goals as goal
 
 pub returns-in-None : goal.returns-in-None

@@ -1,8 +1,5 @@
 use Rattle.std.proofs.Common.{refl, sym, ◌∙◌}
-use Rattle.cil_specs.specs.Statements.{optional}
-use Rattle.cil_specs.proofs.FormLemmas.{fits_from}
-use Rattle.cil_text.specs.Image.{trees_of, word_of}
-use Rattle.cil_text.specs.Form.{behind}
+use Rattle.cil_text.proofs.Common.{optional, fits_from, trees_of, word_of, behind}
 use Rattle.cil_text.proofs.Fitting.{scope_operands}
 use Rattle.cil_text.proofs.form.optional.Goals as goal
 

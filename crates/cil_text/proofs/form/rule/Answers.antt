@@ -1,11 +1,5 @@
 use Rattle.std.proofs.Common.{◌∙◌, sym, subst, refl, map}
-use Rattle.cil_specs.specs.Trees.{none}
-use Rattle.cil_specs.specs.Statements.{rule_word, rule}
-use Rattle.cil_specs.specs.Shape.{IsTargetThen, IsClassAndPermissions}
-use Rattle.cil_specs.proofs.FormLemmas.{fits_parts, fits_from}
-use Rattle.cil_specs.proofs.FormSame.{put_same, no_rule}
-use Rattle.cil_text.specs.Image.{trees_of, word_of, rule_kind_of, target_of}
-use Rattle.cil_text.specs.Form.{AreClassAndPermissions}
+use Rattle.cil_text.proofs.Common.{none, rule_word, rule, IsTargetThen, IsClassAndPermissions, fits_parts, fits_from, put_same, no_rule, trees_of, word_of, rule_kind_of, target_of, AreClassAndPermissions}
 use Rattle.cil_text.proofs.Fitting.{rule_last}
 use Rattle.cil_text.proofs.form.rule.Goals as goal
 

@@ -1,8 +1,6 @@
 use Rattle.std.proofs.Common.{◌==◌, ◌∙◌, ap, rules, tests}
-use Rattle.std.specs.List.{slice_split, list_any}
-use Rattle.std.proofs.lemmas.Iterator.Search.{any_from_yields_List}
+use Rattle.cil_text.proofs.Common.{slice_split, list_any, any_from_yields_List, is_reserved}
 use Rattle.std.proofs.lemmas.Iterator.Splits.{YieldsList-from_slice_split}
-use Rattle.cil_specs.specs.Names.{is_reserved}
 use Rattle.cil_text.proofs.NameLemmas.{components_split}
 use Rattle.cil_text.proofs.name.has_reserved.Goals as goal
 

@@ -1,7 +1,6 @@
 use Rattle.std.proofs.Common.{Some, None, if◌then◌else◌, ◌∙◌, sym, ap}
-use Rattle.cil_specs.specs.TextFault.{reserved}
+use Rattle.cil_text.proofs.Common.{reserved, role_of}
 use Rattle.cil_text.proofs.NameLemmas.{fault-name}
-use Rattle.cil_text.specs.Name.{role_of}
 use Rattle.cil_text.proofs.name.name_fault.Goals as goal
 
 pub returns-then-is_name : goal.returns-then-is_name

@@ -1,8 +1,5 @@
 use Rattle.std.proofs.Common.{Ok, Err, IfErr, List, ℕ, Result}
-use Rattle.cil_specs.specs.Reading.{IsReadingFault}
-use Rattle.cil_specs.specs.Trees.{Trees, Reads}
-use Rattle.cil_specs.proofs.Stuck.{no-fault}
-use Rattle.cil_text.specs.Image.{place_of, kind_of, shown, FaultIs, IsMemory}
+use Rattle.cil_text.proofs.Common.{IsReadingFault, Trees, Reads, no-fault, place_of, kind_of, shown, FaultIs, IsMemory}
 use Rattle.cil_text.specs.declared.fault.TextFault.{TextFault}
 use Rattle.cil_text.specs.declared.fault.TextFault.TheVariants.{Memory, Found}
 use Rattle.cil_text.proofs.reader.read.Goals as goal

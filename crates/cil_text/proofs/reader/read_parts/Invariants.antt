@@ -1,6 +1,5 @@
 use Rattle.std.proofs.Common.{◌≡◌, ◌-◌, List, length}
-use Rattle.cil_specs.specs.Parts.{Part}
-use Rattle.cil_text.specs.Reader.{IsPlaced, HasRead}
+use Rattle.cil_text.proofs.Common.{Part, IsPlaced, HasRead}
 use Rattle.cil_text.proofs.reader.read_parts.Given as goal
 
 abbrev pub invariant-loop-reader : goal.invariant-loop-reader

@@ -1,6 +1,5 @@
 use Rattle.std.proofs.Common.{◌≡◌, ◌+◌, drop}
-use Rattle.std.specs.List.{prefix_len}
-use Rattle.cil_specs.specs.Bytes.{is_word_byte}
+use Rattle.cil_text.proofs.Common.{prefix_len, is_word_byte}
 use Rattle.cil_text.proofs.reader.word_len.Given as goal
 
 abbrev pub invariant-loop-i : goal.invariant-loop-i

@@ -1,6 +1,5 @@
 use Rattle.std.proofs.Common.{◌≡◌}
-use Rattle.cil_specs.specs.Trees.{are_lists}
-use Rattle.cil_text.specs.Image.{trees_of}
+use Rattle.cil_text.proofs.Common.{are_lists, trees_of}
 use Rattle.cil_text.proofs.Nodes.{tree_size}
 use Rattle.cil_text.proofs.split.are_lists.Given as goal
 

@@ -1,7 +1,5 @@
 use Rattle.std.proofs.Common.{sym, subst, MatchOption}
-use Rattle.cil_specs.specs.Trees.{Trees, none}
-use Rattle.cil_specs.specs.Expr.{IsListThen}
-use Rattle.cil_text.specs.Image.{trees_of}
+use Rattle.cil_text.proofs.Common.{Trees, none, IsListThen, trees_of}
 use Rattle.cil_text.proofs.split.only_list.Goals as goal
 
 pub returns-in_err-items : goal.returns-in_err-items

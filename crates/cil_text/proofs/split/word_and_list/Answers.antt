@@ -1,8 +1,5 @@
 use Rattle.std.proofs.Common.{◌∙◌, sym, subst}
-use Rattle.cil_specs.specs.Shape.{IsWordList}
-use Rattle.cil_specs.proofs.FormSame.{put_same}
-use Rattle.cil_text.specs.Image.{trees_of, word_of}
-use Rattle.cil_text.specs.Split.{AreWordList}
+use Rattle.cil_text.proofs.Common.{IsWordList, put_same, trees_of, word_of, AreWordList}
 use Rattle.cil_text.proofs.split.word_and_list.Goals as goal
 
 pub returns-in-None : goal.returns-in-None

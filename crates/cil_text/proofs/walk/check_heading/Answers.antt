@@ -1,8 +1,6 @@
 use Rattle.std.proofs.Common.{◌≡◌, inl, inr, Result, Ok, Err, IsErrAnd, IfErr, sym, subst}
-use Rattle.cil_specs.specs.Shape.{is_among, outside_optionals}
+use Rattle.cil_text.proofs.Common.{is_among, outside_optionals, form_of, IsHeadingFault}
 use Rattle.cil_text.specs.Keyword.{spelling}
-use Rattle.cil_text.specs.Form.{form_of}
-use Rattle.cil_text.specs.Walk.{IsHeadingFault}
 use Rattle.cil_text.proofs.HeadingLemmas.{allowed_by, forbidden_by}
 use Rattle.cil_text.proofs.walk.check_heading.Goals as goal
 

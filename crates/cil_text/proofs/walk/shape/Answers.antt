@@ -1,11 +1,6 @@
 use Rattle.std.proofs.Common.{subst, false}
-use Rattle.cil_specs.specs.Statements.{statement_offsets}
-use Rattle.cil_specs.specs.Shape.{Shapes, IsFirstShapeFault}
-use Rattle.cil_specs.proofs.OrderLemmas.{rise_from_is}
-use Rattle.cil_specs.proofs.ShapeLemmas.{shapes_rise, shapes_apart}
-use Rattle.cil_text.specs.Image.{statements_of, FaultIs}
+use Rattle.cil_text.proofs.Common.{statement_offsets, Shapes, IsFirstShapeFault, rise_from_is, shapes_rise, shapes_apart, statements_of, FaultIs, IsFirstAmong}
 use Rattle.cil_text.specs.Forest.{forest_of}
-use Rattle.cil_text.specs.Walk.{IsFirstAmong}
 use Rattle.cil_text.proofs.FirstBad.{handed_on, fault_weaker}
 use Rattle.cil_text.proofs.walk.shape.Goals as goal
 

@@ -1,7 +1,5 @@
 use Rattle.std.proofs.Common.{◌≡◌, ◌∙◌, sym, ap, false}
-use Rattle.cil_specs.specs.Statements.{statement}
-use Rattle.cil_text.specs.Image.{statements_of}
-use Rattle.cil_text.specs.Form.{form_of, at_of, has_body, body_of}
+use Rattle.cil_text.proofs.Common.{statement, statements_of, form_of, at_of, has_body, body_of}
 use Rattle.cil_text.proofs.Rows.{block_then, optional_then}
 use Rattle.cil_text.proofs.Bodies.{leaf_form, leaf_then}
 use Rattle.cil_text.proofs.walk.with_body.Goals as goal

@@ -1,8 +1,6 @@
 use Rattle.std.proofs.Common.{refl}
 use Rattle.std.proofs.lemmas.Result.{on_ok_weaker, on_err_weaker}
-use Rattle.cil_stream.proofs.Gaining.{on_err}
-use Rattle.cil_resolve.specs.Views.{rule_seen}
-use Rattle.cil_violations.specs.Lines.{rule_text, access_text}
+use Rattle.cil_violations.proofs.Common.{on_err, rule_seen, rule_text, access_text}
 use Rattle.cil_violations.proofs.LineLemmas.{front-in_first, front-in_second, front-in_third, gains-three}
 use Rattle.cil_violations.proofs.line.write_head.Goals as goal
 

@@ -1,6 +1,5 @@
 use Rattle.std.proofs.Common.{◌≡◌, ◌∙◌, ◌++◌, [], cond, codes, sym, ap, subst, OnErr}
-use Rattle.cil_stream.specs.Device.{GainsFront}
-use Rattle.cil_violations.specs.Lines.{name_text, shared_text}
+use Rattle.cil_violations.proofs.Common.{GainsFront, name_text, shared_text}
 use Rattle.cil_violations.proofs.line.write_permission.Goals as goal
 
 pub returns-then-is_among-clause-err : goal.returns-then-is_among-clause-err

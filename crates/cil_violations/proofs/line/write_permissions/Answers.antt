@@ -1,5 +1,4 @@
-use Rattle.cil_stream.proofs.Gaining.{on_err, gains-pieces_front}
-use Rattle.cil_violations.specs.Lines.{shared_text}
+use Rattle.cil_violations.proofs.Common.{on_err, gains-pieces_front, shared_text}
 use Rattle.cil_violations.proofs.line.write_permissions.Goals as goal
 
 pub returns-in_err-write_permission-clause-err : goal.returns-in_err-write_permission-clause-err

@@ -1,7 +1,5 @@
 use Rattle.std.proofs.Common.{◌≤◌, take}
-use Rattle.std.specs.List.{flat_map}
-use Rattle.cil_stream.specs.Device.{Gains}
-use Rattle.cil_violations.specs.Lines.{shared_text}
+use Rattle.cil_violations.proofs.Common.{flat_map, Gains, shared_text}
 use Rattle.cil_violations.proofs.line.write_permissions.Given as goal
 
 abbrev pub invariant-loop-permission : goal.invariant-loop-permission

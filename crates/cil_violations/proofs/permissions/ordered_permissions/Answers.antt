@@ -1,6 +1,5 @@
 use Rattle.std.proofs.Common.{◌≡◌, ◌∙◌, ◌++◌, ◌∷◌, refl, [], length, get_or, ap, sym, subst, arith, length-append}
-use Rattle.std.proofs.lemmas.Option.{slice_get_read, slice_get_within}
-use Rattle.cil_violations.specs.Permissions.{IsOrdered}
+use Rattle.cil_violations.proofs.Common.{slice_get_read, slice_get_within, IsOrdered}
 use Rattle.cil_violations.proofs.PermissionLemmas.{each-more}
 use Rattle.cil_violations.proofs.permissions.ordered_permissions.Goals as goal
 

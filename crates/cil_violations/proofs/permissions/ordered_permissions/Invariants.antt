@@ -1,6 +1,5 @@
 use Rattle.std.proofs.Common.{◌≡◌, ◌<◌, ℕ, [], length, slice_get, Some, get_or}
-use Rattle.cil_resolve.specs.declared.numbered.NumberedRule.{NumberedRule}
-use Rattle.cil_violations.specs.Permissions.{IsOrdered}
+use Rattle.cil_violations.proofs.Common.{NumberedRule, IsOrdered}
 use Rattle.cil_violations.proofs.permissions.ordered_permissions.Given as goal
 
 abbrev pub invariant-loop-rule : goal.invariant-loop-rule

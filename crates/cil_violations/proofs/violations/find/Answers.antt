@@ -1,10 +1,5 @@
 use Rattle.std.proofs.Common.{◌∙◌, ◌++◌, length, map, sym, ap, subst}
-use Rattle.cil_resolve.specs.Resolved.{meaning_in}
-use Rattle.cil_specs.specs.Violations.{AreViolations}
-use Rattle.cil_violations.specs.Permissions.{AreOrdered}
-use Rattle.cil_violations.specs.Rows.{IsSearch, tests_of, rules_in, all_rows}
-use Rattle.cil_violations.specs.Lines.{violation_by, AreRows}
-use Rattle.cil_violations.specs.declared.search.Search.{Search}
+use Rattle.cil_violations.proofs.Common.{meaning_in, AreViolations, AreOrdered, IsSearch, tests_of, rules_in, all_rows, violation_by, AreRows, Search}
 use Rattle.cil_violations.proofs.ViolatesLemmas.{are-violations, are-rows}
 use Rattle.cil_violations.proofs.violations.find.Goals as goal
 

@@ -1,7 +1,5 @@
 use Rattle.std.proofs.Common.{rules}
-use Rattle.cil_stream.proofs.Gaining.{on_err, gains-pieces_more, gains-pieces_front}
-use Rattle.cil_violations.specs.Lines.{line_by}
-use Rattle.cil_violations.specs.declared.row.RowNumbers.{RowNumbers}
+use Rattle.cil_violations.proofs.Common.{on_err, gains-pieces_more, gains-pieces_front, line_by, RowNumbers}
 use Rattle.cil_violations.proofs.violations.write_rows.Goals as goal
 
 abbrev no_row : RowNumbers

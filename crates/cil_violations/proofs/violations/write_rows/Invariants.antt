@@ -1,7 +1,5 @@
 use Rattle.std.proofs.Common.{◌≤◌, take}
-use Rattle.std.specs.List.{flat_map}
-use Rattle.cil_stream.specs.Device.{Gains}
-use Rattle.cil_violations.specs.Lines.{line_by}
+use Rattle.cil_violations.proofs.Common.{flat_map, Gains, line_by}
 use Rattle.cil_violations.proofs.violations.write_rows.Given as goal
 
 abbrev pub invariant-loop-row : goal.invariant-loop-row

@@ -1,6 +1,5 @@
 use Rattle.std.proofs.Common.{◌∙◌, refl, ap, subst, sym}
-use Rattle.cil_accesses.specs.declared.rows.RowPlace.{RowPlace}
-use Rattle.cil_accesses.specs.View.{accesses_of, AreChunks}
+use Rattle.cil_accesses.proofs.Common.{RowPlace, accesses_of, AreChunks}
 use Rattle.cil_accesses.proofs.Moves.{start-place, start-is}
 use Rattle.cil_accesses.proofs.rows.Rows.of.Goals as goal
 

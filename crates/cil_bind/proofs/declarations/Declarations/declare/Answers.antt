@@ -1,8 +1,5 @@
 use Rattle.std.proofs.Common.{false, None, get_or, refl, sym, ap, ◌∙◌, subst}
-use Rattle.std.specs.Map.{lookup}
-use Rattle.cil_bind.specs.Rows.{IsDeclared}
-use Rattle.cil_bind.specs.declared.lookup.Key.{Key}
-use Rattle.cil_bind.specs.declared.rows.Row.{Row}
+use Rattle.cil_bind.proofs.Common.{lookup, IsDeclared, Key, Row}
 use Rattle.cil_bind.proofs.LookupLemmas.{derived-key}
 use Rattle.cil_bind.proofs.DeclareLemmas.{row-here, row-at, taken-nothing, taken-found, taken-new, put-new}
 use Rattle.cil_bind.proofs.declarations.Declarations.declare.Goals as goal

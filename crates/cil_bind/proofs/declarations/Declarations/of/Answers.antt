@@ -1,6 +1,5 @@
 use Rattle.std.proofs.Common.{subst, arith}
-use Rattle.cil_bind.specs.Lookup.{HaveDeclared}
-use Rattle.cil_bind.specs.Rows.{IsOnce}
+use Rattle.cil_bind.proofs.Common.{HaveDeclared, IsOnce}
 use Rattle.cil_bind.proofs.DeclareLemmas.{taken-next, taken-twice, none-taken, all-taken}
 use Rattle.cil_bind.proofs.declarations.Declarations.of.Goals as goal
 

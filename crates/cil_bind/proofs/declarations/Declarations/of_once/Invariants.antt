@@ -1,7 +1,5 @@
 use Rattle.std.proofs.Common.{ℕ, List, take}
-use Rattle.cil_specs.specs.Joined.{Placed}
-use Rattle.cil_bind.specs.Lookup.{HaveDeclared}
-use Rattle.cil_bind.specs.Rows.{AreRows, AreNumbered, IsOnce}
+use Rattle.cil_bind.proofs.Common.{Placed, HaveDeclared, AreRows, AreNumbered, IsOnce}
 use Rattle.cil_bind.proofs.declarations.Declarations.of_once.Given as goal
 
 -- the entries have what is declared so far

@@ -1,7 +1,5 @@
 use Rattle.std.proofs.Common.{ap, ◌∙◌}
-use Rattle.std.specs.Map.{lookup}
-use Rattle.cil_bind.specs.Lookup.{word_at, namespace_at, table_of}
-use Rattle.cil_bind.specs.declared.lookup.Key.{Key}
+use Rattle.cil_bind.proofs.Common.{lookup, word_at, namespace_at, table_of, Key}
 use Rattle.cil_bind.proofs.LookupLemmas.{derived-key, declaration-lead}
 use Rattle.cil_bind.proofs.lookup.Lookup.declaration.Goals as goal
 

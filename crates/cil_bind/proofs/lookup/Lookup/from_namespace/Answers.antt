@@ -1,7 +1,5 @@
 use Rattle.std.proofs.Common.{sym, ap, ◌∙◌, subst}
-use Rattle.std.specs.Option.{option_and_then}
-use Rattle.cil_specs.specs.Lookup.{inside}
-use Rattle.cil_bind.specs.Lookup.{namespace_at, path_of, table_of, IsLead}
+use Rattle.cil_bind.proofs.Common.{option_and_then, inside, namespace_at, path_of, table_of, IsLead}
 use Rattle.cil_bind.proofs.LookupLemmas.{no-lead, within-at, from-one, from-more, path-first, path-rest}
 use Rattle.cil_bind.proofs.lookup.Lookup.from_namespace.Goals as goal
 

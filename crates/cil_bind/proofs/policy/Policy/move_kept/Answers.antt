@@ -1,12 +1,5 @@
 use Rattle.std.proofs.Common.{◌<◌, ◌^◌, length, sym, ap, ◌∙◌, subst}
-use Rattle.std.proofs.lemmas.List.{length-map}
-use Rattle.cil_parse.specs.Forms.{kind_of}
-use Rattle.cil_specs.specs.Kept.{is_within, restricted}
-use Rattle.cil_specs.proofs.OnceLemmas.{once-filtered}
-use Rattle.cil_bind.specs.Lookup.{Knows}
-use Rattle.cil_bind.specs.Rows.{AreRows}
-use Rattle.cil_bind.specs.Scope.{AreFrom}
-use Rattle.cil_bind.specs.Words.{AreWorded}
+use Rattle.cil_bind.proofs.Common.{length-map, kind_of, is_within, restricted, once-filtered, Knows, AreRows, AreFrom, AreWorded}
 use Rattle.cil_bind.proofs.BindingLemmas.{bound-length}
 use Rattle.cil_bind.proofs.DeclareLemmas.{rows-length}
 use Rattle.cil_bind.proofs.MoveLemmas.{places-long}

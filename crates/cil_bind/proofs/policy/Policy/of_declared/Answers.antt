@@ -1,6 +1,5 @@
 use Rattle.std.proofs.Common.{◌<◌, length, rules, sym, subst}
-use Rattle.cil_bind.specs.Rows.{DeclareThat}
-use Rattle.cil_bind.specs.Scope.{AreAround}
+use Rattle.cil_bind.proofs.Common.{DeclareThat, AreAround}
 use Rattle.cil_bind.proofs.TwiceLemmas.{twice-there, twice-within, first-again}
 use Rattle.cil_bind.proofs.policy.Policy.of_declared.Goals as goal
 

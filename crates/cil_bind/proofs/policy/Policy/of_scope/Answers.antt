@@ -1,8 +1,5 @@
 use Rattle.std.proofs.Common.{sym, subst}
-use Rattle.cil_bind.specs.Lookup.{Knows}
-use Rattle.cil_bind.specs.Rows.{AreRows}
-use Rattle.cil_bind.specs.Scope.{AreFrom}
-use Rattle.cil_bind.specs.Words.{AreWorded}
+use Rattle.cil_bind.proofs.Common.{Knows, AreRows, AreFrom, AreWorded}
 use Rattle.cil_bind.proofs.WordLemmas.{stands-opened}
 use Rattle.cil_bind.proofs.policy.Policy.of_scope.Goals as goal
 

@@ -1,8 +1,6 @@
 use Rattle.std.proofs.Common.{ap, sym, ◌∙◌}
-use Rattle.std.proofs.lemmas.Option.{none-some}
-use Rattle.cil_specs.specs.Lookup.{declared_in}
+use Rattle.cil_bind.proofs.Common.{none-some, declared_in, texts_of}
 use Rattle.cil_parse.specs.Kinds.{table_of}
-use Rattle.cil_parse.specs.Parsed.{texts_of}
 use Rattle.cil_bind.proofs.FromLemmas.{is-there}
 use Rattle.cil_bind.proofs.ScopeLemmas.{read-text, read-within, read-place}
 use Rattle.cil_bind.proofs.TwiceLemmas.{declares-one}

@@ -1,9 +1,5 @@
 use Rattle.std.proofs.Common.{◌≡◌, ◌++◌, List, ℕ, [], length, take}
-use Rattle.cil_specs.specs.Statements.{Statements}
-use Rattle.cil_specs.specs.Joined.{Placed, placed}
-use Rattle.cil_parse.specs.Parsed.{Spells}
-use Rattle.cil_bind.specs.Scope.{StandsFor, AreFrom, AreAround, HaveModule}
-use Rattle.cil_bind.specs.declared.joined.NamedModule.{NamedModule}
+use Rattle.cil_bind.proofs.Common.{Statements, Placed, placed, Spells, StandsFor, AreFrom, AreAround, HaveModule, NamedModule}
 use Rattle.cil_bind.proofs.scope.Scope.add.Given as goal
 
 -- so many statements of the module came

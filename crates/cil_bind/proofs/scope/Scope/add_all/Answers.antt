@@ -1,8 +1,6 @@
 use Rattle.std.proofs.Common.{◌<◌, ◌≤◌, length, take, subst, rules, [], sym, append-nil, arith}
-use Rattle.cil_specs.specs.Joined.{joined}
-use Rattle.cil_parse.specs.Parsed.{Spells}
+use Rattle.cil_bind.proofs.Common.{joined, Spells, AreFrom, AreAround, HaveModule}
 use Rattle.cil_bind.proofs.PlaceLemmas.{module-next, joined-all, kept-next, spelt-at}
-use Rattle.cil_bind.specs.Scope.{AreFrom, AreAround, HaveModule}
 use Rattle.cil_bind.proofs.AroundLemmas.{around-module, around-joined}
 use Rattle.cil_bind.proofs.FromLemmas.{from-module, from-joined}
 use Rattle.cil_bind.proofs.scope.Scope.add_all.Goals as goal

@@ -1,6 +1,5 @@
 use Rattle.std.proofs.Common.{◌≡◌, ◌++◌, List, ℕ, [], take}
-use Rattle.cil_specs.specs.Joined.{Module, joined}
-use Rattle.cil_bind.specs.Scope.{StandsFor, AreSpelt, AreFrom, AreAround}
+use Rattle.cil_bind.proofs.Common.{Module, joined, StandsFor, AreSpelt, AreFrom, AreAround}
 use Rattle.cil_bind.proofs.scope.Scope.add_all.Given as goal
 
 -- so many modules came

@@ -1,11 +1,6 @@
 use Rattle.std.proofs.Common.{ℕ, ◌+◌, Bool, Option, ◌++◌, ◌∷◌, [], take, bytes_eq, sym, ap, ◌∙◌, subst}
-use Rattle.std.specs.List.{IsDistinct}
-use Rattle.cil_specs.specs.Joined.{placed}
+use Rattle.cil_bind.proofs.Common.{IsDistinct, placed, Opens, IsDeclared, Stands, Row}
 use Rattle.cil_parse.specs.declared.table.Table.{Table}
-use Rattle.cil_bind.specs.Namespaces.{Opens}
-use Rattle.cil_bind.specs.Rows.{IsDeclared}
-use Rattle.cil_bind.specs.Scope.{Stands}
-use Rattle.cil_bind.specs.declared.rows.Row.{Row}
 use Rattle.cil_bind.proofs.PlaceLemmas.{flat-there, placed-next}
 use Rattle.cil_bind.proofs.AroundLemmas.{around-next}
 use Rattle.cil_bind.proofs.FromLemmas.{from-next}

@@ -1,7 +1,5 @@
 use Rattle.std.proofs.Common.{◌≡◌, List, length}
-use Rattle.cil_specs.specs.Joined.{Placed}
-use Rattle.cil_check.specs.AttributeGraph.{HaveNumbers}
-use Rattle.cil_check.specs.Bound.{IsOf, IsSeen}
+use Rattle.cil_check.proofs.Common.{Placed, HaveNumbers, IsOf, IsSeen}
 use Rattle.cil_check.proofs.GraphLemmas.{HasWords}
 use Rattle.cil_check.proofs.attribute_graph.AttributeNumbers.add_set.Given as goal
 

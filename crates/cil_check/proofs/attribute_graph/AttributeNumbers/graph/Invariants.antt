@@ -1,7 +1,5 @@
 use Rattle.std.proofs.Common.{◌≡◌, List, length, take}
-use Rattle.cil_specs.specs.Joined.{Placed}
-use Rattle.cil_check.specs.AttributeGraph.{HaveNumbers}
-use Rattle.cil_check.specs.Bound.{IsOf}
+use Rattle.cil_check.proofs.Common.{Placed, HaveNumbers, IsOf}
 use Rattle.cil_check.proofs.GraphLemmas.{HasEdges}
 use Rattle.cil_check.proofs.attribute_graph.AttributeNumbers.graph.Given as goal
 

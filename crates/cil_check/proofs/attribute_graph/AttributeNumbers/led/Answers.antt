@@ -1,8 +1,5 @@
 use Rattle.std.proofs.Common.{None, Some, take, get_or, sym, ap, ◌∙◌, subst, if◌then◌else◌}
-use Rattle.std.proofs.lemmas.Option.{slice_get_within}
-use Rattle.cil_specs.specs.Lookup.{types, leads}
-use Rattle.cil_bind.specs.Lookup.{IsLead}
-use Rattle.cil_check.specs.AttributeGraph.{attribute_count}
+use Rattle.cil_check.proofs.Common.{slice_get_within, types, leads, IsLead, attribute_count}
 use Rattle.cil_check.proofs.SeenLemmas.{seen-lead}
 use Rattle.cil_check.proofs.WordLemmas.{led-at}
 use Rattle.cil_check.proofs.GraphLemmas.{nowhere-number, there-number, numbers-at}

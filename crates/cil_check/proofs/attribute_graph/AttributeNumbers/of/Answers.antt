@@ -1,6 +1,5 @@
 use Rattle.std.proofs.Common.{◌≡◌, ◌<◌, length, sym, ap, ◌∙◌, ◌++◌, ◌∷◌, [], arith}
-use Rattle.cil_specs.specs.Lookup.{is_attribute}
-use Rattle.cil_check.specs.Kinds.{is_kind}
+use Rattle.cil_check.proofs.Common.{is_attribute, is_kind}
 use Rattle.cil_check.specs.declared.kinds.Kind.TheVariants.{Attribute}
 use Rattle.cil_check.proofs.GraphLemmas.{places_with, numbers-next}
 use Rattle.cil_check.proofs.SeenLemmas.{there-at, kind-form}

@@ -1,7 +1,5 @@
 use Rattle.std.proofs.Common.{List}
-use Rattle.cil_specs.specs.Joined.{Placed}
-use Rattle.cil_check.specs.AttributeGraph.{HaveNumbers}
-use Rattle.cil_check.specs.Bound.{IsOf}
+use Rattle.cil_check.proofs.Common.{Placed, HaveNumbers, IsOf}
 use Rattle.cil_check.proofs.attribute_graph.AttributeNumbers.of.Given as goal
 
 -- the statements gone over have their numbers, and the attributes that they declare their places

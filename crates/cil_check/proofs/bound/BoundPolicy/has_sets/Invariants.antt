@@ -1,6 +1,5 @@
 use Rattle.std.proofs.Common.{◌≡◌, [], List}
-use Rattle.cil_specs.specs.Joined.{Placed}
-use Rattle.cil_check.specs.Bound.{IsOf}
+use Rattle.cil_check.proofs.Common.{Placed, IsOf}
 use Rattle.cil_check.proofs.SetLemmas.{sets_before}
 use Rattle.cil_check.proofs.bound.BoundPolicy.has_sets.Given as goal
 

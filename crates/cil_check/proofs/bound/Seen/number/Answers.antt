@@ -1,8 +1,6 @@
 use Rattle.std.proofs.Common.{get_or, slice_get, sym, ap, ◌∙◌, subst}
-use Rattle.cil_specs.specs.Names.{components}
+use Rattle.cil_check.proofs.Common.{components, AreNumbersOf, texts_of, names_of}
 use Rattle.cil_bind.proofs.ScopeLemmas.{read-within, read-text}
-use Rattle.cil_parse.specs.Lexicon.{AreNumbersOf}
-use Rattle.cil_parse.specs.Parsed.{texts_of, names_of}
 use Rattle.cil_check.proofs.SeenLemmas.{number-of}
 use Rattle.cil_check.proofs.bound.Seen.number.Goals as goal
 

@@ -1,9 +1,6 @@
 use Rattle.std.proofs.Common.{refl}
-use Rattle.std.proofs.lemmas.Result.{err_from_is_err_and, IfErr-weaker}
-use Rattle.cil_specs.specs.PolicyFault.{circular, IsFaultOf}
+use Rattle.cil_check.proofs.Common.{err_from_is_err_and, IfErr-weaker, circular, IsFaultOf, IsLeast, IsFaultIn}
 use Rattle.indexmap.proofs.MapLemmas.{OnOk-map}
-use Rattle.cil_bind.specs.Ordered.{IsLeast}
-use Rattle.cil_check.specs.Ordered.{IsFaultIn}
 use Rattle.cil_check.proofs.CheckLemmas.{none-all, first-least, found-one, circular-alone, found-fault, fault-weaker}
 use Rattle.cil_check.proofs.checker.Checker.check.Goals as goal
 

@@ -1,11 +1,6 @@
 use Rattle.std.proofs.Common.{◌≡◌, ◌<◌, Some, None, MatchOption, length, sym, ◌∙◌, subst, true≢false, arith}
-use Rattle.std.proofs.lemmas.Option.{none-some, same_Some, slice_get_within}
-use Rattle.cil_specs.specs.PolicyFault.{circular, IsFaultOf}
-use Rattle.cil_specs.specs.Statements.{type_attribute}
-use Rattle.cil_bind.specs.Ordered.{IsLeast}
+use Rattle.cil_check.proofs.Common.{none-some, same_Some, slice_get_within, circular, IsFaultOf, type_attribute, IsLeast, IsGraphOf, fault_at}
 use Rattle.cil_dependence.specs.Dependence.{IsStraight, IsFirst}
-use Rattle.cil_check.specs.AttributeGraph.{IsGraphOf}
-use Rattle.cil_check.specs.Image.{fault_at}
 use Rattle.cil_check.proofs.AskedLemmas.{reads-word}
 use Rattle.cil_check.proofs.CheckLemmas.{found-is, found-fault}
 use Rattle.cil_check.proofs.CircleFaults.{edges-within, straight-faultless, first-circle, attribute-read}

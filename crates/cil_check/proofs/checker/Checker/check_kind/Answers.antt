@@ -1,8 +1,5 @@
 use Rattle.std.proofs.Common.{◌≤◌, ◌<◌, length, slice_get, take, arith, sym}
-use Rattle.cil_specs.specs.PolicyFault.{IsFaultOf}
-use Rattle.cil_specs.proofs.FirstLemmas.{faulty_words}
-use Rattle.cil_bind.specs.Ordered.{IsLeast}
-use Rattle.cil_check.specs.Image.{policy_kind_of, fault_at}
+use Rattle.cil_check.proofs.Common.{IsFaultOf, faulty_words, IsLeast, policy_kind_of, fault_at}
 use Rattle.cil_check.proofs.CheckLemmas.{first-some, found-is}
 use Rattle.cil_check.proofs.LeastLemmas.{none-faulty-first, none-faulty-next, none-faulty-end, least-at}
 use Rattle.cil_check.proofs.SeenLemmas.{there-at}

@@ -1,7 +1,5 @@
 use Rattle.std.proofs.Common.{List}
-use Rattle.cil_specs.specs.Joined.{Placed}
-use Rattle.cil_check.specs.Checker.{IsNoted}
-use Rattle.cil_check.specs.Image.{policy_kind_of}
+use Rattle.cil_check.proofs.Common.{Placed, IsNoted, policy_kind_of}
 use Rattle.cil_check.proofs.LeastLemmas.{NoneFaultyBelow}
 use Rattle.cil_check.proofs.checker.Checker.check_kind.Given as goal
 

@@ -1,10 +1,5 @@
 use Rattle.std.proofs.Common.{get_or}
-use Rattle.std.proofs.lemmas.Result.{err_from_is_err_and}
-use Rattle.cil_specs.specs.PolicyFault.{IsFaultOf}
-use Rattle.cil_check.specs.Image.{policy_kind_of}
-use Rattle.cil_bind.specs.Ordered.{IsLeast}
-use Rattle.cil_check.specs.Ordered.{IsFaultIn}
-use Rattle.cil_check.specs.declared.fault.PolicyFaultKind.TheVariants.{Twice}
+use Rattle.cil_check.proofs.Common.{err_from_is_err_and, IsFaultOf, policy_kind_of, IsLeast, IsFaultIn, Twice}
 use Rattle.cil_check.proofs.CheckLemmas.{checked, checked-code, checked-once, checked-straight, none-first, none-next, none-fewer, first-least, found-weaker}
 use Rattle.cil_check.proofs.checker.Checker.check_statements.Goals as goal
 

@@ -1,6 +1,5 @@
 use Rattle.std.proofs.Common.{List}
-use Rattle.cil_specs.specs.Joined.{Placed}
-use Rattle.cil_check.specs.Checker.{IsNoted}
+use Rattle.cil_check.proofs.Common.{Placed, IsNoted}
 use Rattle.cil_check.proofs.CheckLemmas.{NoneBelow}
 use Rattle.cil_check.proofs.checker.Checker.check_statements.Given as goal
 

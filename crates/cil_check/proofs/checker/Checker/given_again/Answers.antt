@@ -1,8 +1,5 @@
 use Rattle.std.proofs.Common.{None, Some, slice_get, take, sym, ap, ◌∙◌, subst}
-use Rattle.std.proofs.lemmas.Bool.{lt-ltb, le-ltb}
-use Rattle.cil_check.specs.Bound.{Reads}
-use Rattle.cil_check.specs.Kinds.{again_words}
-use Rattle.cil_bind.proofs.PositionLemmas.{is_before}
+use Rattle.cil_check.proofs.Common.{lt-ltb, le-ltb, Reads, again_words, is_before}
 use Rattle.cil_check.proofs.AskedLemmas.{first_if, again-reads}
 use Rattle.cil_check.proofs.checker.Checker.given_again.Goals as goal
 

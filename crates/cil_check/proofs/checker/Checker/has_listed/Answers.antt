@@ -1,6 +1,5 @@
 use Rattle.std.proofs.Common.{◌<◌, length, sym, ◌∙◌, arith, rules}
-use Rattle.std.proofs.lemmas.Option.{slice_get_within, get_or_from_slice_get}
-use Rattle.cil_check.specs.Missing.{lacking_words, has_list}
+use Rattle.cil_check.proofs.Common.{slice_get_within, get_or_from_slice_get, lacking_words, has_list}
 use Rattle.cil_check.proofs.AskedLemmas.{reads-nothing}
 use Rattle.cil_check.proofs.KnownLemmas.{from-there, known-lacks-none, lacks-none-known}
 use Rattle.cil_check.proofs.MissingLemmas.{lacks-none}

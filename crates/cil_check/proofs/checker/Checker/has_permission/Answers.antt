@@ -1,8 +1,5 @@
 use Rattle.std.proofs.Common.{◌≤◌, ◌||◌, ◌+◌, length, drop, subst, sym, ap, ◌∙◌}
-use Rattle.cil_specs.specs.Lookup.{has_name}
-use Rattle.cil_bind.specs.Lookup.{word_at}
-use Rattle.cil_check.specs.Groups.{list_at}
-use Rattle.cil_check.specs.Inherited.{names_listed}
+use Rattle.cil_check.proofs.Common.{has_name, word_at, list_at, names_listed}
 use Rattle.cil_check.proofs.MissingLemmas.{has-own, has-inherited, has-step, has-listed-past}
 use Rattle.cil_check.proofs.checker.Checker.has_permission.Goals as goal
 

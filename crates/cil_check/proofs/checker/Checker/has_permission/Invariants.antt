@@ -1,10 +1,5 @@
 use Rattle.std.proofs.Common.{◌≡◌, ◌<◌, List, Some, length, drop, slice_get}
-use Rattle.cil_specs.specs.Joined.{Placed}
-use Rattle.cil_specs.specs.Lookup.{classes, has_name, permissions_of}
-use Rattle.cil_bind.specs.Lookup.{word_at, IsFirstOf}
-use Rattle.cil_check.specs.Checker.{IsNoted}
-use Rattle.cil_check.specs.Groups.{list_at}
-use Rattle.cil_check.specs.Inherited.{names_listed}
+use Rattle.cil_check.proofs.Common.{Placed, classes, has_name, permissions_of, word_at, IsFirstOf, IsNoted, list_at, names_listed}
 use Rattle.cil_check.proofs.checker.Checker.has_permission.Given as goal
 
 -- the class has the permission where a common that is left lists it

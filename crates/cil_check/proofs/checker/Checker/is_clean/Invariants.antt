@@ -1,8 +1,6 @@
 use Rattle.std.proofs.Common.{List}
-use Rattle.cil_specs.specs.Joined.{Placed}
+use Rattle.cil_check.proofs.Common.{Placed, IsNoted, has_list}
 use Rattle.cil_bind.specs.KnownLists.{AreKnown}
-use Rattle.cil_check.specs.Checker.{IsNoted}
-use Rattle.cil_check.specs.Missing.{has_list}
 use Rattle.cil_check.proofs.CleanLemmas.{AreCleanBelow}
 use Rattle.cil_check.proofs.checker.Checker.is_clean.Given as goal
 

@@ -1,7 +1,5 @@
 use Rattle.std.proofs.Common.{get_or, take}
-use Rattle.cil_specs.proofs.FirstLemmas.{faulty_words}
-use Rattle.cil_check.specs.Image.{policy_kind_of}
-use Rattle.cil_check.specs.declared.fault.PolicyFaultKind.TheVariants.{Twice}
+use Rattle.cil_check.proofs.Common.{faulty_words, policy_kind_of, Twice}
 use Rattle.cil_check.proofs.AskedLemmas.{reads-nothing}
 use Rattle.cil_check.proofs.CheckLemmas.{checked}
 use Rattle.cil_check.proofs.CleanLemmas.{clean-more, clean-at}

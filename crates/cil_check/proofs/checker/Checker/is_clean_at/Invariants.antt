@@ -1,9 +1,5 @@
 use Rattle.std.proofs.Common.{◌≡◌, List, slice_get, Some}
-use Rattle.cil_specs.specs.Joined.{Placed}
-use Rattle.cil_parse.specs.Lexicon.{AreNumbersOf}
-use Rattle.cil_parse.specs.Parsed.{names_of}
-use Rattle.cil_check.specs.Bound.{IsSeen}
-use Rattle.cil_check.specs.Checker.{IsNoted}
+use Rattle.cil_check.proofs.Common.{Placed, AreNumbersOf, names_of, IsSeen, IsNoted}
 use Rattle.cil_check.proofs.CleanLemmas.{IsCleanOf}
 use Rattle.cil_check.proofs.checker.Checker.is_clean_at.Given as goal
 

@@ -1,10 +1,5 @@
 use Rattle.std.proofs.Common.{◌+◌, not, Some, None, map, slice_get, refl, sym, ap, ◌∙◌, arith}
-use Rattle.std.specs.Option.{option_or, option_map}
-use Rattle.cil_parse.specs.Builder.{read}
-use Rattle.cil_parse.specs.Forms.{permissions_in}
-use Rattle.cil_parse.specs.Parsed.{texts_of}
-use Rattle.cil_check.specs.Kinds.{word_if}
-use Rattle.cil_check.specs.Missing.{lacking_words}
+use Rattle.cil_check.proofs.Common.{option_or, option_map, read, permissions_in, texts_of, word_if, lacking_words}
 use Rattle.cil_check.proofs.PermissionLemmas.{no_word, word-read, as-many}
 use Rattle.cil_check.proofs.AskedLemmas.{first_from, from-at, from-past, reads-as}
 use Rattle.cil_check.proofs.MissingLemmas.{asked-at, lacks, lacks-none, lacking-first, class-named}

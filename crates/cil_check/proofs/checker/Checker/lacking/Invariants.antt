@@ -1,12 +1,5 @@
 use Rattle.std.proofs.Common.{◌≡◌, List, Contains, Some}
-use Rattle.cil_specs.specs.Names.{Word}
-use Rattle.cil_specs.specs.Joined.{Placed}
-use Rattle.cil_parse.specs.Forms.{permissions_in}
-use Rattle.cil_parse.specs.Lexicon.{AreNumbersOf}
-use Rattle.cil_parse.specs.Parsed.{names_of}
-use Rattle.cil_check.specs.Bound.{IsSeen}
-use Rattle.cil_check.specs.Checker.{IsNoted}
-use Rattle.cil_check.specs.Missing.{rule_class}
+use Rattle.cil_check.proofs.Common.{Word, Placed, permissions_in, AreNumbersOf, names_of, IsSeen, IsNoted, rule_class}
 use Rattle.cil_check.proofs.AskedLemmas.{first_from}
 use Rattle.cil_check.proofs.MissingLemmas.{lacks}
 use Rattle.cil_check.proofs.checker.Checker.lacking.Given as goal

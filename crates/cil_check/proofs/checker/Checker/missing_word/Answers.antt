@@ -1,10 +1,5 @@
 use Rattle.std.proofs.Common.{map, filter, slice_get, sym, subst}
-use Rattle.std.specs.Option.{option_or}
-use Rattle.cil_specs.specs.Lookup.{references}
-use Rattle.cil_specs.specs.PolicyFault.{is_unfound, missing_words}
-use Rattle.cil_check.specs.Bound.{Reads}
-use Rattle.cil_check.specs.Checker.{first_unfound}
-use Rattle.cil_check.specs.Missing.{lacking_words}
+use Rattle.cil_check.proofs.Common.{option_or, references, is_unfound, missing_words, Reads, first_unfound, lacking_words}
 use Rattle.cil_check.proofs.PositionLemmas.{first-append}
 use Rattle.cil_check.proofs.AskedLemmas.{reads-or, reads-as}
 use Rattle.cil_check.proofs.checker.Checker.missing_word.Goals as goal

@@ -1,6 +1,5 @@
 use Rattle.std.proofs.Common.{sym, subst, ◌∙◌}
-use Rattle.cil_check.specs.Bound.{IsOf}
-use Rattle.cil_check.specs.Permissions.{HaveListed, HaveWords}
+use Rattle.cil_check.proofs.Common.{IsOf, HaveListed, HaveWords}
 use Rattle.cil_check.proofs.checker.Checker.of.Goals as goal
 
 pub fill-requires : goal.fill-requires

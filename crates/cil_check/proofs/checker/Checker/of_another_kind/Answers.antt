@@ -1,9 +1,5 @@
 use Rattle.std.proofs.Common.{None, Some, not, get_or, refl, sym, ap, ◌∙◌, subst}
-use Rattle.cil_specs.specs.Lookup.{types, leads}
-use Rattle.cil_specs.specs.PolicyFault.{is_of_another_kind}
-use Rattle.cil_bind.specs.Lookup.{IsLead}
-use Rattle.cil_check.specs.Bound.{Reads}
-use Rattle.cil_check.specs.Kinds.{test_of}
+use Rattle.cil_check.proofs.Common.{types, leads, is_of_another_kind, IsLead, Reads, test_of}
 use Rattle.cil_check.proofs.SeenLemmas.{seen-lead, seen-word}
 use Rattle.cil_check.proofs.AskedLemmas.{reads-none, reads-some, nowhere-kind, there-kind}
 use Rattle.cil_check.proofs.checker.Checker.of_another_kind.Goals as goal

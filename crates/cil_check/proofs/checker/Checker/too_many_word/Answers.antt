@@ -1,9 +1,5 @@
 use Rattle.std.proofs.Common.{None, Some, slice_get, refl, sym, ap, ◌∙◌, subst}
-use Rattle.cil_specs.specs.PolicyFault.{has_too_many, too_many_words}
-use Rattle.cil_specs.specs.Rule.{is_class}
-use Rattle.cil_parse.specs.Forms.{words_in}
-use Rattle.cil_check.specs.Bound.{Reads}
-use Rattle.cil_check.specs.Kinds.{word_if}
+use Rattle.cil_check.proofs.Common.{has_too_many, too_many_words, is_class, words_in, Reads, word_if}
 use Rattle.cil_check.proofs.SeenLemmas.{seen-kind, seen-word}
 use Rattle.cil_check.proofs.AskedLemmas.{reads-none, reads-some, reads-as}
 use Rattle.cil_check.proofs.WordLemmas.{once-first}

@@ -1,8 +1,5 @@
 use Rattle.std.proofs.Common.{◌≡◌, List}
-use Rattle.cil_specs.specs.Joined.{Placed}
-use Rattle.cil_specs.specs.Lookup.{references}
-use Rattle.cil_check.specs.Bound.{IsSeen}
-use Rattle.cil_check.specs.Checker.{first_unfound}
+use Rattle.cil_check.proofs.Common.{Placed, references, IsSeen, first_unfound}
 use Rattle.cil_check.proofs.checker.Checker.unfound.Given as goal
 
 -- the first that leads nowhere stands no earlier

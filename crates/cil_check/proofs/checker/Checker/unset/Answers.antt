@@ -1,10 +1,5 @@
 use Rattle.std.proofs.Common.{None, Some, not, ◌&&◌, is_some, get_or, refl, sym, ap, ◌∙◌, subst}
-use Rattle.cil_specs.specs.Lookup.{types, leads}
-use Rattle.cil_specs.specs.PolicyFault.{is_unset}
-use Rattle.cil_bind.specs.Lookup.{IsLead}
-use Rattle.cil_check.specs.Bound.{Reads}
-use Rattle.cil_check.specs.Associations.{first_at}
-use Rattle.cil_check.specs.Kinds.{word_if}
+use Rattle.cil_check.proofs.Common.{types, leads, is_unset, IsLead, Reads, first_at, word_if}
 use Rattle.cil_check.proofs.SeenLemmas.{seen-lead, seen-word}
 use Rattle.cil_check.proofs.WordLemmas.{unset-first}
 use Rattle.cil_check.proofs.AskedLemmas.{reads-none, reads-some, reads-as, nowhere-unset}

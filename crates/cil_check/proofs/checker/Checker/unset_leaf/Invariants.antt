@@ -1,12 +1,5 @@
 use Rattle.std.proofs.Common.{◌≡◌, List}
-use Rattle.cil_specs.specs.Joined.{Placed}
-use Rattle.cil_specs.specs.PolicyFault.{is_unset}
-use Rattle.cil_parse.specs.Forms.{words_in}
-use Rattle.cil_specs.specs.Names.{Word}
-use Rattle.cil_specs.specs.Expr.{WordExpr}
-use Rattle.cil_specs.specs.Statements.{attribute_set}
-use Rattle.cil_check.specs.Bound.{IsSeen}
-use Rattle.cil_check.specs.Checker.{IsNoted}
+use Rattle.cil_check.proofs.Common.{Placed, is_unset, words_in, Word, WordExpr, attribute_set, IsSeen, IsNoted}
 use Rattle.cil_check.proofs.AskedLemmas.{first_from}
 use Rattle.cil_check.proofs.checker.Checker.unset_leaf.Given as goal
 

@@ -1,7 +1,5 @@
 use Rattle.std.proofs.Common.{take, drop, fold, sym, ap, ◌∙◌}
-use Rattle.std.proofs.lemmas.List.{take-append-drop}
-use Rattle.std.proofs.lemmas.List.Sums.{fold-append}
-use Rattle.cil_check.specs.Few.{with_number}
+use Rattle.cil_check.proofs.Common.{take-append-drop, fold-append, with_number}
 use Rattle.cil_check.proofs.FewLemmas.{fold-over}
 use Rattle.cil_check.proofs.few.Few.insert_all.Goals as goal
 

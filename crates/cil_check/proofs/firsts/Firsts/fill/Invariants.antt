@@ -1,7 +1,5 @@
 use Rattle.std.proofs.Common.{List, take}
-use Rattle.cil_specs.specs.Joined.{Placed}
-use Rattle.cil_check.specs.Bound.{IsOf}
-use Rattle.cil_check.specs.Associations.{HasFirstsOf}
+use Rattle.cil_check.proofs.Common.{Placed, IsOf, HasFirstsOf}
 use Rattle.cil_check.proofs.firsts.Firsts.fill.Given as goal
 
 -- the first statements among those gone over are noted

@@ -1,6 +1,5 @@
 use Rattle.std.proofs.Common.{None, Some, map, slice_get, option_map, sym, ap, ◌∙◌}
-use Rattle.std.proofs.lemmas.Option.{slice_get-map}
-use Rattle.cil_check.specs.Groups.{list_at}
+use Rattle.cil_check.proofs.Common.{slice_get-map, list_at}
 use Rattle.cil_check.proofs.InheritedLemmas.{at-index, found-list}
 use Rattle.cil_check.proofs.groups.Groups.get.Goals as goal
 

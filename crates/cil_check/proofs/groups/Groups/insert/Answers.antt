@@ -1,7 +1,5 @@
 use Rattle.std.proofs.Common.{◌≡◌, ◌<◌, ◌+◌, length-append, ◌==◌, ◌++◌, ◌∷◌, [], None, length, map, set, position, option_map, sym, ap, ◌∙◌, subst, refl, arith}
-use Rattle.std.proofs.lemmas.Option.{slice_get_read, slice_get-map}
-use Rattle.std.proofs.lemmas.List.{map-append, map-set, length-map, length-set}
-use Rattle.cil_check.specs.Groups.{list_at}
+use Rattle.cil_check.proofs.Common.{slice_get_read, slice_get-map, map-append, map-set, length-map, length-set, list_at}
 use Rattle.cil_check.proofs.InheritedLemmas.{noted-more, noted-new, with_one, inserted-last}
 use Rattle.cil_check.proofs.groups.Groups.insert.Goals as goal
 

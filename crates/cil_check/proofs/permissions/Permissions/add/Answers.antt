@@ -1,7 +1,5 @@
 use Rattle.std.proofs.Common.{◌++◌, ◌∷◌, [], not, ap, sym, ◌∙◌, if◌then◌else◌}
-use Rattle.std.specs.List.{list_any}
-use Rattle.cil_check.specs.Permissions.{is_listed}
-use Rattle.cil_check.specs.declared.permissions.Listed.{Listed}
+use Rattle.cil_check.proofs.Common.{list_any, is_listed, Listed}
 use Rattle.cil_check.proofs.PermissionLemmas.{listed-insert, told-new}
 use Rattle.cil_check.proofs.permissions.Permissions.add.Goals as goal
 

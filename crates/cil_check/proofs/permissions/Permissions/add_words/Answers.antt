@@ -1,10 +1,5 @@
 use Rattle.std.proofs.Common.{◌||◌, ◌&&◌, ◌==◌, Some, map, refl, ap, ◌∙◌, arith}
-use Rattle.std.specs.List.{list_any}
-use Rattle.std.proofs.lemmas.List.{take_all}
-use Rattle.cil_specs.specs.Lookup.{has_name, texts, distinct}
-use Rattle.cil_parse.specs.Parsed.{texts_of}
-use Rattle.cil_bind.specs.Lookup.{word_at}
-use Rattle.cil_check.specs.Permissions.{is_listed}
+use Rattle.cil_check.proofs.Common.{list_any, take_all, has_name, texts, distinct, texts_of, word_at, is_listed}
 use Rattle.cil_check.proofs.PermissionLemmas.{no_word, words-next, word-read, as-many, one-name-at, nothing-more, open-first, open-next}
 use Rattle.cil_check.proofs.permissions.Permissions.add_words.Goals as goal
 

@@ -1,13 +1,5 @@
 use Rattle.std.proofs.Common.{◌≡◌, ◌<◌, ◌||◌, ◌&&◌, ◌==◌, ℕ, [], false, List, map, length, take, bytes_eq, Some}
-use Rattle.std.specs.List.{list_any, AllByRecursion, IsDistinct}
-use Rattle.cil_specs.specs.Names.{Word}
-use Rattle.cil_specs.specs.Lookup.{has_name, texts, distinct}
-use Rattle.cil_parse.specs.Builder.{read}
-use Rattle.cil_parse.specs.Lexicon.{AreNumbersOf}
-use Rattle.cil_parse.specs.Parsed.{texts_of, names_of}
-use Rattle.cil_bind.specs.Lookup.{word_at}
-use Rattle.cil_check.specs.Permissions.{is_listed}
-use Rattle.cil_bind.specs.Written.{IsOneName}
+use Rattle.cil_check.proofs.Common.{list_any, AllByRecursion, IsDistinct, Word, has_name, texts, distinct, read, AreNumbersOf, texts_of, names_of, word_at, is_listed, IsOneName}
 use Rattle.cil_check.proofs.permissions.Permissions.add_words.Given as goal
 
 -- so many words are taken up

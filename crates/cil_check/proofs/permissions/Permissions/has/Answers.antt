@@ -1,6 +1,5 @@
 use Rattle.std.proofs.Common.{ap, ◌∙◌}
-use Rattle.std.specs.List.{list_any}
-use Rattle.cil_check.specs.declared.permissions.Listed.{Listed}
+use Rattle.cil_check.proofs.Common.{list_any, Listed}
 use Rattle.cil_check.proofs.PermissionLemmas.{derived-listed}
 use Rattle.cil_check.proofs.permissions.Permissions.has.Goals as goal
 

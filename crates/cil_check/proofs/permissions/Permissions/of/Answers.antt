@@ -1,18 +1,5 @@
 use Rattle.std.proofs.Common.{◌≡◌, ◌≤◌, ◌<◌, ◌+◌, ◌&&◌, ℕ, List, [], ◌∷◌, ◌++◌, Some, map, slice_get, length, sym, ap, ◌∙◌, subst, arith}
-use Rattle.std.specs.List.{list_any, AllByRecursion}
-use Rattle.std.proofs.lemmas.List.{take_all}
-use Rattle.std.proofs.lemmas.Option.{get_or_from_slice_get}
-use Rattle.cil_specs.specs.Lookup.{has_name, texts, distinct, own_permissions}
-use Rattle.std.proofs.lemmas.Bool.{le-ltb}
-use Rattle.cil_specs.specs.Joined.{Placed}
-use Rattle.cil_specs.specs.Statements.{Form}
-use Rattle.cil_bind.specs.Lookup.{word_at}
-use Rattle.cil_parse.specs.Forms.{permissions_in, kind_of}
-use Rattle.cil_parse.specs.Lexicon.{AreNumbersOf}
-use Rattle.cil_parse.specs.Parsed.{texts_of}
-use Rattle.cil_check.specs.Bound.{IsOf}
-use Rattle.cil_bind.specs.Written.{IsOneName}
-use Rattle.cil_check.specs.Permissions.{is_listed, HaveWords, lists_own}
+use Rattle.cil_check.proofs.Common.{list_any, AllByRecursion, take_all, get_or_from_slice_get, has_name, texts, distinct, own_permissions, le-ltb, Placed, Form, word_at, permissions_in, kind_of, AreNumbersOf, texts_of, IsOf, IsOneName, is_listed, HaveWords, lists_own}
 use Rattle.cil_check.proofs.SeenLemmas.{there-at}
 use Rattle.cil_check.proofs.PermissionLemmas.{HaveListedBelow, own-listed, none-listed, listed-next, listed-stay, listed-all, none-below, lists-next}
 use Rattle.cil_check.proofs.permissions.Permissions.of.Goals as goal

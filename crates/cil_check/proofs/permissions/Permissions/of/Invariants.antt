@@ -1,7 +1,5 @@
 use Rattle.std.proofs.Common.{◌≡◌, [], List, take}
-use Rattle.cil_specs.specs.Joined.{Placed}
-use Rattle.cil_check.specs.Bound.{IsOf}
-use Rattle.cil_check.specs.Permissions.{HaveWords}
+use Rattle.cil_check.proofs.Common.{Placed, IsOf, HaveWords}
 use Rattle.cil_check.proofs.PermissionLemmas.{HaveListedBelow}
 use Rattle.cil_check.proofs.permissions.Permissions.of.Given as goal
 

@@ -1,5 +1,4 @@
-use Rattle.cil_parse.specs.Forms.{permissions_in}
-use Rattle.cil_parse.specs.Parsed.{texts_of}
+use Rattle.cil_check.proofs.Common.{permissions_in, texts_of}
 use Rattle.cil_check.proofs.PermissionLemmas.{no_word, word-read}
 use Rattle.cil_check.proofs.witnesses.Witnesses.insert_all.Goals as goal
 

@@ -1,10 +1,7 @@
 use Rattle.std.proofs.Common.{◌∙◌, ap, subst, sym}
 use Rattle.cil_member_rows.specs.Rows as member_rows
-use Rattle.cil_member_updates.specs.Policy.{AreCounts}
-use Rattle.cil_resolve.specs.Resolved.{meaning_in}
+use Rattle.cil_counters.proofs.Common.{AreCounts, meaning_in, count_named, AreSymbolsOf}
 use Rattle.cil_keyed_lines.specs.Keyed as access_tables
-use Rattle.cil_table_updates.specs.Policies.{count_named}
-use Rattle.cil_counters.specs.Counted.{AreSymbolsOf}
 use Rattle.cil_counters.proofs.CountedLemmas.{counted-by-alike}
 use Rattle.cil_counters.proofs.counters.Counters.bring_members.Goals as goal
 

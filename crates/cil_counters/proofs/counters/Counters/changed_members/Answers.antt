@@ -1,6 +1,4 @@
-use Rattle.std.proofs.lemmas.Result.{IfOk-weaker}
-use Rattle.cil_member_rows.specs.Rows.{count_before, count_now}
-use Rattle.cil_counters.specs.ChangedMembers.{pairs_of}
+use Rattle.cil_counters.proofs.Common.{IfOk-weaker, count_before, count_now, pairs_of}
 use Rattle.cil_counters.proofs.ChangedMemberLemmas.{changed-named}
 use Rattle.cil_counters.proofs.counters.Counters.changed_members.Goals as goal
 

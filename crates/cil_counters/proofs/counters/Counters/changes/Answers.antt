@@ -1,12 +1,7 @@
 use Rattle.std.proofs.Common.{subst, sym}
-use Rattle.std.proofs.lemmas.Result.{IfOk-weaker}
+use Rattle.cil_counters.proofs.Common.{IfOk-weaker, AreNumbersOf, meaning_in, is_in_table, AreChanges, AreRanks}
 use Rattle.cil_member_rows.specs.Rows as member_rows
-use Rattle.cil_parse.specs.Lexicon.{AreNumbersOf}
-use Rattle.cil_resolve.specs.Resolved.{meaning_in}
-use Rattle.cil_specs.specs.Meaning.{is_in_table}
-use Rattle.cil_specs.specs.Report.{AreChanges}
 use Rattle.cil_keyed_lines.specs.Keyed as access_tables
-use Rattle.cil_counters.specs.SymbolRanks.{AreRanks}
 use Rattle.cil_counters.proofs.ChangedLemmas.{added-numbered, are-changes, numbered-before, numbered-now, removed-numbered}
 use Rattle.cil_counters.proofs.counters.Counters.changes.Goals as goal
 

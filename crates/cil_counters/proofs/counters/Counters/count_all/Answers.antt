@@ -1,9 +1,7 @@
 use Rattle.std.proofs.Common.{refl}
 use Rattle.cil_member_rows.specs.Rows as member_rows
-use Rattle.cil_resolve.specs.Resolved.{meaning_in}
-use Rattle.cil_resolve.specs.Sets.{sets_in}
+use Rattle.cil_counters.proofs.Common.{meaning_in, sets_in, names-apart}
 use Rattle.cil_keyed_lines.specs.Keyed as access_tables
-use Rattle.cil_table_updates.proofs.PlaceLemmas.{names-apart}
 use Rattle.cil_counters.proofs.ChangeCountLemmas.{changes-counted, none-went}
 use Rattle.cil_counters.proofs.CountedLemmas.{counted-none, none-of}
 use Rattle.cil_counters.proofs.counters.Counters.count_all.Goals as goal

@@ -1,11 +1,8 @@
 use Rattle.cil_member_rows.specs.Rows as member_rows
 use Rattle.cil_resolve.proofs.SetOrderLemmas.{both-ok}
-use Rattle.cil_resolve.specs.Resolved.{meaning_in}
-use Rattle.cil_specs.specs.Meaning.{is_in_table}
-use Rattle.cil_specs.specs.Report.{AreChanges}
+use Rattle.cil_counters.proofs.Common.{meaning_in, is_in_table, AreChanges, names-apart}
 use Rattle.cil_symbol_changes.specs.Counts.{has_come, AreSoMany}
 use Rattle.cil_keyed_lines.specs.Keyed as access_tables
-use Rattle.cil_table_updates.proofs.PlaceLemmas.{names-apart}
 use Rattle.cil_counters.specs.ChangeCounts.{CountsSome}
 use Rattle.cil_counters.proofs.ChangeCountLemmas.{changes-counted}
 use Rattle.cil_counters.proofs.counters.Counters.count_changes.Goals as goal

@@ -1,10 +1,8 @@
 use Rattle.std.proofs.Common.{◌≡◌, ◌∙◌, arith, length, subst, sym, true}
-use Rattle.std.specs.List.{list_all}
+use Rattle.cil_counters.proofs.Common.{list_all, is_rule_below, meaning_in}
 use Rattle.cil_delta_specs.specs.Work.{AdjustsFew, EvaluatesFew}
 use Rattle.cil_member_rows.specs.Rows as member_rows
-use Rattle.cil_resolve.specs.Below.{is_rule_below}
 use Rattle.cil_resolve.specs.Meter.{adjustments_in, evaluations_in}
-use Rattle.cil_resolve.specs.Resolved.{meaning_in}
 use Rattle.cil_keyed_lines.specs.Keyed as access_tables
 use Rattle.cil_table_updates.proofs.FewLemmas.{adjusts-few}
 use Rattle.cil_counters.proofs.FoundLemmas.{found, tells}

@@ -1,7 +1,5 @@
 use Rattle.std.proofs.Common.{◌≡◌}
-use Rattle.cil_resolve.specs.Resolved.{meaning_in}
-use Rattle.cil_resolve.specs.Sets.{name_in}
-use Rattle.cil_specs.specs.Members.{is_member}
+use Rattle.cil_counters.proofs.Common.{meaning_in, name_in, is_member}
 use Rattle.cil_violations.specs.Rows.{hits}
 use Rattle.cil_counters.proofs.counters.Counters.members.Given as goal
 

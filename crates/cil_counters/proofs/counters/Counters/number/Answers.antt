@@ -1,10 +1,8 @@
 use Rattle.std.proofs.Common.{◌≡◌, ◌+◌, ◌≤◌, length, max, subst, true}
-use Rattle.std.specs.List.{list_all}
+use Rattle.cil_counters.proofs.Common.{list_all, is_rule_below, numbers-long}
 use Rattle.cil_member_rows.specs.Rows as member_rows
-use Rattle.cil_resolve.specs.Below.{is_rule_below}
 use Rattle.cil_keyed_lines.specs.Keyed as access_tables
 use Rattle.cil_symbols.proofs.InUseLemmas.{numbers-kept}
-use Rattle.cil_member_updates.proofs.SymbolLemmas.{numbers-long}
 use Rattle.cil_counters.proofs.KeptLemmas.{counted-by-kept}
 use Rattle.cil_counters.proofs.counters.Counters.number.Goals as goal
 

@@ -1,14 +1,8 @@
 use Rattle.std.proofs.Common.{subst, sym}
-use Rattle.std.specs.Rc.{rc_value}
-use Rattle.std.proofs.lemmas.Result.{IfOk-weaker}
+use Rattle.cil_counters.proofs.Common.{rc_value, IfOk-weaker, AreNumbersOf, meaning_in, is_in_table, AreAtoms, AreRanks}
 use Rattle.cil_member_rows.specs.Rows as member_rows
-use Rattle.cil_parse.specs.Lexicon.{AreNumbersOf}
-use Rattle.cil_resolve.specs.Resolved.{meaning_in}
 use Rattle.cil_rules.specs.Rows.{listed}
-use Rattle.cil_specs.specs.Meaning.{is_in_table}
-use Rattle.cil_specs.specs.Report.{AreAtoms}
 use Rattle.cil_keyed_lines.specs.Keyed as access_tables
-use Rattle.cil_counters.specs.SymbolRanks.{AreRanks}
 use Rattle.cil_counters.proofs.TableLemmas.{found-atoms, found-numbered, present-numbered}
 use Rattle.cil_counters.proofs.counters.Counters.table.Goals as goal
 

@@ -1,11 +1,6 @@
 use Rattle.std.proofs.Common.{◌<◌, ◌^◌, subst, sym}
-use Rattle.std.specs.Rc.{rc_value}
+use Rattle.cil_counters.proofs.Common.{rc_value, AreNumbersOf, meaning_in, sets_in, AreTheSame, HasSoundSets}
 use Rattle.cil_member_rows.specs.Rows as member_rows
-use Rattle.cil_parse.specs.Lexicon.{AreNumbersOf}
-use Rattle.cil_resolve.specs.Resolved.{meaning_in}
-use Rattle.cil_resolve.specs.Sets.{sets_in}
-use Rattle.cil_specs.specs.Dependence.{AreTheSame}
-use Rattle.cil_specs.specs.Members.{HasSoundSets}
 use Rattle.cil_counters.proofs.CountedLemmas.{members-counted}
 use Rattle.cil_counters.proofs.counters.Counters.violations.Goals as goal
 

@@ -1,7 +1,6 @@
 use Rattle.std.proofs.Common.{[], sym, ◌∙◌, append-nil}
-use Rattle.cil_specs.specs.Expr.{leaves}
+use Rattle.cil_expression.proofs.Common.{leaves, nodes_of}
 use Rattle.cil_expression.specs.Expression.{expr_in}
-use Rattle.cil_expression.specs.Spelling.{nodes_of}
 use Rattle.cil_expression.proofs.expression.SetExpression.holds.Goals as goal
 
 pub returns : goal.returns

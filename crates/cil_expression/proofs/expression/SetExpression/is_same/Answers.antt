@@ -1,8 +1,6 @@
 use Rattle.std.proofs.Common.{◌≡◌, ◌&&◌, Contains, ap, sym, subst, ◌∙◌}
-use Rattle.cil_specs.specs.Expr.{leaves}
+use Rattle.cil_expression.proofs.Common.{leaves, all_same, same_node, nodes_of}
 use Rattle.cil_expression.specs.Expression.{expr_in}
-use Rattle.cil_expression.specs.Same.{all_same, same_node}
-use Rattle.cil_expression.specs.Spelling.{nodes_of}
 use Rattle.cil_expression.proofs.SameLemmas.{pointwise-nodes}
 use Rattle.cil_expression.proofs.expression.SetExpression.is_same.Goals as goal
 use Rattle.cil_expression.proofs.expression.SetExpression.is_same.Goals.{then-nodes, else-nodes}

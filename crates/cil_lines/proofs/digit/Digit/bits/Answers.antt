@@ -1,6 +1,5 @@
 use Rattle.std.proofs.Common.{◌<◌, ◌≤◌, ◌∙◌, ap, sym, length, arith, rules}
-use Rattle.std.proofs.lemmas.List.{get_or_default}
-use Rattle.cil_lines.specs.declared.digit.Entry.{Entry}
+use Rattle.cil_lines.proofs.Common.{get_or_default, Entry}
 use Rattle.cil_lines.proofs.EntryLemmas.{Rises-from, bits_in-entry, bits_in-gap}
 use Rattle.cil_lines.proofs.DigitLemmas.{dense_is, sparse_is}
 use Rattle.cil_lines.proofs.digit.Digit.bits.Goals as goal

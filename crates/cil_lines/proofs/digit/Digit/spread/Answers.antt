@@ -1,8 +1,5 @@
 use Rattle.std.proofs.Common.{◌≡◌, ◌≤◌, ◌<◌, ℕ, ◌∙◌, ap, refl, length, get_or, arith, rules, inl, inr}
-use Rattle.std.proofs.lemmas.Bool.{cases_lt}
-use Rattle.std.proofs.lemmas.List.{with_items_is}
-use Rattle.std.proofs.Math.ListN.{get_or-eq_default}
-use Rattle.cil_lines.specs.Digit.{Rises}
+use Rattle.cil_lines.proofs.Common.{cases_lt, with_items_is, get_or-eq_default, Rises}
 use Rattle.cil_lines.proofs.EntryLemmas.{Rises-from}
 use Rattle.cil_lines.proofs.DigitLemmas.{bits-spread}
 use Rattle.cil_lines.proofs.PlaceLemmas.{kept-spread}

@@ -1,6 +1,5 @@
 use Rattle.std.proofs.Common.{◌+◌, ◌∙◌, ap, refl, arith}
-use Rattle.std.proofs.lemmas.List.{with_items_is}
-use Rattle.cil_lines.specs.Line.{hit}
+use Rattle.cil_lines.proofs.Common.{with_items_is, hit}
 use Rattle.cil_lines.proofs.LineLemmas.{same_now, add_now, OnErr-any}
 use Rattle.cil_lines.proofs.StepLemmas.{same_below, raised_below}
 use Rattle.cil_lines.proofs.line.Line.add.Goals as goal

@@ -1,5 +1,4 @@
-use Rattle.cil_lines.specs.Digit.{bits_of}
-use Rattle.cil_lines.specs.Line.{total}
+use Rattle.cil_lines.proofs.Common.{bits_of, total}
 use Rattle.cil_lines.proofs.line.Line.next_place.Goals as goal
 
 pub returns : goal.returns

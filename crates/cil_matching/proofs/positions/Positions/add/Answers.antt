@@ -1,6 +1,5 @@
 use Rattle.std.proofs.Common.{◌∙◌, ◌++◌, ◌∷◌, [], map, ap}
-use Rattle.std.specs.List.{list_any}
-use Rattle.cil_matching.specs.Spot.{same_spot, spot_of}
+use Rattle.cil_matching.proofs.Common.{list_any, same_spot, spot_of}
 use Rattle.cil_matching.proofs.SpotLemmas.{insert-spots}
 use Rattle.cil_matching.proofs.positions.Positions.add.Goals as goal
 

@@ -1,7 +1,5 @@
 use Rattle.std.proofs.Common.{◌≡◌, ℕ, ◌+◌, ◌^◌, ◌<◌, bit_and, arith, rules, w64}
-use Rattle.std.specs.Int.{bit_not}
-use Rattle.cil_recorded.specs.Log.{hit_at}
-use Rattle.cil_member_rows.specs.Rows.{count_before, count_now}
+use Rattle.cil_member_rows.proofs.Common.{bit_not, hit_at, count_before, count_now}
 use Rattle.cil_member_rows.proofs.HeldLemmas.{held_shifted}
 use Rattle.cil_member_rows.proofs.MarkLemmas.{marked_shifted}
 use Rattle.cil_member_rows.proofs.ShiftLemmas.{hit_without, hit_at_without}

@@ -1,8 +1,5 @@
 use Rattle.std.proofs.Common.{◌∙◌, ◌+◌, ◌/◌, get_or, arith}
-use Rattle.std.proofs.lemmas.List.{length-set}
-use Rattle.std.proofs.lemmas.Option.{slice_get_within}
-use Rattle.cil_resolve.specs.Resolved.{meaning_in}
-use Rattle.cil_member_updates.specs.Places.{no_declared}
+use Rattle.cil_member_updates.proofs.Common.{length-set, slice_get_within, meaning_in, no_declared}
 use Rattle.cil_member_updates.proofs.KeptLemmas.{among-none, among-next, among-all}
 use Rattle.cil_member_updates.proofs.kept.KeptTypes.of.Goals as goal
 

@@ -1,9 +1,7 @@
 use Rattle.std.proofs.Common.{arith, rules, ◌≡◌, ◌<◌, ◌++◌, true, false, [], map, length, get_or, Some, refl, sym, ap, ◌∙◌}
-use Rattle.std.proofs.lemmas.Option.{slice_get_within}
+use Rattle.cil_optionals.proofs.Common.{slice_get_within, texts_of, commons_at, given_at, gives_common}
 use Rattle.cil_parse.specs.Forms.{kind_of, permissions_in}
-use Rattle.cil_parse.specs.Parsed.{texts_of}
 use Rattle.cil_bind.specs.Listing.{lists_own}
-use Rattle.cil_optionals.specs.Given.{commons_at, given_at, gives_common}
 use Rattle.cil_bind.proofs.BindingLemmas.{kind-at}
 use Rattle.cil_optionals.proofs.AsksLemmas.{bound-at, kinds-long, leads-of, seen-of}
 use Rattle.cil_optionals.proofs.PermissionLemmas.{upto-lists, upto-gives, upto-other}

@@ -1,7 +1,5 @@
 use Rattle.std.proofs.Common.{List}
-use Rattle.cil_specs.specs.Joined.{Placed}
-use Rattle.cil_optionals.specs.Given.{IsUpTo, IsInverse}
-use Rattle.cil_optionals.specs.Providers.{IsReady}
+use Rattle.cil_optionals.proofs.Common.{Placed, IsUpTo, IsInverse, IsReady}
 use Rattle.cil_optionals.proofs.listed.Listed.add_all.Given as goal
 
 -- so many statements are taken up

@@ -1,7 +1,5 @@
 use Rattle.std.proofs.Common.{◌≡◌, ◌<◌, ◌||◌, false, length, get_or, slice_get, Some, refl, sym, ap, ◌∙◌, subst}
-use Rattle.std.specs.List.{list_any}
-use Rattle.std.proofs.lemmas.Option.{slice_get_read}
-use Rattle.cil_optionals.specs.Given.{lists, places_in, commons_at, has_gift}
+use Rattle.cil_optionals.proofs.Common.{list_any, slice_get_read, lists, places_in, commons_at, has_gift}
 use Rattle.cil_optionals.proofs.ListedLemmas.{by-listers}
 use Rattle.cil_optionals.proofs.listed.Listed.has.Goals as goal
 

@@ -1,10 +1,5 @@
 use Rattle.std.proofs.Common.{◌≡◌, ◌<◌, ◌||◌, ◌&&◌, ◌==◌, length, bytes_eq, slice_get, Some, refl, sym, ap, ◌∙◌, arith}
-use Rattle.std.specs.List.{list_any}
-use Rattle.std.proofs.lemmas.List.{length-set}
-use Rattle.std.proofs.lemmas.Option.{slice_get_read}
-use Rattle.std.proofs.lemmas.List.Quantifiers.{position-Some}
-use Rattle.cil_optionals.specs.Given.{lists, commons_at, has_gift}
-use Rattle.cil_optionals.specs.declared.listed.Permission.{Permission}
+use Rattle.cil_optionals.proofs.Common.{list_any, length-set, slice_get_read, position-Some, lists, commons_at, has_gift, Permission}
 use Rattle.cil_optionals.proofs.ListedLemmas.{listers-insert}
 use Rattle.cil_optionals.proofs.PermissionLemmas.{lists-insert}
 use Rattle.cil_optionals.proofs.listed.Listed.insert.Goals as goal

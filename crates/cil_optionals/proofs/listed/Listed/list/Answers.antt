@@ -1,10 +1,5 @@
 use Rattle.std.proofs.Common.{◌||◌, ◌&&◌, ◌==◌, bytes_eq, sym, ap, ◌∙◌, arith}
-use Rattle.std.proofs.lemmas.List.{take_all}
-use Rattle.cil_specs.specs.Lookup.{has_name, texts}
-use Rattle.cil_bind.proofs.ScopeLemmas.{read-text, read-within}
-use Rattle.cil_parse.specs.Parsed.{texts_of}
-use Rattle.cil_optionals.specs.Given.{lists}
-use Rattle.cil_bind.proofs.PermissionLemmas.{word-read, as-many}
+use Rattle.cil_optionals.proofs.Common.{take_all, has_name, texts, read-text, read-within, texts_of, lists, word-read, as-many}
 use Rattle.cil_optionals.proofs.PermissionLemmas.{words-next, no_word}
 use Rattle.cil_optionals.proofs.listed.Listed.list.Goals as goal
 

@@ -1,9 +1,5 @@
 use Rattle.std.proofs.Common.{◌≡◌, ◌||◌, ◌&&◌, ◌==◌, ℕ, List, Some, map, take}
-use Rattle.cil_specs.specs.Names.{Word}
-use Rattle.cil_specs.specs.Lookup.{has_name, texts}
-use Rattle.cil_parse.specs.Builder.{read}
-use Rattle.cil_parse.specs.Parsed.{texts_of}
-use Rattle.cil_optionals.specs.Given.{lists, IsInverse}
+use Rattle.cil_optionals.proofs.Common.{Word, has_name, texts, read, texts_of, lists, IsInverse}
 use Rattle.cil_optionals.proofs.listed.Listed.list.Given as goal
 
 -- so many words are taken up

@@ -1,6 +1,5 @@
 use Rattle.std.proofs.Common.{◌≡◌, ◌∷◌, [], Some, length, bytes_eq, position, ap, ◌∙◌, arith}
-use Rattle.std.proofs.lemmas.List.{length-append}
-use Rattle.cil_optionals.specs.Given.{listers_at}
+use Rattle.cil_optionals.proofs.Common.{length-append, listers_at}
 use Rattle.cil_optionals.proofs.ListedLemmas.{missing, number-new, number-named, with-new}
 use Rattle.cil_optionals.proofs.listed.Listed.number.Goals as goal
 

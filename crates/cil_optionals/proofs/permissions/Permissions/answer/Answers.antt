@@ -1,6 +1,5 @@
 use Rattle.std.proofs.Common.{true, false, sym, ◌∙◌}
-use Rattle.cil_optionals.specs.Given.{permissions_in}
-use Rattle.cil_optionals.specs.declared.listed.Permission.{Permission}
+use Rattle.cil_optionals.proofs.Common.{permissions_in, Permission}
 use Rattle.cil_optionals.proofs.ListedLemmas.{answers-after}
 use Rattle.cil_optionals.proofs.permissions.Permissions.answer.Goals as goal
 

@@ -1,10 +1,6 @@
 use Rattle.std.proofs.Common.{◌≡◌, true, false, [], map, get_or, Some, refl, sym, ap, ◌∙◌, subst}
-use Rattle.cil_specs.specs.Lookup.{classes, leads, texts}
-use Rattle.cil_bind.specs.Lookup.{IsLead}
+use Rattle.cil_optionals.proofs.Common.{classes, leads, texts, IsLead, texts_of, are_there, is_rule, permissions_in}
 use Rattle.cil_parse.specs.Forms.{kind_of, permissions_in as listed_in}
-use Rattle.cil_parse.specs.Parsed.{texts_of}
-use Rattle.cil_optionals.specs.Asks.{are_there}
-use Rattle.cil_optionals.specs.Given.{is_rule, permissions_in}
 use Rattle.cil_optionals.proofs.AsksLemmas.{bound-at, seen-of}
 use Rattle.cil_optionals.proofs.KnownLemmas.{row-from}
 use Rattle.cil_optionals.proofs.PermissionLemmas.{rule-class, names-none, there-none, there-some}

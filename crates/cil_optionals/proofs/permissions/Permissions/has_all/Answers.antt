@@ -1,10 +1,5 @@
 use Rattle.std.proofs.Common.{sym, ap, ◌∙◌, arith}
-use Rattle.std.specs.List.{list_all}
-use Rattle.std.proofs.lemmas.List.{take_all}
-use Rattle.cil_bind.proofs.ScopeLemmas.{read-text, read-within}
-use Rattle.cil_parse.specs.Parsed.{texts_of}
-use Rattle.cil_optionals.specs.Given.{permissions_in}
-use Rattle.cil_bind.proofs.PermissionLemmas.{word-read, as-many}
+use Rattle.cil_optionals.proofs.Common.{list_all, take_all, read-text, read-within, texts_of, permissions_in, word-read, as-many}
 use Rattle.cil_optionals.proofs.PermissionLemmas.{all-next, not-all, no_word}
 use Rattle.cil_optionals.proofs.permissions.Permissions.has_all.Goals as goal
 

@@ -1,9 +1,5 @@
 use Rattle.std.proofs.Common.{◌≡◌, List, Some, true, map, take}
-use Rattle.std.specs.List.{list_all}
-use Rattle.cil_specs.specs.Names.{Word}
-use Rattle.cil_parse.specs.Builder.{read}
-use Rattle.cil_parse.specs.Parsed.{texts_of}
-use Rattle.cil_optionals.specs.Given.{permissions_in}
+use Rattle.cil_optionals.proofs.Common.{list_all, Word, read, texts_of, permissions_in}
 use Rattle.cil_optionals.proofs.permissions.Permissions.has_all.Given as goal
 
 -- the class has so many of them

@@ -1,8 +1,6 @@
 use Rattle.std.proofs.Common.{sym, ap, ◌∙◌}
-use Rattle.std.specs.List.{list_all}
+use Rattle.cil_optionals.proofs.Common.{list_all, texts_of, permissions_in, has_list}
 use Rattle.cil_bind.specs.KnownLists.{texts_listed}
-use Rattle.cil_parse.specs.Parsed.{texts_of}
-use Rattle.cil_optionals.specs.Given.{permissions_in, has_list}
 use Rattle.cil_optionals.proofs.KnownLemmas.{listed-words}
 use Rattle.cil_optionals.proofs.permissions.Permissions.has_list.Goals as goal
 

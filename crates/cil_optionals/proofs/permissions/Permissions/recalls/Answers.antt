@@ -1,7 +1,5 @@
 use Rattle.std.proofs.Common.{◌≡◌, Some, slice_get, length, refl, sym, ap, ◌∙◌}
-use Rattle.std.proofs.lemmas.Option.{slice_get_read}
-use Rattle.std.proofs.lemmas.Slice.Eq.{bytes_eq-Decides}
-use Rattle.cil_optionals.specs.Given.{permissions_in}
+use Rattle.cil_optionals.proofs.Common.{slice_get_read, bytes_eq-Decides, permissions_in}
 use Rattle.cil_optionals.proofs.ListedLemmas.{recent-recalled}
 use Rattle.cil_optionals.proofs.permissions.Permissions.recalls.Goals as goal
 

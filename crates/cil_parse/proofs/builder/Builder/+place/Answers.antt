@@ -1,12 +1,8 @@
 use Rattle.std.proofs.Common.{◌≡◌, refl, ap, sym, subst, ◌∙◌, arith}
-use Rattle.std.proofs.lemmas.List.{take_all}
+use Rattle.cil_parse.proofs.Common.{take_all, no_more, statement_then, statements_of, Places, Around}
 use denote.Param.Weighed.{most}
-use Rattle.cil_specs.specs.Statements.{no_more}
-use Rattle.cil_text.specs.Image.{statement_then, statements_of}
 use Rattle.cil_text.specs.declared.statement.Statement.TheViews.{size-Statement}
 use Rattle.cil_text.proofs.Bodies.{leaf_form}
-use Rattle.cil_parse.specs.Builder.{Places}
-use Rattle.cil_parse.specs.declared.row.Around.{Around}
 use Rattle.cil_parse.proofs.FlatLemmas.{block-depth, optional-depth}
 use Rattle.cil_parse.proofs.PlaceLemmas.{places-none, places-next, places-leaf, places-block, places-optional}
 use Rattle.cil_parse.proofs.builder.Builder.+place.Goals as goal

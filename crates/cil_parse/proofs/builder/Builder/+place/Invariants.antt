@@ -1,6 +1,5 @@
 use Rattle.std.proofs.Common.{take}
-use Rattle.cil_text.specs.Image.{statements_of}
-use Rattle.cil_parse.specs.Builder.{Places}
+use Rattle.cil_parse.proofs.Common.{statements_of, Places}
 use Rattle.cil_parse.proofs.builder.Builder.+place.Given as goal
 
 abbrev pub decreases-place : goal.decreases-place

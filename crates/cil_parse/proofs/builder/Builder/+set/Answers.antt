@@ -1,11 +1,7 @@
 use Rattle.std.proofs.Common.{◌≡◌, ◌++◌, ◌∷◌, [], subst, sym, ap, ◌∙◌, OnOk, arith}
-use Rattle.std.proofs.lemmas.List.{drop_all}
-use Rattle.cil_specs.specs.Expr.{opposite, both, either, one_of, leaves}
-use Rattle.cil_text.specs.Image.{expr_of}
+use Rattle.cil_parse.proofs.Common.{drop_all, opposite, both, either, one_of, leaves, expr_of, expr_nodes, AddsExpr}
 use Rattle.cil_text.specs.Expr.{exprs_of}
 use Rattle.cil_text.proofs.Rows.{union_of}
-use Rattle.cil_parse.specs.Forms.{expr_nodes}
-use Rattle.cil_parse.specs.Builder.{AddsExpr}
 use Rattle.cil_parse.specs.declared.row.SetNode.TheVariants.{Not}
 use Rattle.cil_parse.proofs.BuilderLemmas.{GoesOver, adds-then, goes-none, goes-next, goes-end}
 use Rattle.cil_parse.proofs.builder.Builder.+set.Goals as goal

@@ -1,9 +1,5 @@
 use Rattle.std.proofs.Common.{[], false, subst}
-use Rattle.cil_specs.specs.Shape.{Shapes, IsFirstShapeFault}
-use Rattle.cil_text.specs.Image.{FaultIs}
-use Rattle.cil_text.specs.Forest.{forest_of}
-use Rattle.cil_text.specs.Walk.{IsFirstAmong}
-use Rattle.cil_text.proofs.FirstBad.{handed_on, fault_weaker}
+use Rattle.cil_parse.proofs.Common.{Shapes, IsFirstShapeFault, FaultIs, forest_of, IsFirstAmong, handed_on, fault_weaker}
 use Rattle.cil_parse.proofs.builder.Builder.of.Goals as goal
 
 pub returns-in_err-take-clause-err : goal.returns-in_err-take-clause-err

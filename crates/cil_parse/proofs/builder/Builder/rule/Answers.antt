@@ -1,6 +1,5 @@
 use Rattle.std.proofs.Common.{[], ◌∷◌, ◌++◌, map}
-use Rattle.cil_specs.specs.Statements.{target_words}
-use Rattle.cil_text.specs.Image.{word_of, target_of}
+use Rattle.cil_parse.proofs.Common.{target_words, word_of, target_of}
 use Rattle.cil_parse.proofs.BuilderLemmas.{adds-then}
 use Rattle.cil_parse.proofs.builder.Builder.rule.Goals as goal
 

@@ -1,7 +1,5 @@
 use Rattle.std.proofs.Common.{[], ◌∷◌}
-use Rattle.cil_specs.specs.Expr.{leaves}
-use Rattle.cil_text.specs.Image.{word_of, expr_of}
-use Rattle.cil_parse.specs.Forms.{expr_nodes}
+use Rattle.cil_parse.proofs.Common.{leaves, word_of, expr_of, expr_nodes}
 use Rattle.cil_parse.proofs.BuilderLemmas.{adds-then}
 use Rattle.cil_parse.proofs.builder.Builder.set.Goals as goal
 

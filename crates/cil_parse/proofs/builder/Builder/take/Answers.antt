@@ -1,8 +1,5 @@
 use Rattle.std.proofs.Common.{◌≡◌, ◌∷◌, ◌++◌, [], false, ap, subst, ◌∙◌}
-use Rattle.cil_text.specs.Image.{trees_of, statements_of}
-use Rattle.cil_text.specs.Walk.{IsNext, IsFirstAmong}
-use Rattle.cil_text.proofs.FirstBad.{handed_on, fault_weaker}
-use Rattle.cil_parse.specs.Builder.{Places}
+use Rattle.cil_parse.proofs.Common.{trees_of, statements_of, IsNext, IsFirstAmong, handed_on, fault_weaker, Places}
 use Rattle.cil_parse.proofs.TreeLemmas.{way_start, way_more, way_end, way_fault}
 use Rattle.cil_parse.proofs.builder.Builder.take.Goals as goal
 

@@ -1,6 +1,5 @@
 use Rattle.std.proofs.Common.{refl}
-use Rattle.cil_text.specs.Image.{word_of}
-use Rattle.cil_parse.specs.declared.builder.Builder.{Builder}
+use Rattle.cil_parse.proofs.Common.{word_of, Builder}
 use Rattle.cil_parse.proofs.BuilderLemmas.{adds-word}
 use Rattle.cil_parse.proofs.builder.Builder.word.Goals as goal
 

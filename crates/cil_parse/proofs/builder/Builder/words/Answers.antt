@@ -1,8 +1,6 @@
 use Rattle.std.proofs.Common.{[], ◌∷◌, map, get_or, take, subst}
-use Rattle.std.proofs.lemmas.List.{take_all}
-use Rattle.cil_text.specs.Image.{word_of}
+use Rattle.cil_parse.proofs.Common.{take_all, word_of, Adds}
 use Rattle.cil_text.specs.declared.word.Word.{Word}
-use Rattle.cil_parse.specs.Builder.{Adds}
 use Rattle.cil_parse.proofs.BuilderLemmas.{adds-none, adds-then, next-word}
 use Rattle.cil_parse.proofs.builder.Builder.words.Goals as goal
 

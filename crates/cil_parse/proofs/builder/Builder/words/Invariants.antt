@@ -1,6 +1,5 @@
 use Rattle.std.proofs.Common.{[], map, take}
-use Rattle.cil_text.specs.Image.{word_of}
-use Rattle.cil_parse.specs.Builder.{Adds}
+use Rattle.cil_parse.proofs.Common.{word_of, Adds}
 use Rattle.cil_parse.proofs.builder.Builder.words.Given as goal
 
 abbrev pub invariant-loop-word : goal.invariant-loop-word

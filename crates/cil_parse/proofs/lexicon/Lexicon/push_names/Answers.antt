@@ -1,6 +1,5 @@
 use Rattle.std.proofs.Common.{[], ◌∷◌, ◌++◌, ap, sym, subst, ◌∙◌, append_assoc, refl}
-use Rattle.std.specs.List.{slice_split}
-use Rattle.cil_parse.specs.Lexicon.{AddsNames}
+use Rattle.cil_parse.proofs.Common.{slice_split, AddsNames}
 use Rattle.cil_parse.proofs.SplitLemmas.{is_dot}
 use Rattle.cil_parse.proofs.AddsLemmas.{adds-none, adds-then}
 use Rattle.cil_parse.proofs.lexicon.Lexicon.push_names.Goals as goal

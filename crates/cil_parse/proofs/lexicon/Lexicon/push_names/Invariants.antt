@@ -1,6 +1,5 @@
 use Rattle.std.proofs.Common.{◌≡◌, ℕ, List, ◌++◌, length}
-use Rattle.std.specs.List.{slice_split}
-use Rattle.cil_parse.specs.Lexicon.{AddsNames}
+use Rattle.cil_parse.proofs.Common.{slice_split, AddsNames}
 use Rattle.cil_parse.proofs.SplitLemmas.{is_dot}
 use Rattle.cil_parse.proofs.lexicon.Lexicon.push_names.Given as goal
 

@@ -1,8 +1,6 @@
 use Rattle.std.proofs.Common.{refl, ap, subst, ◌∙◌}
-use Rattle.std.specs.List.{slice_split}
+use Rattle.cil_parse.proofs.Common.{slice_split, AddsNames, Lexicon}
 use Rattle.cil_text.proofs.NameLemmas.{components_split}
-use Rattle.cil_parse.specs.Lexicon.{AddsNames}
-use Rattle.cil_parse.specs.declared.lexicon.Lexicon.{Lexicon}
 use Rattle.cil_parse.proofs.SplitLemmas.{is_dot}
 use Rattle.cil_parse.proofs.AddsLemmas.{splits-text}
 use Rattle.cil_parse.proofs.lexicon.Lexicon.split.Goals as goal

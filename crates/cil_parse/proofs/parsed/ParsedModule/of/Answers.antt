@@ -1,7 +1,4 @@
-use Rattle.cil_specs.specs.Shape.{IsFirstShapeFault}
-use Rattle.cil_text.specs.Forest.{forest_of}
-use Rattle.cil_text.proofs.FirstBad.{handed_on}
-use Rattle.cil_parse.specs.Flat.{flat}
+use Rattle.cil_parse.proofs.Common.{IsFirstShapeFault, forest_of, handed_on, flat}
 use Rattle.cil_parse.proofs.ParsedLemmas.{owned-spells}
 use Rattle.cil_parse.proofs.parsed.ParsedModule.of.Goals as goal
 

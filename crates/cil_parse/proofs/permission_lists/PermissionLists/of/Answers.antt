@@ -1,6 +1,5 @@
 use Rattle.std.proofs.Common.{◌∙◌, ap, sym, subst}
-use Rattle.cil_parse.specs.Lexicon.{seen, AreNumbersOf}
-use Rattle.cil_parse.specs.PermissionLists.{permission_texts}
+use Rattle.cil_parse.proofs.Common.{seen, AreNumbersOf, permission_texts}
 use Rattle.cil_parse.proofs.permission_lists.PermissionLists.of.Goals as goal
 
 pub returns : goal.returns

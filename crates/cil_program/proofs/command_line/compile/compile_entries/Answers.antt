@@ -1,14 +1,7 @@
 use Rattle.std.proofs.Common.{Result, Ok, Err, OnErr, ◌≡◌, ◌⊎◌, inl, inr, List, [], map, refl, ap, sym, subst}
-use Rattle.std.proofs.lemmas.Result.{IfOk-weaker}
-use Rattle.cil_stream.specs.Device.{Gains, GainsFront}
-use Rattle.cil_stream.proofs.Gaining.{gains-none, on_err}
-use Rattle.cil_store_specs.specs.Store.{Entry, empty}
-use Rattle.cil_store_specs.specs.Next.{Refusal, for_memory, install_of}
-use Rattle.cil_store_specs.specs.Script.{refusal_line}
+use Rattle.cil_program.proofs.Common.{IfOk-weaker, Gains, GainsFront, gains-none, on_err, Entry, empty, for_memory, install_of, refusal_line, entry_of, refusal_of, Compiles, is_refused, lacks_memory}
+use Rattle.cil_store_specs.specs.Next.{Refusal}
 use Rattle.cil_store.specs.Refusing.{AreRefused}
-use Rattle.cil_store.specs.Stored.{entry_of}
-use Rattle.cil_store.specs.Edits.{refusal_of}
-use Rattle.cil_program.specs.CommandLine.{Compiles, is_refused, lacks_memory}
 use Rattle.cil_program.specs.declared.command_line.compile.Report.{Report}
 use Rattle.cil_program.proofs.CommandLineLemmas.{front-none, on-err}
 use Rattle.cil_program.proofs.command_line.compile.compile_entries.Goals as goal

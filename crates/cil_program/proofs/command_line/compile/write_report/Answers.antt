@@ -1,7 +1,6 @@
 use Rattle.std.proofs.Common.{◌≡◌, ◌≢◌, ℕ, List, [], ◌∷◌, length, flat_map, refl, arith, rules}
-use Rattle.cil_specs.specs.Report.{row_line}
+use Rattle.cil_program.proofs.Common.{row_line, lists, tells, status_of_violations}
 use Rattle.cil_specs.specs.Violations.{Violation, violations_text}
-use Rattle.cil_program.specs.CommandLine.{lists, tells, status_of_violations}
 use Rattle.cil_program.proofs.command_line.compile.write_report.Goals as goal
 
 pub returns-in_ok-write_listing-in-Listing-clause-ok : goal.returns-in_ok-write_listing-in-Listing-clause-ok

@@ -1,7 +1,6 @@
 use Rattle.std.proofs.Common.{Some, None, ◌≡◌, ◌≢◌, ◌∙◌, ℕ, ◌+◌, ◌-◌, ◌<◌, List, ◌∷◌, ◌++◌, length, take, drop, get_or, length-drop, inl, inr, ap, sym, refl, subst, arith}
-use Rattle.std.proofs.lemmas.List.{drop_more, get_or-drop, take-append-drop, take_all}
+use Rattle.cil_program.proofs.Common.{drop_more, get_or-drop, take-append-drop, take_all, IsBaseName}
 use Rattle.std.proofs.lemmas.Str.Pattern.{rfind_char}
-use Rattle.cil_program.specs.CommandLine.{IsBaseName}
 use Rattle.cil_program.proofs.command_line.files.base_name.Goals as goal
 
 behind : (path : List ℕ) (s : ℕ) → s < length path → get_or path s 0 ≡ 47 → ((i : ℕ) → s < i → i < length path → get_or path i 0 ≢ 47)

@@ -1,8 +1,5 @@
 use Rattle.std.proofs.Common.{◌∙◌, List, [], ◌∷◌, ◌++◌, take, ap, sym, subst}
-use Rattle.std.specs.List.{AllZip}
-use Rattle.std.proofs.lemmas.List.{take_more}
-use Rattle.cil_store.specs.Stored.{entry_of}
-use Rattle.cil_program.specs.CommandLine.{IsEntryFor}
+use Rattle.cil_program.proofs.Common.{AllZip, take_more, entry_of, IsEntryFor}
 use Rattle.cil_program.proofs.command_line.files.entries_of.Goals as goal
 
 -- one place more

@@ -1,7 +1,5 @@
 use Rattle.std.proofs.Common.{take}
-use Rattle.std.specs.List.{AllZip}
-use Rattle.cil_store.specs.Stored.{entry_of}
-use Rattle.cil_program.specs.CommandLine.{IsEntryFor}
+use Rattle.cil_program.proofs.Common.{AllZip, entry_of, IsEntryFor}
 use Rattle.cil_program.proofs.command_line.files.entries_of.Given as goal
 
 abbrev pub invariant-loop-file : goal.invariant-loop-file

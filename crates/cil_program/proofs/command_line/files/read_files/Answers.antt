@@ -1,7 +1,6 @@
 use Rattle.std.proofs.Common.{◌∙◌, ◌∷◌, ◌++◌, [], map, take, ap, ap₂, sym, subst}
-use Rattle.std.proofs.lemmas.List.{map-append, take_more}
+use Rattle.cil_program.proofs.Common.{map-append, take_more, IsReadOf}
 use Rattle.std.proofs.lemmas.List.Elements.{All-push}
-use Rattle.cil_program.specs.CommandLine.{IsReadOf}
 use Rattle.cil_program.proofs.command_line.files.read_files.Goals as goal
 
 pub loop-path-preserved : goal.loop-path-preserved

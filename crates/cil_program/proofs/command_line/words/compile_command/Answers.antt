@@ -1,11 +1,8 @@
 use Rattle.std.proofs.Common.{rules, codes, Option, None, Some, true, false, ap, ap₂, ◌≡◌, ◌∙◌, ◌||◌}
 use Rattle.std.specs.Prelude.{IsSomeAnd}
-use Rattle.std.proofs.lemmas.Result.{IfOk-weaker}
-use Rattle.clap.specs.Walk.{Rule, rule_of}
-use Rattle.clap.specs.Simple.{app_of, app_of_fields, new_app, new_rule, with_rule}
+use Rattle.cil_program.proofs.Common.{IfOk-weaker, Rule, rule_of, app_of, app_of_fields, new_app, new_rule, with_rule, files_rule, violations_rule}
 use Rattle.clap.specs.declared.builder.action.ArgAction.TheVariants.{Append}
 use Rattle.clap.specs.declared.builder.command.Command.TheViews.{out-Command}
-use Rattle.cil_program.specs.Program.{files_rule, violations_rule}
 use Rattle.cil_program.proofs.command_line.words.compile_command.Goals as goal
 
 some-is : {X : Type 0} (o : Option X) (x : X) → IsSomeAnd o (λ y. y ≡ x) → o ≡ Some x

@@ -1,11 +1,8 @@
 use Rattle.std.proofs.Common.{◌≡◌, ◌∙◌, List, [], ◌∷◌, codes, drop, length, map, Option, Some, None, option_map, true, ap, ap₂, sym, refl, arith}
-use Rattle.std.proofs.lemmas.Result.{IfErr-weaker, IfOk-weaker}
-use Rattle.clap.specs.Walk.{Text}
-use Rattle.clap.specs.Simple.{is_simple, subcommand_of}
+use Rattle.cil_program.proofs.Common.{IfErr-weaker, IfOk-weaker, Text, is_simple, subcommand_of, program_app}
 use Rattle.clap.specs.Takes.{takes}
 use Rattle.clap.specs.declared.parser.matches.ArgMatches.TheViews.{out-ArgMatches}
 use Rattle.clap.proofs.OnLiterals.{clap_on_literals}
-use Rattle.cil_program.specs.Program.{program_app}
 use Rattle.cil_program.proofs.command_line.words.matches_of.Goals as goal
 
 -- the program's name stands before them

@@ -1,7 +1,5 @@
 use Rattle.std.proofs.Common.{true, ap, ap₂, ◌≡◌, ◌∙◌}
-use Rattle.std.proofs.lemmas.Result.{IfOk-weaker}
-use Rattle.clap.specs.Simple.{App, app_of, app_of_fields, on_top, with_subcommand}
-use Rattle.cil_program.specs.Program.{bare_program}
+use Rattle.cil_program.proofs.Common.{IfOk-weaker, App, app_of, app_of_fields, on_top, with_subcommand, bare_program}
 use Rattle.cil_program.proofs.command_line.words.program.Goals as goal
 
 pub returns : goal.returns

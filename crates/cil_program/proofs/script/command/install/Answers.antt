@@ -1,7 +1,5 @@
 use Rattle.std.proofs.Common.{◌∙◌, decimal, sym, subst, IsTrue, true≢false}
-use Rattle.std.specs.List.{list_all}
-use Rattle.cil_store_specs.specs.Script.{IsGoodName}
-use Rattle.cil_store_specs.proofs.WordLemmas.{is_no_space, has-space}
+use Rattle.cil_program.proofs.Common.{list_all, IsGoodName, is_no_space, has-space}
 use Rattle.cil_program.proofs.CommandLemmas.{IsInstallRest, install-rest, install-words, install-numbers}
 use Rattle.cil_program.proofs.script.command.install.Goals as goal
 

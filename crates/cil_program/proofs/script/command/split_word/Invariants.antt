@@ -1,6 +1,5 @@
 use Rattle.std.proofs.Common.{IsTrue, take}
-use Rattle.std.specs.List.{list_all}
-use Rattle.cil_store_specs.proofs.WordLemmas.{is_no_space}
+use Rattle.cil_program.proofs.Common.{list_all, is_no_space}
 use Rattle.cil_program.proofs.script.command.split_word.Given as goal
 
 abbrev pub invariant-loop-i : goal.invariant-loop-i

@@ -1,9 +1,5 @@
 use Rattle.std.proofs.Common.{◌≡◌, ◌++◌, ℕ, List, [], true, Some, Result, Ok, Err, IfOk, take, ap}
-use Rattle.cil_store_specs.specs.Session.{IsSession, IsCutByRead, IsCutByWrite}
-use Rattle.cil_stream.specs.Device.{Account, Reel, IsLeft, Gains, account_of}
-use Rattle.cil_program.specs.Session.{Standing, Leaves, LeavesByRead, LeavesByWrite, status_of}
-use Rattle.cil_program.specs.declared.script.session.SessionFault.{SessionFault}
-use Rattle.cil_program.specs.declared.script.session.Status.{Status}
+use Rattle.cil_program.proofs.Common.{IsSession, IsCutByRead, IsCutByWrite, Account, Reel, IsLeft, Gains, account_of, Standing, Leaves, LeavesByRead, LeavesByWrite, status_of, SessionFault, Status}
 use Rattle.cil_program.proofs.script.memory.answer_script.Goals as goal
 
 left-whole : (r : Reel) (text : List ℕ) → r.text ≡ text → r.at ≡ 0 → IsLeft (account_of r) text

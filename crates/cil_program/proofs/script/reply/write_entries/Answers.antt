@@ -1,10 +1,5 @@
 use Rattle.std.proofs.Common.{◌≡◌, ◌∙◌, ◌<◌, ℕ, List, [], length, get_or, subst, arith}
-use Rattle.cil_stream.specs.Device.{Gains, GainsFront}
-use Rattle.cil_stream.proofs.Gaining.{gains-pieces_more, gains-pieces_front}
-use Rattle.cil_store_specs.specs.Store.{Entry, Store}
-use Rattle.cil_store_specs.specs.StoreReport.{entry_text, state_word, module_line}
-use Rattle.cil_store_specs.specs.Store.{entry_at}
-use Rattle.cil_store.specs.Stored.{entry_of}
+use Rattle.cil_program.proofs.Common.{Gains, GainsFront, gains-pieces_more, gains-pieces_front, Entry, Store, entry_text, state_word, module_line, entry_at, entry_of}
 use Rattle.cil_program.proofs.ReplyLemmas.{writes-cut}
 use Rattle.cil_program.proofs.script.reply.write_entries.Goals as goal
 

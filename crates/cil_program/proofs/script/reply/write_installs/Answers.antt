@@ -1,8 +1,5 @@
 use Rattle.std.proofs.Common.{◌<◌, [], length, subst, arith}
-use Rattle.cil_stream.specs.Device.{Gains, GainsFront}
-use Rattle.cil_stream.proofs.Gaining.{gains-pieces_more, gains-pieces_front}
-use Rattle.cil_store_specs.specs.Store.{entry_at}
-use Rattle.cil_program.specs.Dump.{install_command}
+use Rattle.cil_program.proofs.Common.{Gains, GainsFront, gains-pieces_more, gains-pieces_front, entry_at, install_command}
 use Rattle.cil_program.proofs.ReplyLemmas.{writes-cut}
 use Rattle.cil_program.proofs.script.reply.write_installs.Goals as goal
 

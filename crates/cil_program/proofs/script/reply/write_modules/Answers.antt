@@ -1,7 +1,5 @@
 use Rattle.std.proofs.Common.{length, arith}
-use Rattle.cil_stream.proofs.Gaining.{front-longer}
-use Rattle.cil_store_specs.specs.StoreReport.{modules_text}
-use Rattle.cil_store_specs.specs.Script.{end_line}
+use Rattle.cil_program.proofs.Common.{front-longer, modules_text, end_line}
 use Rattle.cil_program.proofs.ReplyLemmas.{writes-cut, writes-report}
 use Rattle.cil_program.proofs.script.reply.write_modules.Goals as goal
 

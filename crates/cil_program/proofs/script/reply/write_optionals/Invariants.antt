@@ -1,7 +1,5 @@
 use Rattle.std.proofs.Common.{◌≤◌, take}
-use Rattle.std.specs.List.{flat_map}
-use Rattle.cil_stream.specs.Device.{Gains}
-use Rattle.cil_specs.specs.Report.{dropped_line}
+use Rattle.cil_program.proofs.Common.{flat_map, Gains, dropped_line}
 use Rattle.cil_program.proofs.script.reply.write_optionals.Given as goal
 
 abbrev pub invariant-loop-i : goal.invariant-loop-i

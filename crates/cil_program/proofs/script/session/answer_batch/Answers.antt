@@ -1,9 +1,5 @@
 use Rattle.std.proofs.Common.{refl, sym, subst}
-use Rattle.cil_store_specs.specs.Run.{refused}
-use Rattle.cil_store_specs.specs.Answers.{Answer, answer_of, a_line}
-use Rattle.cil_store.specs.Edits.{refusal_of}
-use Rattle.cil_program.specs.Reply.{counts_line}
-use Rattle.cil_program.specs.Session.{AnswersBatch}
+use Rattle.cil_program.proofs.Common.{refused, Answer, answer_of, a_line, refusal_of, counts_line, AnswersBatch}
 use Rattle.cil_program.proofs.SessionLemmas.{tries-ok, tries-err}
 use Rattle.cil_program.proofs.script.session.answer_batch.Goals as goal
 

@@ -1,9 +1,5 @@
 use Rattle.std.proofs.Common.{◌≡◌, ◌+◌, [], true, false, refl, subst, arith, rules}
-use Rattle.cil_stream.specs.Device.{Gains, GainsFront}
-use Rattle.cil_stream.proofs.Gaining.{failed-later}
-use Rattle.cil_store_specs.specs.Script.{last_line, ends, stops}
-use Rattle.cil_program.specs.Session.{Moment, Progress, Standing, IsTurn, IsTurnCut, after_answer}
-use Rattle.cil_program.specs.declared.script.session.SessionFault.TheVariants.{Read, Write}
+use Rattle.cil_program.proofs.Common.{Gains, GainsFront, failed-later, last_line, ends, stops, Moment, Progress, Standing, IsTurn, IsTurnCut, after_answer, Read, Write}
 use Rattle.cil_program.specs.declared.script.session.Status.TheVariants.{Script}
 use Rattle.cil_program.specs.declared.script.session.Turn.TheVariants as turns
 use Rattle.cil_program.proofs.InputLemmas.{ended-within}

@@ -1,9 +1,5 @@
 use Rattle.std.proofs.Common.{refl}
-use Rattle.cil_store_specs.specs.Next.{for_memory}
-use Rattle.cil_store_specs.specs.Run.{ask_dropped, refused, dropped_optionals, tells_dropped, out_of_memory}
-use Rattle.cil_store_specs.specs.Answers.{answer_of, by_engine}
-use Rattle.cil_store_specs.specs.Script.{asks_dropped}
-use Rattle.cil_program.specs.Session.{IsAnswerFor}
+use Rattle.cil_program.proofs.Common.{for_memory, ask_dropped, refused, dropped_optionals, tells_dropped, out_of_memory, answer_of, by_engine, asks_dropped, IsAnswerFor}
 use Rattle.cil_program.proofs.SessionLemmas.{tries-ok, tries-err}
 use Rattle.cil_program.proofs.script.session.answer_dropped.Goals as goal
 

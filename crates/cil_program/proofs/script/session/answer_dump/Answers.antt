@@ -1,9 +1,5 @@
 use Rattle.std.proofs.Common.{◌++◌, false, List, ℕ, Ok, Err, length, refl, subst}
-use Rattle.cil_store_specs.specs.Store.{Store}
-use Rattle.cil_store_specs.specs.Script.{asks_dump, dump_commands, dump_text, end_line}
-use Rattle.cil_store_specs.specs.Answers.{by_dump}
-use Rattle.cil_program.specs.Reply.{Writes}
-use Rattle.cil_program.specs.Session.{IsAnswerFor}
+use Rattle.cil_program.proofs.Common.{Store, asks_dump, dump_commands, dump_text, end_line, by_dump, Writes, IsAnswerFor}
 use Rattle.cil_program.proofs.SessionLemmas.{tries-ok, tries-err}
 use Rattle.cil_program.proofs.script.session.answer_dump.Goals as goal
 

@@ -1,8 +1,6 @@
 use Rattle.std.proofs.Common.{◌≡◌, ◌∙◌, refl, ap, sym, subst}
-use Rattle.cil_store_specs.specs.Answers.{IsHeld, by_holding}
+use Rattle.cil_program.proofs.Common.{IsHeld, by_holding, edit_of, held_answer}
 use Rattle.cil_store_specs.specs.Answers as answers
-use Rattle.cil_store.specs.Edits.{edit_of}
-use Rattle.cil_program.specs.Batch.{held_answer}
 use Rattle.cil_program.proofs.AnswerLemmas.{same-name}
 use Rattle.cil_program.proofs.SessionLemmas.{tries-weaker}
 use Rattle.cil_program.proofs.script.session.answer_edit.Goals as goal

@@ -1,9 +1,6 @@
 use Rattle.std.proofs.Common.{◌≡◌, ◌+◌, ◌∙◌, [], ap, sym, subst, true≢false}
-use Rattle.std.proofs.lemmas.Result.{IfOk-weaker, IfErr-weaker}
+use Rattle.cil_program.proofs.Common.{IfOk-weaker, IfErr-weaker, Moment, Progress, IsWhole, AreGoodWords, IsOutcome, IsLineCut, LineFeed, Write}
 use Rattle.cil_program.specs.Command.{command_of}
-use Rattle.cil_program.specs.Session.{Moment, Progress, IsWhole, AreGoodWords, IsOutcome, IsLineCut}
-use Rattle.cil_program.specs.declared.script.input.LineEnd.TheVariants.{LineFeed}
-use Rattle.cil_program.specs.declared.script.session.SessionFault.TheVariants.{Write}
 use Rattle.cil_program.proofs.SessionLemmas.{whole-line, none-behind, told-answered, told-begun, line-outcome, line-cut, feed-ends, install-line, install-line_cut, by-fault}
 use Rattle.cil_program.proofs.script.session.answer_line.Goals as goal
 

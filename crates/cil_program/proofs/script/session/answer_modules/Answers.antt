@@ -1,10 +1,5 @@
 use Rattle.std.proofs.Common.{◌++◌, false, List, ℕ, Ok, Err, length, refl, subst}
-use Rattle.cil_store_specs.specs.Store.{Store}
-use Rattle.cil_store_specs.specs.StoreReport.{modules_text}
-use Rattle.cil_store_specs.specs.Script.{asks_modules, end_line}
-use Rattle.cil_store_specs.specs.Answers.{by_modules}
-use Rattle.cil_program.specs.Reply.{Writes}
-use Rattle.cil_program.specs.Session.{IsAnswerFor}
+use Rattle.cil_program.proofs.Common.{Store, modules_text, asks_modules, end_line, by_modules, Writes, IsAnswerFor}
 use Rattle.cil_program.proofs.SessionLemmas.{tries-ok, tries-err}
 use Rattle.cil_program.proofs.script.session.answer_modules.Goals as goal
 

@@ -1,12 +1,7 @@
 use Rattle.std.proofs.Common.{◌≡◌, ◌≢◌, ◌+◌, ◌≤◌, ◌==◌, ◌∙◌, [], true, false, length, IsTrue, inl, ap, sym, subst, refl, true≢false}
-use Rattle.std.specs.List.{list_all}
-use Rattle.cil_stream.specs.Device.{has_ended}
-use Rattle.cil_program.specs.Input.{EndsLine, stays}
-use Rattle.cil_program.specs.Session.{Moment, Progress, IsTurn, IsTurnCut, IsOutcome}
+use Rattle.cil_program.proofs.Common.{list_all, has_ended, EndsLine, stays, Moment, Progress, IsTurn, IsTurnCut, IsOutcome, LastByte, Write}
 use Rattle.cil_program.specs.declared.script.input.LineEnd.{LineEnd}
-use Rattle.cil_program.specs.declared.script.input.LineEnd.TheVariants.{LastByte}
 use Rattle.cil_program.specs.declared.script.session.Outcome.TheVariants.{Accepted, Refused, NoCommand}
-use Rattle.cil_program.specs.declared.script.session.SessionFault.TheVariants.{Write}
 use Rattle.cil_program.specs.declared.script.session.Turn.TheVariants as turns
 use Rattle.cil_program.proofs.SessionLemmas.{stands, by-fault, turn-answered, turn-none, cut-behind_line}
 use Rattle.cil_program.proofs.script.session.answer_next.Goals as goal

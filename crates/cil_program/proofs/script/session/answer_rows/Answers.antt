@@ -1,13 +1,7 @@
 use Rattle.std.proofs.Common.{Err, ◌≡◌, List, length, flat_map, refl, ap}
-use Rattle.cil_stream.proofs.Gaining.{front-longer}
-use Rattle.cil_specs.specs.Report.{Row, row_line}
-use Rattle.cil_store_specs.specs.Store.{Store}
-use Rattle.cil_store_specs.specs.Next.{for_memory}
-use Rattle.cil_store_specs.specs.Run.{AreRowsOf, ask_rows, refused, listed, lists, out_of_memory}
-use Rattle.cil_store_specs.specs.Answers.{answer_of, by_engine}
-use Rattle.cil_store_specs.specs.Script.{asks_rules, end_line, refusal_line}
-use Rattle.cil_program.specs.Reply.{Writes}
-use Rattle.cil_program.specs.Session.{IsAnswerFor}
+use Rattle.cil_program.proofs.Common.{front-longer, row_line, Store, for_memory, AreRowsOf, ask_rows, refused, listed, out_of_memory, answer_of, by_engine, asks_rules, end_line, refusal_line, Writes, IsAnswerFor}
+use Rattle.cil_specs.specs.Report.{Row}
+use Rattle.cil_store_specs.specs.Run.{lists}
 use Rattle.cil_program.proofs.ReplyLemmas.{writes-report, writes-later}
 use Rattle.cil_program.proofs.SessionLemmas.{tries-ok, tries-err}
 use Rattle.cil_program.proofs.script.session.answer_rows.Goals as goal

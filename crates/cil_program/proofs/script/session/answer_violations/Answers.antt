@@ -1,13 +1,6 @@
 use Rattle.std.proofs.Common.{Err, ◌≡◌, List, length, refl, ap}
-use Rattle.cil_stream.proofs.Gaining.{front-longer}
+use Rattle.cil_program.proofs.Common.{front-longer, Store, for_memory, AreViolationsOf, ask_violations, refused, violated, tells_violations, out_of_memory, answer_of, by_engine, asks_violations, end_line, refusal_line, Writes, IsAnswerFor}
 use Rattle.cil_specs.specs.Violations.{Violation, violations_text}
-use Rattle.cil_store_specs.specs.Store.{Store}
-use Rattle.cil_store_specs.specs.Next.{for_memory}
-use Rattle.cil_store_specs.specs.Run.{AreViolationsOf, ask_violations, refused, violated, tells_violations, out_of_memory}
-use Rattle.cil_store_specs.specs.Answers.{answer_of, by_engine}
-use Rattle.cil_store_specs.specs.Script.{asks_violations, end_line, refusal_line}
-use Rattle.cil_program.specs.Reply.{Writes}
-use Rattle.cil_program.specs.Session.{IsAnswerFor}
 use Rattle.cil_program.proofs.ReplyLemmas.{writes-report, writes-later}
 use Rattle.cil_program.proofs.SessionLemmas.{tries-ok, tries-err}
 use Rattle.cil_program.proofs.script.session.answer_violations.Goals as goal

@@ -1,9 +1,5 @@
 use Rattle.std.proofs.Common.{◌≡◌, ◌∙◌, ◌++◌, ap, sym, subst, length, length-take, min, take, arith}
-use Rattle.cil_store_specs.specs.Next.{Edit, install, held_bytes}
-use Rattle.cil_store_specs.specs.Answers.{held_as}
-use Rattle.cil_program.specs.Batch.{given_up}
-use Rattle.cil_program.specs.Input.{HasRead}
-use Rattle.cil_program.specs.declared.script.session.SessionFault.TheVariants.{Write}
+use Rattle.cil_program.proofs.Common.{Edit, install, held_bytes, held_as, given_up, HasRead, Write}
 use Rattle.cil_program.proofs.AnswerLemmas.{held-answered}
 use Rattle.cil_program.proofs.SessionLemmas.{by-fault, install-outcome, install-begun, told-weaker, told-some_weaker}
 use Rattle.cil_program.proofs.script.session.hold_install.Goals as goal

@@ -1,13 +1,6 @@
 use Rattle.std.proofs.Common.{◌≡◌, ◌∙◌, ◌++◌, refl, ap, sym, subst}
-use Rattle.cil_store_specs.specs.Next.{install, for_memory, install_refusal}
-use Rattle.cil_store_specs.specs.Run.{refused, out_of_memory}
+use Rattle.cil_program.proofs.Common.{install, for_memory, install_refusal, refused, out_of_memory, answer_of, state_of, by_the_edit, store_refusal_of, makes, HasRead, HasTold, HasToldSome, Does, Write}
 use Rattle.cil_store_specs.proofs.BatchLemmas.{store-refused-step}
-use Rattle.cil_store_specs.specs.Answers.{answer_of, state_of, by_the_edit}
-use Rattle.cil_store.specs.Edits.{store_refusal_of}
-use Rattle.cil_store_specs.specs.Script.{makes}
-use Rattle.cil_program.specs.Input.{HasRead}
-use Rattle.cil_program.specs.Session.{HasTold, HasToldSome, Does}
-use Rattle.cil_program.specs.declared.script.session.SessionFault.TheVariants.{Write}
 use Rattle.cil_program.proofs.SessionLemmas.{by-fault, install-outcome, install-begun}
 use Rattle.cil_program.proofs.script.session.make_install.Goals as goal
 

@@ -1,7 +1,5 @@
 use Rattle.std.proofs.Common.{◌≡◌, refl}
-use Rattle.cil_store_specs.specs.Next.{for_memory}
-use Rattle.cil_store_specs.specs.Run.{refused}
-use Rattle.cil_store_specs.specs.Answers.{answer_of}
+use Rattle.cil_program.proofs.Common.{for_memory, refused, answer_of}
 use Rattle.cil_program.proofs.SessionLemmas.{tries-ok, tries-err}
 use Rattle.cil_program.proofs.script.session.refuse_for_memory.Goals as goal
 

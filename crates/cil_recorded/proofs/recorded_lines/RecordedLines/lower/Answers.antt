@@ -1,9 +1,7 @@
 use Rattle.std.proofs.Common.{◌<◌, ◌∙◌, length, bit_and, refl, sym, ap, rules}
-use Rattle.cil_lines.specs.Line.{IsPresence, IsSingle}
+use Rattle.cil_recorded.proofs.Common.{IsPresence, IsSingle, falls, has_line, count_in}
 use Rattle.cil_recorded.proofs.EndLemmas.{others_down}
 use Rattle.cil_recorded.proofs.LogLemmas.{before_down, moved_down, sound_down}
-use Rattle.cil_recorded.specs.Log.{falls, has_line}
-use Rattle.cil_recorded.specs.Recorded.{count_in}
 use Rattle.cil_recorded.proofs.recorded_lines.RecordedLines.lower.Goals as goal
 
 pub invariant_of-self : goal.invariant_of-self

@@ -1,9 +1,7 @@
 use Rattle.std.proofs.Common.{◌<◌, length, bit_and, w64, refl, rules}
-use Rattle.std.specs.Int.{bit_not}
-use Rattle.cil_lines.specs.Line.{IsPresence}
+use Rattle.cil_recorded.proofs.Common.{bit_not, IsPresence, count_in}
 use Rattle.cil_recorded.proofs.EndLemmas.{falls_up}
 use Rattle.cil_recorded.proofs.LogLemmas.{before_up, moved_up, sound_up}
-use Rattle.cil_recorded.specs.Recorded.{count_in}
 use Rattle.cil_recorded.proofs.recorded_lines.RecordedLines.raise.Goals as goal
 
 pub invariant_of-self : goal.invariant_of-self

@@ -1,11 +1,8 @@
 use Rattle.std.proofs.Common.{◌≡◌, ◌+◌, ℕ, suc, ap, subst, get_or, drop, drop-cons, bit_and, bit_xor, arith}
-use Rattle.std.proofs.lemmas.List.Sums.{sum_by_more, sum_by_push}
+use Rattle.cil_recorded.proofs.Common.{sum_by_more, sum_by_push, Turn, Ascends, balance_of, change_key, turn_key, hit_at}
 use Rattle.cil_recorded.proofs.LogLemmas.{hit_nothing}
 use Rattle.cil_recorded.proofs.TurnLemmas.{alone, next, ascends-push, ascends-less, next-push, digits-high, digits-low}
 use Rattle.cil_recorded.specs.declared.recorded_lines.changes.Change.{Change}
-use Rattle.cil_recorded.specs.declared.turn.Turn.{Turn}
-use Rattle.cil_recorded.specs.Differences.{Ascends, balance_of, change_key, turn_key}
-use Rattle.cil_recorded.specs.Log.{hit_at}
 use Rattle.cil_recorded.proofs.recorded_lines.changes.split.Goals as goal
 use Rattle.cil_recorded.proofs.recorded_lines.changes.split.Goals.{then-turn-ne0+in_ok-push, else-turn-ne0}
 

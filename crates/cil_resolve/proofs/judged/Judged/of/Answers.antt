@@ -1,6 +1,4 @@
-use Rattle.cil_specs.specs.Joined.{joined}
-use Rattle.cil_specs.specs.Kept.{IsFirstFault}
-use Rattle.cil_bind.specs.Policy.{fault_of}
+use Rattle.cil_resolve.proofs.Common.{joined, IsFirstFault, fault_of}
 use Rattle.cil_resolve.proofs.FaultLemmas.{fault-is, found-fault}
 use Rattle.cil_resolve.proofs.JudgedLemmas.{once-whole, twice-first}
 use Rattle.cil_resolve.proofs.judged.Judged.of.Goals as goal

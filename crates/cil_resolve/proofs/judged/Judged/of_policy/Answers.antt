@@ -1,6 +1,5 @@
 use Rattle.std.proofs.Common.{sym, subst}
-use Rattle.cil_bind.specs.Policy.{AreMarked}
-use Rattle.cil_resolve.specs.Dropped.{HaveMarks}
+use Rattle.cil_resolve.proofs.Common.{AreMarked, HaveMarks}
 use Rattle.cil_resolve.proofs.JudgedLemmas.{marks-of}
 use Rattle.cil_resolve.proofs.judged.Judged.of_policy.Goals as goal
 

@@ -1,15 +1,7 @@
 use Rattle.std.proofs.Common.{◌∙◌, ◌∷◌, [], length, true, refl, sym, ap, subst, if◌then◌else◌}
-use Rattle.std.specs.Option.{option_to_list}
-use Rattle.cil_specs.specs.Lookup.{types, declared_in}
-use Rattle.cil_specs.specs.Rule.{declared_as, class_as}
-use Rattle.cil_specs.proofs.Runs.{first_true}
+use Rattle.cil_resolve.proofs.Common.{option_to_list, types, declared_in, declared_as, class_as, first_true, seen-kind, there-at, form-set, is_name_below, is_class_below, is_set_below, is_rule_below, numbered_id, is_numbered, AreRules, IsIn, modules_of, type_if, attribute_if, class_if, set_if, rule_if, declared_of, class_of, set_of}
 use Rattle.cil_parse.specs.declared.row.StatementKind.TheVariants as kinds
-use Rattle.cil_check.proofs.SeenLemmas.{seen-kind, there-at}
-use Rattle.cil_check.proofs.AskedLemmas.{form-set}
-use Rattle.cil_resolve.specs.Below.{is_name_below, is_class_below, is_set_below, is_rule_below}
-use Rattle.cil_resolve.specs.FullNames.{numbered_id, is_numbered}
-use Rattle.cil_resolve.specs.Lowering.{AreRules, IsIn, modules_of, type_if, attribute_if, class_if, set_if, rule_if}
-use Rattle.cil_resolve.specs.Numbers.{declared_of, class_of, set_of, rule_of}
+use Rattle.cil_resolve.specs.Numbers.{rule_of}
 use Rattle.cil_resolve.proofs.ElementLemmas.{type-form}
 use Rattle.cil_resolve.proofs.PartLemmas.{attribute-form, declared-made, of-kind, no-type-kind, no-attribute-kind, no-class-kind, no-set-kind, no-type, no-attribute, no-class, grow, stay, below-more}
 use Rattle.cil_resolve.proofs.StatementLemmas.{contained}

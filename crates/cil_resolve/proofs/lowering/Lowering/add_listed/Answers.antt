@@ -1,15 +1,5 @@
-use Rattle.std.proofs.Common.{◌≡◌, ◌≤◌, ◌+◌, ◌++◌, ◌∷◌, ◌==◌, [], ◌∙◌, length, map, take, fold, Some, true, false, sym, ap, subst, arith, not, if◌then◌else◌}
-use Rattle.std.specs.List.{list_any}
-use Rattle.std.proofs.lemmas.List.{take_all}
-use Rattle.cil_specs.specs.Lookup.{has_name, with_name, texts, own_permissions}
-use Rattle.cil_parse.specs.Builder.{read}
-use Rattle.cil_parse.specs.Forms.{permissions_in}
-use Rattle.cil_parse.specs.Parsed.{texts_of}
-use Rattle.cil_bind.specs.Written.{IsOneName}
-use Rattle.std.specs.List.{AllByRecursion}
-use Rattle.cil_check.proofs.PermissionLemmas.{no_word, word-read, as-many, one-name-at, own-listed}
-use Rattle.cil_check.proofs.SeenLemmas.{there-at}
-use Rattle.cil_resolve.specs.Numbering.{AreNumbersIn, number_in}
+use Rattle.std.proofs.Common.{◌≡◌, ◌+◌, ◌++◌, ◌∷◌, ◌==◌, [], ◌∙◌, map, take, fold, Some, true, false, sym, ap, subst, arith, not, if◌then◌else◌}
+use Rattle.cil_resolve.proofs.Common.{list_any, take_all, with_name, texts, own_permissions, read, permissions_in, texts_of, IsOneName, AllByRecursion, no_word, word-read, as-many, one-name-at, own-listed, there-at, AreNumbersIn, number_in}
 use Rattle.cil_resolve.proofs.NumberLemmas.{numbers-with, words-fold, word-listed}
 use Rattle.cil_resolve.proofs.StatementLemmas.{contained}
 use Rattle.cil_resolve.proofs.lowering.Lowering.add_listed.Goals as goal

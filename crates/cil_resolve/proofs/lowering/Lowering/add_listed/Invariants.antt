@@ -1,10 +1,5 @@
 use Rattle.std.proofs.Common.{◌≡◌, ℕ, List, take, fold, slice_get, Some, IsTrue}
-use Rattle.cil_specs.specs.Joined.{Placed}
-use Rattle.cil_specs.specs.Lookup.{with_name, texts, own_permissions}
-use Rattle.cil_parse.specs.Forms.{kind_of}
-use Rattle.cil_check.specs.Permissions.{lists_own}
-use Rattle.cil_resolve.specs.Lowering.{IsLowering}
-use Rattle.cil_resolve.specs.Numbering.{AreNumbersIn}
+use Rattle.cil_resolve.proofs.Common.{Placed, with_name, texts, own_permissions, kind_of, lists_own, IsLowering, AreNumbersIn}
 use Rattle.cil_resolve.proofs.lowering.Lowering.add_listed.Given as goal
 
 abbrev pub invariant-loop-word : goal.invariant-loop-word

@@ -1,7 +1,5 @@
 use Rattle.std.proofs.Common.{◌∙◌, Some, get_or, slice_get, sym, ap, subst}
-use Rattle.cil_specs.specs.Lookup.{types, leads, references}
-use Rattle.cil_check.proofs.SeenLemmas.{seen-lead}
-use Rattle.cil_bind.specs.Lookup.{IsLead}
+use Rattle.cil_resolve.proofs.Common.{types, leads, references, seen-lead, IsLead}
 use Rattle.cil_resolve.proofs.LoweringLemmas.{attribute-led}
 use Rattle.cil_resolve.proofs.lowering.Lowering.attribute.Goals as goal
 

@@ -1,8 +1,5 @@
-use Rattle.std.proofs.Common.{◌≡◌, ◌∙◌, Some, None, get_or, sym, ap, subst}
-use Rattle.std.specs.Option.{unwrap_or}
-use Rattle.cil_specs.specs.Lookup.{classes, leads, references}
-use Rattle.cil_check.proofs.SeenLemmas.{seen-lead}
-use Rattle.cil_bind.specs.Lookup.{IsLead}
+use Rattle.std.proofs.Common.{◌∙◌, Some, get_or, sym, ap, subst}
+use Rattle.cil_resolve.proofs.Common.{unwrap_or, classes, leads, references, seen-lead, IsLead}
 use Rattle.cil_resolve.proofs.LoweringLemmas.{class-led}
 use Rattle.cil_resolve.proofs.StatementLemmas.{contained}
 use Rattle.cil_resolve.proofs.lowering.Lowering.class.Goals as goal

@@ -1,6 +1,5 @@
-use Rattle.std.proofs.Common.{◌∙◌, ap, is_some}
-use Rattle.cil_resolve.specs.FullNames.{is_numbered}
-use Rattle.cil_resolve.specs.Lowering.{modules_of}
+use Rattle.std.proofs.Common.{ap}
+use Rattle.cil_resolve.proofs.Common.{is_numbered, modules_of}
 use Rattle.cil_resolve.proofs.PartLemmas.{class-form, class-made}
 use Rattle.cil_resolve.proofs.lowering.Lowering.class_at.Goals as goal
 

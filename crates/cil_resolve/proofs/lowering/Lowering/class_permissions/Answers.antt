@@ -1,10 +1,5 @@
-use Rattle.std.proofs.Common.{◌≡◌, ◌∙◌, ◌++◌, [], Some, None, fold, map, slice_get, is_some, refl, sym, ap, subst, true}
-use Rattle.std.proofs.lemmas.List.Sums.{fold-append}
-use Rattle.cil_specs.specs.Lookup.{commons, declared_in, with_name, distinct, texts, own_permissions, listed_by, permissions_of}
-use Rattle.cil_parse.specs.Forms.{kind_of}
-use Rattle.cil_check.specs.Permissions.{lists_own}
-use Rattle.cil_resolve.specs.Lowering.{common_of}
-use Rattle.cil_resolve.specs.Numbering.{number_in, AreNumbersIn}
+use Rattle.std.proofs.Common.{◌≡◌, ◌∙◌, [], Some, fold, map, sym, ap, subst}
+use Rattle.cil_resolve.proofs.Common.{fold-append, commons, with_name, distinct, texts, own_permissions, listed_by, permissions_of, kind_of, lists_own, common_of, AreNumbersIn}
 use Rattle.cil_resolve.proofs.CommonLemmas.{class-permissions, common-lists}
 use Rattle.cil_resolve.proofs.LoweringLemmas.{found-some, no-found}
 use Rattle.cil_resolve.proofs.ElementLemmas.{first-declares}

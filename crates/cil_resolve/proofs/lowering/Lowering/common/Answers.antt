@@ -1,10 +1,6 @@
-use Rattle.std.proofs.Common.{◌≡◌, ◌∙◌, Some, None, slice_get, sym, ap, subst}
-use Rattle.std.proofs.lemmas.Option.{same_Some}
-use Rattle.cil_specs.specs.Lookup.{classes, commons}
-use Rattle.cil_bind.specs.Lookup.{IsLead, IsFirstOf}
+use Rattle.std.proofs.Common.{◌∙◌, sym, subst}
+use Rattle.cil_resolve.proofs.Common.{commons, IsLead, once-first, common_of}
 use Rattle.cil_bind.proofs.LookupLemmas.{no-lead}
-use Rattle.cil_check.proofs.WordLemmas.{once-first}
-use Rattle.cil_resolve.specs.Lowering.{common_of}
 use Rattle.cil_resolve.proofs.CommonLemmas.{no-common, common-at}
 use Rattle.cil_resolve.proofs.lowering.Lowering.common.Goals as goal
 

@@ -1,9 +1,6 @@
-use Rattle.std.proofs.Common.{◌≡◌, ◌∙◌, get_or, sym, ap, subst}
-use Rattle.cil_specs.specs.Lookup.{types, leads, references}
+use Rattle.std.proofs.Common.{◌∙◌, get_or, sym, ap, subst}
+use Rattle.cil_resolve.proofs.Common.{types, leads, references, seen-lead, IsLead, IsElement}
 use Rattle.cil_specs.specs.Rule.{element_of}
-use Rattle.cil_check.proofs.SeenLemmas.{seen-lead}
-use Rattle.cil_bind.specs.Lookup.{IsLead}
-use Rattle.cil_resolve.specs.Lowering.{IsElement}
 use Rattle.cil_expression.specs.declared.expression.Element.TheVariants as elements
 use Rattle.cil_resolve.proofs.LoweringLemmas.{element-led}
 use Rattle.cil_resolve.proofs.StatementLemmas.{contained}

@@ -1,10 +1,5 @@
 use Rattle.std.proofs.Common.{◌<◌, ◌∙◌, [], length, get_or, arith, rules, ap, sym}
-use Rattle.std.proofs.lemmas.List.{get_or-map}
-use Rattle.cil_specs.specs.Lookup.{texts}
-use Rattle.cil_parse.specs.Forms.{permissions_in}
-use Rattle.cil_parse.specs.Parsed.{permission_lists_of}
-use Rattle.cil_bind.proofs.FromLemmas.{is-there, from-within}
-use Rattle.cil_check.proofs.SeenLemmas.{is-long, row-there, form-there}
+use Rattle.cil_resolve.proofs.Common.{get_or-map, texts, permissions_in, permission_lists_of, is-there, from-within, is-long, row-there, form-there}
 use Rattle.cil_resolve.proofs.lowering.Lowering.list_place.Goals as goal
 
 pub index-row-requires : goal.index-row-requires

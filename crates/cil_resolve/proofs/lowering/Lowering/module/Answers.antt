@@ -1,5 +1,5 @@
-use Rattle.std.proofs.Common.{◌≡◌, ◌<◌, length, rules, arith, sym, ap, ◌∙◌}
-use Rattle.cil_check.proofs.SeenLemmas.{is-long, row-there}
+use Rattle.std.proofs.Common.{◌<◌, length, rules, arith}
+use Rattle.cil_check.proofs.SeenLemmas.{is-long}
 use Rattle.cil_resolve.proofs.StatementLemmas.{module-named}
 use Rattle.cil_resolve.proofs.lowering.Lowering.module.Goals as goal
 

@@ -1,8 +1,5 @@
 use Rattle.std.proofs.Common.{◌≤◌, ◌∙◌, rules, length, take, sym, subst, arith}
-use Rattle.std.proofs.lemmas.List.{take_all}
-use Rattle.std.proofs.lemmas.Option.{none-some}
-use Rattle.cil_check.proofs.SeenLemmas.{there-at}
-use Rattle.cil_resolve.specs.Lowering.{ArePartsOf, modules_of}
+use Rattle.cil_resolve.proofs.Common.{take_all, none-some, there-at, ArePartsOf, modules_of}
 use Rattle.cil_resolve.proofs.StatementLemmas.{take-one}
 use Rattle.cil_resolve.proofs.lowering.Lowering.parts.Goals as goal
 

@@ -1,7 +1,5 @@
 use Rattle.std.proofs.Common.{List, take}
-use Rattle.cil_specs.specs.Joined.{Placed}
-use Rattle.cil_resolve.specs.KnownPermissions.{KnowNumbers}
-use Rattle.cil_resolve.specs.Lowering.{IsLowering, ArePartsOf, modules_of}
+use Rattle.cil_resolve.proofs.Common.{Placed, KnowNumbers, IsLowering, ArePartsOf, modules_of}
 use Rattle.cil_resolve.proofs.lowering.Lowering.parts.Given as goal
 
 abbrev pub invariant-loop-i : goal.invariant-loop-i

@@ -1,11 +1,5 @@
-use Rattle.std.proofs.Common.{◌≡◌, ◌≤◌, ◌+◌, ◌∙◌, ◌++◌, ◌∷◌, [], length, map, take, Some, sym, ap, subst, arith}
-use Rattle.std.proofs.lemmas.List.{take_all}
-use Rattle.cil_specs.specs.Lookup.{has_name, texts}
-use Rattle.cil_parse.specs.Builder.{read}
-use Rattle.cil_parse.specs.Forms.{permissions_in}
-use Rattle.cil_parse.specs.Parsed.{texts_of}
-use Rattle.cil_check.proofs.PermissionLemmas.{no_word, word-read, as-many, one-name-at}
-use Rattle.cil_resolve.specs.Numbering.{AreNumbersIn, listed_names}
+use Rattle.std.proofs.Common.{◌≡◌, ◌+◌, ◌∙◌, ◌++◌, ◌∷◌, [], map, take, Some, sym, ap, subst, arith}
+use Rattle.cil_resolve.proofs.Common.{take_all, has_name, texts, read, permissions_in, texts_of, no_word, word-read, as-many, one-name-at, AreNumbersIn, listed_names}
 use Rattle.cil_resolve.proofs.NumberLemmas.{numbers-push, text-passes}
 use Rattle.cil_resolve.proofs.StatementLemmas.{map-one}
 use Rattle.cil_resolve.proofs.lowering.Lowering.permissions.Goals as goal

@@ -1,10 +1,5 @@
 use Rattle.std.proofs.Common.{List, take, IsTrue}
-use Rattle.std.specs.List.{list_all}
-use Rattle.cil_specs.specs.Joined.{Placed}
-use Rattle.cil_specs.specs.Lookup.{has_name, texts}
-use Rattle.cil_parse.specs.Forms.{permissions_in}
-use Rattle.cil_resolve.specs.Lowering.{IsIn}
-use Rattle.cil_resolve.specs.Numbering.{AreNumbersIn, listed_names}
+use Rattle.cil_resolve.proofs.Common.{list_all, Placed, has_name, texts, permissions_in, IsIn, AreNumbersIn, listed_names}
 use Rattle.cil_resolve.proofs.lowering.Lowering.permissions.Given as goal
 
 abbrev pub invariant-loop-word : goal.invariant-loop-word

@@ -1,18 +1,6 @@
 use Rattle.std.proofs.Common.{◌≡◌, ◌∙◌, ◌∷◌, [], Some, slice_get, Contains, sym, ap, subst, length, true}
-use Rattle.std.specs.List.{list_all}
-use Rattle.cil_specs.specs.Lookup.{classes, references, named_permissions, has_name, texts}
-use Rattle.cil_specs.specs.PolicyFault.{element_words}
+use Rattle.cil_resolve.proofs.Common.{list_all, classes, references, named_permissions, has_name, texts, element_words, at_element, itself, the_named, contains-first, contains-other, rule_kind_of, kind_of, rule_kind, permissions_in, seen-kind, seen-lead, is_target_below, AreRules, modules_of, AreNumbersIn, listed_names, resolved_target_of}
 use Rattle.cil_specs.specs.Rule as spec
-use Rattle.cil_specs.specs.Rule.{at_element}
-use Rattle.cil_specs.specs.Statements.{itself, the_named}
-use Rattle.cil_specs.proofs.NamesLemmas.{contains-first, contains-other}
-use Rattle.cil_text.specs.Image.{rule_kind_of}
-use Rattle.cil_parse.specs.Forms.{kind_of, rule_kind, permissions_in}
-use Rattle.cil_check.proofs.SeenLemmas.{seen-kind, seen-lead}
-use Rattle.cil_resolve.specs.Below.{is_target_below}
-use Rattle.cil_resolve.specs.Lowering.{AreRules, modules_of}
-use Rattle.cil_resolve.specs.Numbering.{AreNumbersIn, listed_names}
-use Rattle.cil_resolve.specs.Numbers.{resolved_target_of}
 use Rattle.cil_resolve.specs.declared.numbered.NumberedRule.{NumberedRule}
 use Rattle.cil_resolve.proofs.FaultlessLemmas.{word-found}
 use Rattle.cil_resolve.proofs.FormLemmas.{form-rule, form-to-self}

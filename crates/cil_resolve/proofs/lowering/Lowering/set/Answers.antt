@@ -1,7 +1,5 @@
 use Rattle.std.proofs.Common.{◌∙◌, ◌∷◌, [], sym, subst}
-use Rattle.cil_specs.specs.Rule.{set_statement_of}
-use Rattle.cil_resolve.specs.Lowering.{AreSets, modules_of}
-use Rattle.cil_resolve.specs.declared.numbered.NumberedSet.{NumberedSet}
+use Rattle.cil_resolve.proofs.Common.{set_statement_of, AreSets, modules_of, NumberedSet}
 use Rattle.cil_resolve.proofs.SetLemmas.{set-made}
 use Rattle.cil_resolve.proofs.lowering.Lowering.set.Goals as goal
 

@@ -1,10 +1,6 @@
 use Rattle.std.proofs.Common.{◌≡◌, ◌≤◌, ◌<◌, ◌+◌, suc, ◌++◌, ◌∷◌, [], length, map, take, sym, ap, subst, arith}
-use Rattle.std.proofs.lemmas.List.{take_all}
-use Rattle.cil_specs.specs.Expr.{leaves}
+use Rattle.cil_resolve.proofs.Common.{take_all, leaves, words_in, shown-long, word-there, AreElements}
 use Rattle.cil_specs.specs.Rule.{element_of}
-use Rattle.cil_parse.specs.Forms.{words_in}
-use Rattle.cil_check.proofs.AskedLemmas.{shown-long, word-there}
-use Rattle.cil_resolve.specs.Lowering.{AreElements}
 use Rattle.cil_resolve.proofs.SetLemmas.{elements-push, leaf-refers}
 use Rattle.cil_resolve.proofs.StatementLemmas.{map-one}
 use Rattle.cil_resolve.proofs.lowering.Lowering.set_elements.Goals as goal

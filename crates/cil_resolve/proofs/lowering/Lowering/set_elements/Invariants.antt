@@ -1,10 +1,6 @@
 use Rattle.std.proofs.Common.{◌≡◌, List, map, take}
-use Rattle.cil_specs.specs.Names.{Word}
-use Rattle.cil_specs.specs.Expr.{WordExpr, leaves}
-use Rattle.cil_specs.specs.Joined.{Placed}
+use Rattle.cil_resolve.proofs.Common.{Word, WordExpr, leaves, Placed, attribute_set, IsIn, AreElements}
 use Rattle.cil_specs.specs.Rule.{element_of}
-use Rattle.cil_specs.specs.Statements.{attribute_set}
-use Rattle.cil_resolve.specs.Lowering.{IsIn, AreElements}
 use Rattle.cil_resolve.proofs.lowering.Lowering.set_elements.Given as goal
 
 abbrev pub invariant-loop-k : goal.invariant-loop-k

@@ -1,7 +1,6 @@
 use Rattle.std.proofs.Common.{◌≡◌, ◌∙◌, Some, slice_get, refl, sym, ap}
-use Rattle.cil_specs.specs.Expr.{leaves, named, nothing, elements}
+use Rattle.cil_resolve.proofs.Common.{leaves, named, nothing, elements, nodes_in}
 use Rattle.cil_specs.specs.Rule.{element_of}
-use Rattle.cil_parse.specs.Forms.{nodes_in}
 use Rattle.cil_resolve.proofs.OneNameLemmas.{name-alone, name-listed, one-made}
 use Rattle.cil_resolve.proofs.SetLemmas.{expression-spelt, expression-made, leaf-refers}
 use Rattle.cil_resolve.proofs.lowering.Lowering.set_expression.Goals as goal

@@ -1,9 +1,5 @@
 use Rattle.std.proofs.Common.{◌≡◌, ◌∙◌, sym, subst}
-use Rattle.std.proofs.lemmas.Result.{IfOk-weaker}
-use Rattle.cil_specs.specs.Lookup.{texts}
-use Rattle.cil_parse.specs.Forms.{permissions_in}
-use Rattle.cil_resolve.specs.KnownPermissions.{HaveNumbers, list_at}
-use Rattle.cil_resolve.specs.Numbering.{AreNumbersIn}
+use Rattle.cil_resolve.proofs.Common.{IfOk-weaker, texts, permissions_in, HaveNumbers, list_at, AreNumbersIn}
 use Rattle.cil_resolve.proofs.KnownLemmas.{know-more}
 use Rattle.cil_resolve.proofs.lowering.Lowering.shared_permissions.Goals as goal
 

@@ -1,8 +1,5 @@
 use Rattle.std.proofs.Common.{rules, ◌≡◌, ◌==◌, ◌&&◌, ◌∙◌, bytes_eq, sym}
-use Rattle.cil_expression.specs.Expression.{expr_in}
-use Rattle.cil_expression.specs.Same.{are_same}
-use Rattle.cil_resolve.specs.Numbers.{element_of}
-use Rattle.cil_resolve.specs.Same.{same_element}
+use Rattle.cil_resolve.proofs.Common.{expr_in, element_of, same_element}
 use Rattle.cil_resolve.proofs.SameLemmas.{same-led-on}
 use Rattle.cil_resolve.proofs.resolved.Resolved.are_same.Goals as goal
 

@@ -1,4 +1,3 @@
-use Rattle.std.proofs.Common.{◌≡◌, sym, refl, ◌∙◌}
 use Rattle.cil_resolve.proofs.NumberOf.{is-at, past-end}
 use Rattle.cil_resolve.proofs.resolved.Resolved.is_number.Goals as goal
 

@@ -1,5 +1,4 @@
-use Rattle.std.proofs.Common.{◌≡◌, ◌∙◌, ◌↔◌, None, Some, option_map, ap, sym, subst}
-use Rattle.cil_specs.specs.Rule.{SetStatement}
+use Rattle.std.proofs.Common.{◌∙◌, Some, option_map, ap, sym}
 use Rattle.cil_resolve.specs.Same.{same_set}
 use Rattle.cil_resolve.proofs.EvaluateLemmas.{set-at, set-there, no-set-at}
 use Rattle.cil_resolve.proofs.SameLemmas.{set-is-same, same-is-told}

@@ -1,8 +1,7 @@
-use Rattle.std.proofs.Common.{◌≡◌, ◌∙◌, false, None, Some, option_map, ap, sym}
-use Rattle.cil_expression.specs.Expression.{expr_in}
+use Rattle.std.proofs.Common.{◌∙◌, false, None, Some, option_map, ap, sym}
+use Rattle.cil_resolve.proofs.Common.{expr_in, element_of}
 use Rattle.cil_expression.specs.Holds.{holds_by}
 use Rattle.cil_expression.proofs.HoldsLemmas.{holds-mapped}
-use Rattle.cil_resolve.specs.Numbers.{element_of}
 use Rattle.cil_resolve.proofs.EvaluateLemmas.{set-at, set-there, no-set-at}
 use Rattle.cil_resolve.proofs.resolved.Resolved.may_hold_any.Goals as goal
 

@@ -1,8 +1,6 @@
-use Rattle.std.proofs.Common.{ap, rules, of_calls, ◌≡◌, ◌∙◌, sym, subst, length, ◌≤◌, true}
-use Rattle.std.specs.List.{prefix_len}
-use Rattle.std.specs.Ordering.{is_lt}
+use Rattle.std.proofs.Common.{rules, of_calls, ◌≡◌, sym, subst, true}
+use Rattle.cil_resolve.proofs.Common.{is_lt, name_cmp, names_rise}
 use Rattle.std.proofs.lemmas.Fn.{always_returns_same}
-use Rattle.cil_specs.specs.Report.{name_cmp, names_rise}
 use Rattle.cil_resolve.proofs.NumberOf.{is-place}
 use Rattle.cil_resolve.proofs.resolved.Resolved.place.Goals as goal
 

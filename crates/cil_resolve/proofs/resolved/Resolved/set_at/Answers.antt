@@ -1,13 +1,6 @@
 use Rattle.std.proofs.Common.{◌≡◌, ◌∙◌, length, Some, option_map, sym, ap}
-use Rattle.std.proofs.lemmas.List.{length-map}
-use Rattle.std.proofs.lemmas.Option.{slice_get-map}
-use Rattle.cil_specs.specs.Expr.{leaves}
-use Rattle.cil_specs.proofs.MeansLemmas.{leaves-mapped}
-use Rattle.cil_text.specs.Image.{place_of}
-use Rattle.cil_expression.specs.Expression.{expr_in}
-use Rattle.cil_resolve.specs.Numbers.{element_of, set_of}
-use Rattle.cil_resolve.specs.SetOrder.{sets_at}
-use Rattle.cil_resolve.specs.Views.{SetHead, set_head}
+use Rattle.cil_resolve.proofs.Common.{length-map, slice_get-map, leaves, leaves-mapped, place_of, expr_in, element_of, set_of, sets_at}
+use Rattle.cil_resolve.specs.Views.{set_head}
 use Rattle.cil_resolve.proofs.resolved.Resolved.set_at.Goals as goal
 
 pub returns : goal.returns

@@ -1,10 +1,5 @@
-use Rattle.std.proofs.Common.{◌≡◌, ◌∙◌, length, map, None, Some, option_map, refl, ap, sym, subst}
-use Rattle.std.specs.List.{list_all}
-use Rattle.cil_specs.specs.Expr.{leaves}
-use Rattle.cil_specs.proofs.MeansLemmas.{leaves-mapped}
-use Rattle.cil_expression.specs.Expression.{expr_in}
-use Rattle.cil_resolve.specs.Below.{is_element_below}
-use Rattle.cil_resolve.specs.Numbers.{element_of}
+use Rattle.std.proofs.Common.{◌∙◌, length, map, None, Some, option_map, ap, sym}
+use Rattle.cil_resolve.proofs.Common.{list_all, leaves, leaves-mapped, expr_in, is_element_below, element_of}
 use Rattle.cil_resolve.proofs.EvaluateLemmas.{set-at, set-there, no-set-at, names-below}
 use Rattle.cil_resolve.proofs.resolved.Resolved.set_names.Goals as goal
 

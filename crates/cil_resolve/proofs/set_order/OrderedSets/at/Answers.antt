@@ -1,4 +1,4 @@
-use Rattle.std.proofs.Common.{◌≡◌, ◌∙◌, ◌<◌, length, sym}
+use Rattle.std.proofs.Common.{◌∙◌, ◌<◌, length, sym}
 use Rattle.std.proofs.lemmas.List.Elements.{recursion_from_All}
 use Rattle.cil_resolve.proofs.SetOrderLemmas.{at-place}
 use Rattle.cil_resolve.proofs.set_order.OrderedSets.at.Goals as goal

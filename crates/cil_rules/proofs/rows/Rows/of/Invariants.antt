@@ -1,9 +1,5 @@
 use Rattle.std.proofs.Common.{◌≡◌, ◌++◌, length, map}
-use Rattle.std.specs.List.{All}
-use Rattle.cil_accesses.specs.Renumbered.{IsWithin}
-use Rattle.cil_rules.specs.Atoms.{atom_at}
-use Rattle.cil_rules.specs.Rows.{rows_of}
-use Rattle.cil_rules.specs.NumberedRows.{row_by, AreNumberedRows}
+use Rattle.cil_rules.proofs.Common.{All, IsWithin, atom_at, rows_of, row_by, AreNumberedRows}
 use Rattle.cil_rules.proofs.rows.Rows.of.Given as goal
 
 abbrev pub invariant-loop-row : goal.invariant-loop-row

@@ -1,9 +1,5 @@
 use Rattle.std.proofs.Common.{◌∙◌, subst}
-use Rattle.std.specs.List.{flat_map}
-use Rattle.cil_specs.specs.Report.{row_line}
-use Rattle.cil_stream.specs.Device.{Gains, GainsFront}
-use Rattle.cil_stream.proofs.Gaining.{on_err}
-use Rattle.cil_rules.specs.NumberedRows.{row_by, line_by}
+use Rattle.cil_rules.proofs.Common.{flat_map, row_line, Gains, GainsFront, on_err, row_by, line_by}
 use Rattle.cil_rules.proofs.ListingLemmas.{mapped-text}
 use Rattle.cil_rules.proofs.rows.Rows.write.Goals as goal
 

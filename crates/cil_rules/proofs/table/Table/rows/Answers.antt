@@ -1,8 +1,5 @@
 use Rattle.std.proofs.Common.{◌≡◌, ◌∙◌, map, sym, subst}
-use Rattle.std.proofs.lemmas.Result.{IfOk-weaker}
-use Rattle.cil_specs.specs.Report.{AreAtoms, AreRows}
-use Rattle.cil_rules.specs.Atoms.{atom_at}
-use Rattle.cil_rules.specs.Rows.{rows_of}
+use Rattle.cil_rules.proofs.Common.{IfOk-weaker, AreAtoms, AreRows, atom_at, rows_of}
 use Rattle.cil_rules.proofs.RowLemmas.{are-rows}
 use Rattle.cil_rules.proofs.table.Table.rows.Goals as goal
 

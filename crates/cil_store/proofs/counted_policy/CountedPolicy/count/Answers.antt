@@ -1,10 +1,7 @@
-use Rattle.std.proofs.Common.{◌≡◌, ◌∙◌, ◌<◌, ◌≤◌, ap, arith, length, subst}
-use Rattle.std.specs.Rc.{rc_value}
+use Rattle.std.proofs.Common.{◌≡◌, ◌∙◌, ap, arith, length}
+use Rattle.cil_store.proofs.Common.{rc_value, count_with, meaning_in, count_of, gives}
 use Rattle.std.proofs.lemmas.List.Sums.{count_by-le-length}
-use Rattle.cil_counters.specs.Counted.{count_with}
-use Rattle.cil_resolve.specs.Resolved.{meaning_in}
 use Rattle.cil_rules.specs.Atoms.{atom_of}
-use Rattle.cil_specs.specs.Meaning.{count_of, gives}
 use Rattle.cil_store.proofs.counted_policy.CountedPolicy.count.Goals as goal
 
 pub returns : goal.returns

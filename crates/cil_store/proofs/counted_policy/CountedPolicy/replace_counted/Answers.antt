@@ -1,9 +1,5 @@
 use Rattle.std.proofs.Common.{subst}
-use Rattle.std.specs.Rc.{rc_value}
-use Rattle.cil_counters.specs.ChangeCounts.{CountsSome}
-use Rattle.cil_counters.specs.Counted.{IsNow, WasBefore}
-use Rattle.cil_resolve.specs.Resolved.{meaning_in}
-use Rattle.cil_store.specs.Counted.{AreCountedChanges}
+use Rattle.cil_store.proofs.Common.{rc_value, CountsSome, IsNow, WasBefore, meaning_in, AreCountedChanges}
 use Rattle.cil_store.proofs.CountedPolicyLemmas.{kept-back}
 use Rattle.cil_store.proofs.counted_policy.CountedPolicy.replace_counted.Goals as goal
 

@@ -1,10 +1,5 @@
 use Rattle.std.proofs.Common.{◌∙◌, map, ap, sym, subst}
-use Rattle.std.proofs.lemmas.Result.{err_from_is_err_and}
-use Rattle.cil_resolve.specs.Resolved.{meaning_in}
-use Rattle.cil_store_specs.specs.Next.{AreTaken, IsMeaningOf}
-use Rattle.cil_store_specs.specs.Store.{Store, empty}
-use Rattle.cil_store.specs.Edits.{edit_of, refusal_of}
-use Rattle.cil_store.specs.Refusing.{AreRefused}
+use Rattle.cil_store.proofs.Common.{err_from_is_err_and, meaning_in, AreTaken, IsMeaningOf, Store, empty, edit_of, refusal_of, AreRefused}
 use Rattle.cil_store.proofs.counted_policy.Prepared.of.Goals as goal
 
 pub returns-in_err-judged-clause-err : goal.returns-in_err-judged-clause-err

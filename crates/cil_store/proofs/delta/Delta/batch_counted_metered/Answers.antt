@@ -1,11 +1,5 @@
 use Rattle.std.proofs.Common.{map, refl, sym, subst}
-use Rattle.std.specs.Rc.{rc_value}
-use Rattle.std.proofs.lemmas.Result.{err_from_is_err_and}
-use Rattle.cil_resolve.specs.Resolved.{meaning_in}
-use Rattle.cil_store_specs.specs.Next.{IsMeaningOf}
-use Rattle.cil_store_specs.specs.Run.{Step, a_batch, changed_by, out_of_memory}
-use Rattle.cil_store_specs.specs.Store.{Store}
-use Rattle.cil_store.specs.Edits.{edit_of, refusal_of}
+use Rattle.cil_store.proofs.Common.{rc_value, err_from_is_err_and, meaning_in, IsMeaningOf, Step, a_batch, changed_by, out_of_memory, Store, edit_of, refusal_of}
 use Rattle.cil_store.proofs.StepLemmas.{made-step, refused-step}
 use Rattle.cil_store.proofs.delta.Delta.batch_counted_metered.Goals as goal
 

@@ -1,9 +1,5 @@
 use Rattle.std.proofs.Common.{refl, sym, subst}
-use Rattle.std.proofs.lemmas.Result.{err_from_is_err_and}
-use Rattle.std.specs.Rc.{rc_value}
-use Rattle.cil_resolve.specs.Resolved.{meaning_in}
-use Rattle.cil_store_specs.specs.Next.{IsMeaningOf, all_good}
-use Rattle.cil_store_specs.specs.Store.{Store}
+use Rattle.cil_store.proofs.Common.{err_from_is_err_and, rc_value, meaning_in, IsMeaningOf, all_good, Store}
 use Rattle.cil_store.proofs.delta.Delta.of.Goals as goal
 
 pub returns-in_err-prepared-clause-err : goal.returns-in_err-prepared-clause-err

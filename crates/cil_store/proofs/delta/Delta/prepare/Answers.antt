@@ -1,11 +1,5 @@
 use Rattle.std.proofs.Common.{map, sym, subst}
-use Rattle.std.proofs.lemmas.Result.{err_from_is_err_and}
-use Rattle.cil_resolve.specs.Resolved.{meaning_in}
-use Rattle.cil_store_specs.specs.Next.{AreTaken, IsMeaningOf}
-use Rattle.cil_store_specs.specs.Store.{Store}
-use Rattle.cil_store.specs.Counted.{meaning_kept}
-use Rattle.cil_store.specs.Edits.{edit_of, refusal_of}
-use Rattle.cil_store.specs.Refusing.{IsRefusedBatch}
+use Rattle.cil_store.proofs.Common.{err_from_is_err_and, meaning_in, AreTaken, IsMeaningOf, Store, meaning_kept, edit_of, refusal_of, IsRefusedBatch}
 use Rattle.cil_store.proofs.delta.Delta.prepare.Goals as goal
 
 pub returns-in_err-judged-clause-err : goal.returns-in_err-judged-clause-err

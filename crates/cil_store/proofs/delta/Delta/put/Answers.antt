@@ -1,6 +1,5 @@
 use Rattle.std.proofs.Common.{subst, sym}
-use Rattle.cil_store.specs.Counted.{counted_meaning}
-use Rattle.cil_store_specs.specs.Next.{IsMeaningOf}
+use Rattle.cil_store.proofs.Common.{counted_meaning, IsMeaningOf}
 use Rattle.cil_store.proofs.delta.Delta.put.Goals as goal
 
 pub invariant_of-self : goal.invariant_of-self

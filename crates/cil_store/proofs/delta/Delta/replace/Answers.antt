@@ -1,9 +1,5 @@
 use Rattle.std.proofs.Common.{sym, subst, IfOk}
-use Rattle.std.specs.Rc.{rc_value}
-use Rattle.cil_resolve.specs.Resolved.{meaning_in}
-use Rattle.cil_store_specs.specs.Next.{IsMeaningOf}
-use Rattle.cil_store_specs.specs.Store.{Store}
-use Rattle.cil_store.specs.Counted.{counted_meaning, AreCountedBetween, AreCountedChanges}
+use Rattle.cil_store.proofs.Common.{rc_value, meaning_in, IsMeaningOf, Store, counted_meaning, AreCountedBetween, AreCountedChanges}
 use Rattle.cil_store.proofs.CountedPolicyLemmas.{means-after, told-after}
 use Rattle.cil_store.proofs.delta.Delta.replace.Goals as goal
 

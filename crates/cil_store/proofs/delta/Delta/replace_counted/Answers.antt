@@ -1,11 +1,5 @@
 use Rattle.std.proofs.Common.{◌≡◌, ◌∙◌, [], refl, sym, subst, IfOk, None, Ok, Some}
-use Rattle.std.specs.Rc.{rc_value}
-use Rattle.cil_counters.specs.ChangeCounts.{CountsSome}
-use Rattle.cil_resolve.specs.Resolved.{meaning_in}
-use Rattle.cil_specs.specs.Meaning.{meaning_of}
-use Rattle.cil_store_specs.specs.Next.{IsMeaningOf}
-use Rattle.cil_store_specs.specs.Store.{Store}
-use Rattle.cil_store.specs.Counted.{counted_meaning, meaning_kept, AreCountedBetween, AreCountedChanges}
+use Rattle.cil_store.proofs.Common.{rc_value, CountsSome, meaning_in, meaning_of, IsMeaningOf, Store, counted_meaning, meaning_kept, AreCountedBetween, AreCountedChanges}
 use Rattle.cil_store.proofs.CountedPolicyLemmas.{means-after, told-counted}
 use Rattle.cil_store.proofs.delta.Delta.replace_counted.Goals as goal
 

@@ -1,8 +1,5 @@
 use Rattle.std.proofs.Common.{[], sym, subst, IfOk}
-use Rattle.cil_specs.specs.Meaning.{is_in_table}
-use Rattle.cil_specs.specs.Report.{AreAtoms}
-use Rattle.cil_rules.specs.Rows.{listed}
-use Rattle.cil_store.specs.Counted.{meaning_kept, IsCountedTo}
+use Rattle.cil_store.proofs.Common.{is_in_table, AreAtoms, listed, meaning_kept, IsCountedTo}
 use Rattle.cil_store.proofs.CountedPolicyLemmas.{atoms-of, of-kept, nothing-listed}
 use Rattle.cil_store.proofs.delta.Delta.table.Goals as goal
 

@@ -1,6 +1,5 @@
 use Rattle.std.proofs.Common.{List, subst}
-use Rattle.cil_specs.specs.Rule.{Atom}
-use Rattle.cil_store.specs.Counted.{IsCountedTo}
+use Rattle.cil_store.proofs.Common.{Atom, IsCountedTo}
 use Rattle.cil_store.proofs.CountedPolicyLemmas.{rows-of-store}
 use Rattle.cil_store.proofs.delta.DeltaCompiled.rows.Goals as goal
 

@@ -1,10 +1,6 @@
 use Rattle.std.proofs.Common.{subst, arith}
-use Rattle.cil_specs.specs.Meaning.{is_in_table}
-use Rattle.cil_stream.proofs.Gaining.{gains-none}
-use Rattle.cil_rules.specs.Rows.{listed, rows_of}
-use Rattle.cil_rules.proofs.RowLemmas.{are-rows, rows-listed}
+use Rattle.cil_store.proofs.Common.{is_in_table, gains-none, listed, rows_of, are-rows, rows-listed, meaning_kept, IsCountedTo}
 use Rattle.cil_store_specs.proofs.AllAtoms.{all-atoms}
-use Rattle.cil_store.specs.Counted.{meaning_kept, IsCountedTo}
 use Rattle.cil_store.proofs.delta.DeltaCompiled.write_listing.Goals as goal
 
 -- nothing is written of a listing for which there is no memory

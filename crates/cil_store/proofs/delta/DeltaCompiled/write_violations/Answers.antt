@@ -1,6 +1,5 @@
 use Rattle.std.proofs.Common.{[], refl, subst}
-use Rattle.cil_store.specs.Counted.{IsCountedTo}
-use Rattle.cil_stream.proofs.Gaining.{gains-none}
+use Rattle.cil_store.proofs.Common.{IsCountedTo, gains-none}
 use Rattle.cil_store.proofs.CountedPolicyLemmas.{nothing-violated}
 use Rattle.cil_store.proofs.delta.DeltaCompiled.write_violations.Goals as goal
 

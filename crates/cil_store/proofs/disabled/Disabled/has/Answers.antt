@@ -1,7 +1,5 @@
 use Rattle.std.proofs.Common.{subst, bytes_eq}
-use Rattle.std.specs.List.Sorted.{IsStrictlySortedBy}
-use Rattle.std.proofs.lemmas.Cmp.{nat_list_cmp_total}
-use Rattle.cil_specs.specs.Report.{name_cmp}
+use Rattle.cil_store.proofs.Common.{IsStrictlySortedBy, nat_list_cmp_total, name_cmp}
 use Rattle.cil_store.proofs.EntryLemmas.{tied-other, other-tied, any-is}
 use Rattle.cil_store.proofs.disabled.Disabled.has.Goals as goal
 

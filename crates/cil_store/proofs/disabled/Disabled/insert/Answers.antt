@@ -1,11 +1,5 @@
 use Rattle.std.proofs.Common.{◌≡◌, ◌∙◌, sym, subst, ℕ, List, insert}
-use Rattle.std.specs.List.{prefix_len}
-use Rattle.std.specs.List.Sorted.{IsStrictlySortedBy}
-use Rattle.std.specs.Ordering.{is_lt}
-use Rattle.std.proofs.lemmas.Cmp.{nat_list_cmp_total}
-use Rattle.cil_specs.proofs.SearchLemmas.{IsTiedAt}
-use Rattle.cil_specs.specs.Report.{name_cmp}
-use Rattle.cil_store_specs.proofs.PutLemmas.{put-ordered}
+use Rattle.cil_store.proofs.Common.{prefix_len, IsStrictlySortedBy, is_lt, nat_list_cmp_total, IsTiedAt, name_cmp, put-ordered}
 use Rattle.cil_store.proofs.EntryLemmas.{same-put, insert-put, is-not}
 use Rattle.cil_store.proofs.disabled.Disabled.insert.Goals as goal
 

@@ -1,6 +1,5 @@
 use Rattle.std.proofs.Common.{sym, subst}
-use Rattle.std.specs.List.Sorted.{IsStrictlySortedBy}
-use Rattle.cil_specs.specs.Report.{name_cmp}
+use Rattle.cil_store.proofs.Common.{IsStrictlySortedBy, name_cmp}
 use Rattle.cil_store.proofs.disabled.Disabled.new.Goals as goal
 
 pub invariant_of-result : goal.invariant_of-result

@@ -1,10 +1,5 @@
 use Rattle.std.proofs.Common.{ap, rules, of_calls, ◌≡◌, ◌∙◌, sym, subst}
-use Rattle.std.specs.List.{prefix_len}
-use Rattle.std.specs.List.Sorted.{IsStrictlySortedBy}
-use Rattle.std.specs.Ordering.{is_lt}
-use Rattle.std.proofs.lemmas.Fn.{always_returns_same}
-use Rattle.cil_specs.specs.Report.{name_cmp}
-use Rattle.std.proofs.lemmas.Cmp.{nat_list_cmp_total}
+use Rattle.cil_store.proofs.Common.{prefix_len, IsStrictlySortedBy, is_lt, always_returns_same, name_cmp, nat_list_cmp_total}
 use Rattle.cil_store.proofs.EntryLemmas.{place-is}
 use Rattle.cil_store.proofs.disabled.Disabled.place.Goals as goal
 

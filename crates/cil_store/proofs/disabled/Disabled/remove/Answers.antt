@@ -1,8 +1,5 @@
 use Rattle.std.proofs.Common.{◌∙◌, ap, sym, subst, remove, bytes_eq, not}
-use Rattle.std.specs.List.Sorted.{IsStrictlySortedBy}
-use Rattle.std.proofs.lemmas.List.Kept.{IsStrictlySortedBy-filter}
-use Rattle.std.proofs.lemmas.Cmp.{nat_list_cmp_total}
-use Rattle.cil_specs.specs.Report.{name_cmp}
+use Rattle.cil_store.proofs.Common.{IsStrictlySortedBy, IsStrictlySortedBy-filter, nat_list_cmp_total, name_cmp}
 use Rattle.cil_store.proofs.EntryLemmas.{name-tied, tied-name, without-tied, without-absent, is-not}
 use Rattle.cil_store.proofs.disabled.Disabled.remove.Goals as goal
 

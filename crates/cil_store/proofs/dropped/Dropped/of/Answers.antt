@@ -1,6 +1,5 @@
 use Rattle.std.proofs.Common.{List}
-use Rattle.cil_specs.specs.Rule.{Declared}
-use Rattle.cil_resolve.specs.Resolved.{meaning_in}
+use Rattle.cil_store.proofs.Common.{Declared, meaning_in}
 use Rattle.cil_resolve.specs.Views.{declared_seen}
 use Rattle.cil_store.proofs.DroppedLemmas.{taken-next, next-within, taken-all}
 use Rattle.cil_store.proofs.dropped.Dropped.of.Goals as goal

@@ -1,8 +1,5 @@
 use Rattle.std.proofs.Common.{◌≡◌, ◌∙◌, List, cond, ap, sym, subst, None, Some, refl}
-use Rattle.std.specs.List.{slice_get}
-use Rattle.std.specs.List.Sorted.{IsStrictlySortedBy}
-use Rattle.std.proofs.lemmas.Option.{slice_get_past, slice_get_read}
-use Rattle.cil_store_specs.specs.Store.{Entry, entry_cmp}
+use Rattle.cil_store.proofs.Common.{slice_get, IsStrictlySortedBy, slice_get_past, slice_get_read, Entry, entry_cmp}
 use Rattle.cil_store.proofs.FindLemmas.{found-at}
 use Rattle.cil_store.proofs.entries.Entries.first_of.Goals as goal
 

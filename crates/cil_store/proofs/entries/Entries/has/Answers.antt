@@ -1,7 +1,5 @@
 use Rattle.std.proofs.Common.{subst}
-use Rattle.std.specs.List.Sorted.{IsStrictlySortedBy}
-use Rattle.cil_store_specs.specs.Store.{entry_at, entry_cmp, is_entry}
-use Rattle.cil_store_specs.proofs.StoreOrder.{entry_total}
+use Rattle.cil_store.proofs.Common.{IsStrictlySortedBy, entry_at, entry_cmp, is_entry, entry_total}
 use Rattle.cil_store.proofs.EntryLemmas.{entry-tied, tied-entry, any-is}
 use Rattle.cil_store.proofs.entries.Entries.has.Goals as goal
 

@@ -1,6 +1,5 @@
 use Rattle.std.proofs.Common.{◌∙◌, bytes_eq}
-use Rattle.cil_store_specs.specs.Store.{Entry}
-use Rattle.cil_store.specs.Stored.{entry_of}
+use Rattle.cil_store.proofs.Common.{Entry, entry_of}
 use Rattle.cil_store.proofs.FindLemmas.{found-some}
 use Rattle.cil_store.proofs.entries.Entries.is_installed.Goals as goal
 

@@ -1,6 +1,5 @@
 use Rattle.std.proofs.Common.{sym, subst, refl}
-use Rattle.std.specs.List.Sorted.{IsStrictlySortedBy}
-use Rattle.cil_store.specs.Stored.{AreSized}
+use Rattle.cil_store.proofs.Common.{IsStrictlySortedBy, AreSized}
 use Rattle.cil_store.proofs.entries.Entries.new.Goals as goal
 
 pub invariant_of-result : goal.invariant_of-result

@@ -1,11 +1,5 @@
 use Rattle.std.proofs.Common.{ap, rules, of_calls, ◌≡◌, ◌∙◌, sym, subst}
-use Rattle.std.specs.List.{prefix_len}
-use Rattle.std.specs.List.Sorted.{IsStrictlySortedBy}
-use Rattle.std.specs.Ordering.{is_lt}
-use Rattle.std.proofs.lemmas.Fn.{always_returns_same}
-use Rattle.cil_store_specs.specs.Store.{entry_cmp}
-use Rattle.cil_store_specs.specs.Store.{entry_at}
-use Rattle.cil_store_specs.proofs.StoreOrder.{entry_total}
+use Rattle.cil_store.proofs.Common.{prefix_len, IsStrictlySortedBy, is_lt, always_returns_same, entry_cmp, entry_at, entry_total}
 use Rattle.cil_store.proofs.EntryLemmas.{place-is}
 use Rattle.cil_store.proofs.entries.Entries.place.Goals as goal
 

@@ -1,10 +1,5 @@
 use Rattle.std.proofs.Common.{◌≡◌, ◌<◌, ◌≤◌, ◌+◌, ◌^◌, ◌∙◌, ap, sym, subst, ℕ, List, insert, slice_set, length, arith}
-use Rattle.std.specs.List.{prefix_len}
-use Rattle.std.specs.Ordering.{is_lt}
-use Rattle.cil_specs.proofs.SearchLemmas.{IsTiedAt}
-use Rattle.cil_store_specs.specs.Store.{Entry, entry_at, entry_cmp, put, text_bytes, without}
-use Rattle.cil_store_specs.proofs.StoreOrder.{entry_total}
-use Rattle.cil_store.specs.Stored.{AreSized}
+use Rattle.cil_store.proofs.Common.{prefix_len, is_lt, IsTiedAt, Entry, entry_at, entry_cmp, put, text_bytes, without, entry_total, AreSized}
 use Rattle.cil_store.proofs.EntryLemmas.{set-put, insert-put, is-not}
 use Rattle.cil_store.proofs.SizeLemmas.{put-sized}
 use Rattle.cil_store.proofs.entries.Entries.put.Goals as goal

@@ -1,7 +1,5 @@
 use Rattle.std.proofs.Common.{◌≡◌, ◌∙◌, ap, sym, subst, None, Some}
-use Rattle.std.specs.Option.{option_map}
-use Rattle.cil_store_specs.specs.Store.{Entry, Store, active_text}
-use Rattle.cil_store_specs.proofs.ActiveLemmas.{active-first, active-none}
+use Rattle.cil_store.proofs.Common.{option_map, Entry, Store, active_text, active-first, active-none}
 use Rattle.cil_store.proofs.modules.Store.active.Goals as goal
 
 pub returns-then-has : goal.returns-then-has

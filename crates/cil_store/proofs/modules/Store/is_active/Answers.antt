@@ -1,6 +1,5 @@
 use Rattle.std.proofs.Common.{[], ◌<◌, ◌∙◌, ◌&&◌, not, refl, ap, sym, subst, length, slice_index_or}
-use Rattle.cil_store_specs.specs.Store.{Store, entry_at, is_active}
-use Rattle.cil_store_specs.proofs.ActiveLemmas.{is_first_at}
+use Rattle.cil_store.proofs.Common.{Store, entry_at, is_active, is_first_at}
 use Rattle.cil_store.proofs.StateLemmas.{active-is}
 use Rattle.cil_store.proofs.modules.Store.is_active.Goals as goal
 

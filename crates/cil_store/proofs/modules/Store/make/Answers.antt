@@ -1,11 +1,5 @@
 use Rattle.std.proofs.Common.{sym, subst, ℕ, List, not, bytes_eq}
-use Rattle.std.specs.List.Sorted.{IsStrictlySortedBy}
-use Rattle.std.proofs.lemmas.Cmp.{nat_list_cmp_total}
-use Rattle.std.proofs.lemmas.List.Kept.{IsStrictlySortedBy-filter}
-use Rattle.cil_specs.specs.Report.{name_cmp}
-use Rattle.cil_store_specs.specs.Store.{Entry, entry_cmp, is_entry, put, put_name}
-use Rattle.cil_store_specs.proofs.PutLemmas.{put-ordered}
-use Rattle.cil_store_specs.proofs.StoreOrder.{entry_total}
+use Rattle.cil_store.proofs.Common.{IsStrictlySortedBy, nat_list_cmp_total, IsStrictlySortedBy-filter, name_cmp, Entry, entry_cmp, is_entry, put, put_name, put-ordered, entry_total}
 use Rattle.cil_store.proofs.EntryLemmas.{made-or-not}
 use Rattle.cil_store.proofs.modules.Store.make.Goals as goal
 

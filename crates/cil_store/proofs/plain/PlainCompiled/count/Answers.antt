@@ -1,6 +1,5 @@
 use Rattle.std.proofs.Common.{sym, subst}
-use Rattle.cil_store_specs.specs.Next.{IsMeaningOf}
-use Rattle.cil_store_specs.specs.Store.{Store}
+use Rattle.cil_store.proofs.Common.{IsMeaningOf, Store}
 use Rattle.cil_store.proofs.plain.PlainCompiled.count.Goals as goal
 
 pub returns : goal.returns

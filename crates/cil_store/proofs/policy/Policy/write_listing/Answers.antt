@@ -1,13 +1,6 @@
 use Rattle.std.proofs.Common.{subst, arith}
-use Rattle.std.specs.Rc.{rc_value}
-use Rattle.cil_resolve.specs.Resolved.{meaning_in}
-use Rattle.cil_specs.specs.Meaning.{is_in_table}
-use Rattle.cil_stream.proofs.Gaining.{gains-none}
-use Rattle.cil_rules.specs.Rows.{listed, rows_of}
-use Rattle.cil_rules.proofs.RowLemmas.{are-rows, rows-listed}
+use Rattle.cil_store.proofs.Common.{rc_value, meaning_in, is_in_table, gains-none, listed, rows_of, are-rows, rows-listed, IsMeaningOf, Store}
 use Rattle.cil_store_specs.proofs.AllAtoms.{all-atoms}
-use Rattle.cil_store_specs.specs.Next.{IsMeaningOf}
-use Rattle.cil_store_specs.specs.Store.{Store}
 use Rattle.cil_store.proofs.policy.Policy.write_listing.Goals as goal
 
 -- nothing is written of a listing for which there is no memory

@@ -1,10 +1,6 @@
 use Rattle.std.proofs.Common.{◌≡◌, ◌∙◌, ◌<◌, ◌++◌, ◌∷◌, [], ℕ, true, false, length, slice_get, get_or, sym, ap, subst, arith, true≢false}
 use Rattle.std.proofs.Math.Nat.{le-max_right}
-use Rattle.std.proofs.lemmas.List.{length-append}
-use Rattle.std.proofs.lemmas.Option.{same_Some, slice_get_within, slice_get-get_or}
-use Rattle.cil_symbols.specs.InUse.{used_in, IsUsed}
-use Rattle.cil_check.proofs.PositionLemmas.{get-append, get-last}
-use Rattle.cil_optionals.proofs.ListLemmas.{get-set_same, get-set_other}
+use Rattle.cil_symbols.proofs.Common.{length-append, same_Some, slice_get_within, slice_get-get_or, used_in, IsUsed, get-append, get-last, get-set_same, get-set_other}
 use Rattle.cil_symbols.proofs.InUseLemmas.{below-within, missing, now-used, still-used, used-all, used-push, with-new}
 use Rattle.cil_symbols.proofs.NameLemmas.{found-name}
 use Rattle.cil_symbols.proofs.in_use.InUse.number.Goals as goal

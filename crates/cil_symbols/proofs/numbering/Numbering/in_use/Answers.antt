@@ -1,7 +1,5 @@
 use Rattle.std.proofs.Common.{◌∙◌, ap, arith, is_some, length, map, option_map, slice_get}
-use Rattle.std.proofs.lemmas.List.{take_all}
-use Rattle.std.proofs.lemmas.Option.{slice_get-map}
-use Rattle.cil_symbols.specs.InUse.{used_in}
+use Rattle.cil_symbols.proofs.Common.{take_all, slice_get-map, used_in}
 use Rattle.cil_symbols.proofs.InUseLemmas.{marks-count}
 use Rattle.cil_symbols.proofs.numbering.Numbering.in_use.Goals as goal
 

@@ -1,6 +1,5 @@
 use Rattle.std.proofs.Common.{◌∙◌, ap, sym, Some}
-use Rattle.cil_specs.specs.Lookup.{with_name}
-use Rattle.cil_names.proofs.TextLemmas.{texts, distinct-texts, found-name, stored-text, with_name-texts}
+use Rattle.cil_symbols.proofs.Common.{with_name, texts, distinct-texts, found-name, stored-text, with_name-texts}
 use Rattle.cil_symbols.proofs.NameLemmas.{known-name}
 use Rattle.cil_symbols.proofs.symbols.Symbols.number.Goals as goal
 

@@ -1,6 +1,5 @@
 use Rattle.std.proofs.Common.{◌∙◌, ◌<◌, ap, length, set, sym, subst}
-use Rattle.cil_specs.specs.Lookup.{has_name}
-use Rattle.cil_names.proofs.TextLemmas.{distinct-texts, texts}
+use Rattle.cil_symbols.proofs.Common.{has_name, distinct-texts, texts}
 use Rattle.cil_symbols.proofs.InUseLemmas.{reused}
 use Rattle.cil_symbols.proofs.symbols.Symbols.reuse.Goals as goal
 

@@ -1,7 +1,5 @@
 use Rattle.std.proofs.Common.{◌==◌, ◌&&◌, slice_index}
-use Rattle.cil_keyed_lines.specs.Keyed.{is_kind}
-use Rattle.cil_rule_reach.specs.Reaches.{covers_by}
-use Rattle.cil_table_updates.specs.Moves.{lists}
+use Rattle.cil_table_updates.proofs.Common.{is_kind, covers_by, lists}
 use Rattle.cil_table_updates.proofs.GivenLemmas.{and-first, and-second}
 use Rattle.cil_table_updates.proofs.changed_rows.ChangedRows.rule_stays.Goals as goal
 

@@ -1,7 +1,5 @@
 use Rattle.std.proofs.Common.{◌≡◌, arith, length, sym, subst, true}
-use Rattle.std.specs.List.{list_all}
-use Rattle.cil_resolve.specs.Below.{is_rule_below}
-use Rattle.cil_rule_reach.proofs.NamedLemmas.{as-many}
+use Rattle.cil_table_updates.proofs.Common.{list_all, is_rule_below, as-many}
 use Rattle.cil_table_updates.proofs.PlaceLemmas.{names-apart}
 use Rattle.cil_table_updates.proofs.policy.Policy.of.Goals as goal
 

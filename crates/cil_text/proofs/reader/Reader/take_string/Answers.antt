@@ -1,7 +1,5 @@
 use Rattle.std.proofs.Common.{◌≡◌, ◌<◌, ◌+◌, ◌∙◌, List, ℕ, length, get_or, refl, ap, sym, subst, length-drop, rules, arith}
-use Rattle.std.specs.List.{prefix_len}
-use Rattle.cil_specs.specs.Bytes.{is_string_byte}
-use Rattle.cil_text.specs.Reader.{IsStopped, open_lists}
+use Rattle.cil_text.proofs.Common.{prefix_len, is_string_byte, IsStopped, open_lists}
 use Rattle.cil_text.proofs.Reading.{placed-column}
 use Rattle.cil_text.proofs.Going.{goes-string, bare-string, open-none}
 use Rattle.cil_text.proofs.reader.Reader.take_string.Goals as goal

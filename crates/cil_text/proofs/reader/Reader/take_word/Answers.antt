@@ -1,7 +1,5 @@
 use Rattle.std.proofs.Common.{◌≡◌, ◌+◌, ◌∙◌, List, ℕ, length, drop, refl, ap, add-zero, length-drop, rules, arith}
-use Rattle.std.specs.List.{prefix_len}
-use Rattle.std.proofs.lemmas.List.Sums.{prefix_len-le-length}
-use Rattle.cil_specs.specs.Bytes.{is_word_byte}
+use Rattle.cil_text.proofs.Common.{prefix_len, prefix_len-le-length, is_word_byte}
 use Rattle.cil_text.proofs.Reading.{placed-column}
 use Rattle.cil_text.proofs.Going.{goes-word}
 use Rattle.cil_text.proofs.reader.Reader.take_word.Goals as goal

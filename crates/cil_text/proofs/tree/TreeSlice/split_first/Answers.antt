@@ -1,8 +1,5 @@
 use Rattle.std.proofs.Common.{◌≡◌, ◌∙◌, ◌∷◌, ◌-◌, List, length, take, drop, ap, sym}
-use Rattle.std.proofs.lemmas.List.{take_min, drop_min, take_rest}
-use Rattle.cil_specs.specs.Trees.{a_list}
-use Rattle.cil_text.specs.Image.{place_of, trees_of, trees_in}
-use Rattle.cil_text.specs.declared.node.Node.{Node}
+use Rattle.cil_text.proofs.Common.{take_min, drop_min, take_rest, a_list, place_of, trees_of, trees_in, Node}
 use Rattle.cil_text.proofs.Nodes.{node_split, list_in}
 use Rattle.cil_text.proofs.tree.TreeSlice.split_first.Goals as goal
 

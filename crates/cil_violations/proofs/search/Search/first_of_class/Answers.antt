@@ -1,6 +1,5 @@
 use Rattle.std.proofs.Common.{◌≡◌, ◌∙◌, ◌<◌, Some, slice_get, get_or, length, refl, sym, ap, arith}
-use Rattle.std.proofs.lemmas.Option.{slice_get_read}
-use Rattle.cil_violations.specs.Rows.{rules_in}
+use Rattle.cil_violations.proofs.Common.{slice_get_read, rules_in}
 use Rattle.cil_violations.proofs.IndexLemmas.{first-met}
 use Rattle.cil_violations.proofs.search.Search.first_of_class.Goals as goal
 

@@ -1,6 +1,5 @@
 use Rattle.std.proofs.Common.{◌≡◌, ◌++◌, ℕ, Some, true, length, flat_map}
-use Rattle.cil_violations.specs.Index.{is_met}
-use Rattle.cil_violations.specs.Rows.{tests_of, rules_in, source_rows, pair_rows}
+use Rattle.cil_violations.proofs.Common.{is_met, tests_of, rules_in, source_rows, pair_rows}
 use Rattle.cil_violations.proofs.IndexLemmas.{behind, left}
 use Rattle.cil_violations.proofs.search.Search.push_pairs.Given as goal
 

@@ -1,7 +1,5 @@
 use Rattle.std.proofs.Common.{sym, subst}
-use Rattle.std.specs.List.Sorted.{IsStrictlySortedBy}
-use Rattle.std.specs.Ordering.{nat_cmp}
-use Rattle.cil_violations.specs.Rows.{rules_in}
+use Rattle.cil_violations.proofs.Common.{IsStrictlySortedBy, nat_cmp, rules_in}
 use Rattle.cil_violations.proofs.IndexLemmas.{there-at}
 use Rattle.cil_violations.proofs.search.Search.share_permission.Goals as goal
 

@@ -1,9 +1,6 @@
 use Rattle.std.proofs.Common.{◌≡◌, ◌∙◌, ◌+◌, ◌∷◌, cond, drop, get_or, slice_get, Some, ap, sym}
 use Rattle.std.specs.Prelude.{option_map}
-use Rattle.std.proofs.lemmas.List.{drop_more, drop_all}
-use Rattle.std.proofs.lemmas.Option.{slice_get-map}
-use Rattle.cil_resolve.specs.Sets.{name_in}
-use Rattle.cil_violations.specs.Permissions.{shared}
+use Rattle.cil_violations.proofs.Common.{drop_more, drop_all, slice_get-map, name_in, shared}
 use Rattle.cil_violations.proofs.violation.Permissions.get.Goals as goal
 
 pub returns-then-left-eq0 : goal.returns-then-left-eq0

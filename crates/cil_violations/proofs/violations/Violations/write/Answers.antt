@@ -1,10 +1,6 @@
 use Rattle.std.proofs.Common.{◌∙◌, subst}
-use Rattle.std.specs.List.{flat_map}
+use Rattle.cil_violations.proofs.Common.{flat_map, Gains, GainsFront, on_err, violation_line, violation_by, line_by}
 use Rattle.std.specs.Rc.{rc_value}
-use Rattle.cil_stream.specs.Device.{Gains, GainsFront}
-use Rattle.cil_stream.proofs.Gaining.{on_err}
-use Rattle.cil_specs.specs.Violations.{violation_line}
-use Rattle.cil_violations.specs.Lines.{violation_by, line_by}
 use Rattle.cil_violations.proofs.LineLemmas.{mapped-text}
 use Rattle.cil_violations.proofs.violations.Violations.write.Goals as goal
 

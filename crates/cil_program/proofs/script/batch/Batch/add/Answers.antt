@@ -1,9 +1,5 @@
 use Rattle.std.proofs.Common.{refl, sym, subst}
-use Rattle.std.proofs.lemmas.Result.{err_from_is_err_and}
-use Rattle.cil_store.specs.Edits.{edit_of}
-use Rattle.cil_program.specs.Batch.{CanHold, IsOpen}
-use Rattle.cil_program.specs.HeldEdit.{held_edit}
-use Rattle.cil_program.specs.declared.script.batch.NotHeld.TheVariants.{Memory}
+use Rattle.cil_program.proofs.Common.{err_from_is_err_and, edit_of, CanHold, IsOpen, held_edit, Memory}
 use Rattle.cil_program.proofs.BatchLemmas.{kept-size, not-added, no-memory, list-after, has-room, added}
 use Rattle.cil_program.proofs.script.batch.Batch.add.Goals as goal
 

@@ -1,9 +1,5 @@
 use Rattle.std.proofs.Common.{◌≡◌, ◌∙◌, refl, sym, subst, arith}
-use Rattle.std.proofs.lemmas.Result.{err_from_is_err_and}
-use Rattle.cil_store_specs.specs.Next.{held_bytes}
-use Rattle.cil_program.specs.Batch.{CanHold, IsOpen}
-use Rattle.cil_program.specs.HeldEdit.{held_edit}
-use Rattle.cil_program.specs.declared.script.batch.NotHeld.TheVariants.{Memory}
+use Rattle.cil_program.proofs.Common.{err_from_is_err_and, held_bytes, CanHold, IsOpen, held_edit, Memory}
 use Rattle.cil_program.proofs.BatchLemmas.{kept-size, install-size, not-added, no-memory, list-after, has-room, added}
 use Rattle.cil_program.proofs.script.batch.Batch.add_install.Goals as goal
 

@@ -1,6 +1,5 @@
 use Rattle.std.proofs.Common.{subst}
-use Rattle.cil_store.specs.Edits.{edit_of}
-use Rattle.cil_program.specs.Batch.{Adds}
+use Rattle.cil_program.proofs.Common.{edit_of, Adds}
 use Rattle.cil_program.proofs.BatchLemmas.{held-added, held-given_up}
 use Rattle.cil_program.proofs.script.batch.Batch.hold.Goals as goal
 

@@ -1,6 +1,5 @@
 use Rattle.std.proofs.Common.{subst}
-use Rattle.cil_store_specs.specs.Next.{Edit, install}
-use Rattle.cil_program.specs.Batch.{Adds}
+use Rattle.cil_program.proofs.Common.{Edit, install, Adds}
 use Rattle.cil_program.proofs.BatchLemmas.{short-held, held-added, held-given_up}
 use Rattle.cil_program.proofs.script.batch.Batch.hold_install.Goals as goal
 

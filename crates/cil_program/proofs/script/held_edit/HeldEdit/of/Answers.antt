@@ -1,7 +1,5 @@
 use Rattle.std.proofs.Common.{◌≡◌, ◌∙◌, take, ap, sym}
-use Rattle.cil_store_specs.specs.Next.{install}
-use Rattle.cil_store_specs.specs.Answers.{held_as}
-use Rattle.cil_store.specs.Edits.{edit_of}
+use Rattle.cil_program.proofs.Common.{install, held_as, edit_of}
 use Rattle.cil_program.proofs.BatchLemmas.{take-min}
 use Rattle.cil_program.proofs.script.held_edit.HeldEdit.of.Goals as goal
 

@@ -1,6 +1,5 @@
 use Rattle.std.proofs.Common.{◌≡◌, ◌≤◌, ◌∙◌, ◌+◌, ◌-◌, ℕ, List, length, take, drop, ap, sym, length-take, arith}
-use Rattle.std.proofs.lemmas.List.{drop-drop, drop-take}
-use Rattle.cil_program.specs.Input.{Held}
+use Rattle.cil_program.proofs.Common.{drop-drop, drop-take, Held}
 use Rattle.cil_program.proofs.script.input.Input.advance.Goals as goal
 
 pub returns-clause-bytes : goal.returns-clause-bytes

@@ -1,6 +1,5 @@
 use Rattle.std.proofs.Common.{◌≡◌, ◌≤◌, ◌-◌, ◌∙◌, [], length, take, drop, ap, arith}
-use Rattle.cil_stream.proofs.Gaining.{on_err}
-use Rattle.cil_program.specs.Input.{Held}
+use Rattle.cil_program.proofs.Common.{on_err, Held}
 use Rattle.cil_program.proofs.InputLemmas.{stops-at_once, empty-range}
 use Rattle.cil_program.proofs.script.input.Input.fill.Goals as goal
 

@@ -1,6 +1,5 @@
 use Rattle.std.proofs.Common.{◌∙◌, ◌-◌, List, ℕ, IfOk, subst}
-use Rattle.cil_stream.specs.Device.{has_ended}
-use Rattle.cil_program.specs.Input.{HasRead, IsWholeText}
+use Rattle.cil_program.proofs.Common.{has_ended, HasRead, IsWholeText}
 use Rattle.cil_program.proofs.InputLemmas.{front-then, stops-behind_front}
 use Rattle.cil_program.proofs.script.input.Input.read_front.Goals as goal
 

@@ -1,6 +1,5 @@
 use Rattle.std.proofs.Common.{◌≤◌, ◌-◌, length, IsTrue}
-use Rattle.std.specs.List.{list_all}
-use Rattle.cil_program.specs.Input.{HasRead, stays}
+use Rattle.cil_program.proofs.Common.{list_all, HasRead, stays}
 use Rattle.cil_program.proofs.script.input.Input.read_line.Given as goal
 
 abbrev pub invariant-loop-b : goal.invariant-loop-b

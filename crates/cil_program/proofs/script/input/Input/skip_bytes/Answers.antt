@@ -1,6 +1,5 @@
 use Rattle.std.proofs.Common.{◌≤◌, ◌++◌, ℕ, length, take, ap, length-append, rules, arith}
-use Rattle.std.proofs.lemmas.List.{length-take-le}
-use Rattle.cil_stream.proofs.Gaining.{on_err}
+use Rattle.cil_program.proofs.Common.{length-take-le, on_err}
 use Rattle.cil_program.proofs.InputLemmas.{reads-on, reads-then_none, stops-then_none}
 use Rattle.cil_program.proofs.script.input.Input.skip_bytes.Goals as goal
 

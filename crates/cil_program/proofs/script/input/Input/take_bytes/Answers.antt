@@ -1,6 +1,5 @@
 use Rattle.std.proofs.Common.{◌≡◌, ◌≤◌, ◌∙◌, ◌++◌, ◌+◌, ℕ, length, take, ap, append_assoc, append-nil, sym, [], length-append, vec_len, is_ok, if◌then◌else◌, rules, arith}
-use Rattle.std.proofs.lemmas.List.{length-take-le}
-use Rattle.cil_stream.proofs.Gaining.{on_err}
+use Rattle.cil_program.proofs.Common.{length-take-le, on_err}
 use Rattle.cil_program.proofs.InputLemmas.{reads-none, reads-then_none, reads-on, stops-then_none}
 use Rattle.cil_program.proofs.script.input.Input.take_bytes.Goals as goal
 

@@ -1,0 +1,28 @@
+-- The names from elsewhere that this crate's proofs cite most, passed on from one place.
+pub use Rattle.cil_parse.specs.Builder.{Adds, AddsExpr, AddsForm, Closes, IsAt, Places, Puts, read, row_for, row_of, top}
+pub use Rattle.cil_parse.specs.Flat.{FlatStatement, block_inside, count, flat, optional_inside}
+pub use Rattle.cil_parse.specs.Forms.{expr_nodes, kind_of, nodes_in, permissions_in, words_in}
+pub use Rattle.cil_parse.specs.Lexicon.{AddsNames, AreNumbersOf, AreSplit, IsLexicon, Keeps, SplitsText, names_in, seen, texts_in}
+pub use Rattle.cil_parse.specs.PermissionLists.{permission_texts, permission_words}
+pub use Rattle.cil_parse.specs.View.{IsShown}
+pub use Rattle.cil_parse.specs.declared.builder.Builder.{Builder}
+pub use Rattle.cil_parse.specs.declared.lexicon.Lexicon.{Lexicon}
+pub use Rattle.cil_parse.specs.declared.row.Around.{Around}
+pub use Rattle.cil_parse.specs.declared.row.NumberedWord.{NumberedWord}
+pub use Rattle.cil_parse.specs.declared.row.Row.{Row}
+pub use Rattle.cil_parse.specs.declared.view.StatementView.{StatementView}
+pub use Rattle.cil_specs.specs.Expr.{both, either, leaves, one_of, opposite}
+pub use Rattle.cil_specs.specs.Lookup.{classes, declared_in, has_name, references, texts, types, with_name}
+pub use Rattle.cil_specs.specs.Names.{Word, components}
+pub use Rattle.cil_specs.specs.Shape.{IsFirstShapeFault, Shapes}
+pub use Rattle.cil_specs.specs.Statements.{Form, Statements, alias_actual, attribute_set, block, class, class_common, class_order, common, itself, no_more, optional, rule, statement, target_words, the_named, type_alias, type_attribute, type_name}
+pub use Rattle.cil_text.proofs.FirstBad.{fault_weaker, handed_on}
+pub use Rattle.cil_text.specs.Forest.{forest_of}
+pub use Rattle.cil_text.specs.Form.{at_of, form_of, has_body}
+pub use Rattle.cil_text.specs.Image.{FaultIs, expr_of, place_of, row_statements, statement_then, statements_of, target_of, trees_of, word_of}
+pub use Rattle.cil_text.specs.Walk.{IsFirstAmong, IsInFront, IsNext}
+pub use Rattle.cil_text.specs.declared.statement.Statement.{Block', Class, ClassCommon, ClassOrder, Common, Optional', Rule, Statement, TypeAlias, TypeAliasActual, TypeAttribute, TypeAttributeSet, TypeName}
+pub use Rattle.std.proofs.lemmas.List.{drop-map, drop_all, get_or-map, length-map, map-append, take_all, take_more, take_rest}
+pub use Rattle.std.proofs.lemmas.Option.{cond_some, get_or_from_slice_get, same_Some, slice_get-get_or, slice_get-map, slice_get_within}
+pub use Rattle.std.specs.List.{onto_first, position_or_len, slice_split}
+pub use Rattle.std.specs.Option.{option_and_then, option_map}

@@ -1,0 +1,19 @@
+-- The names from elsewhere that this crate's proofs cite most, passed on from one place.
+pub use Rattle.cil_keyed_lines.specs.Keyed.{count_before, count_now, is_key, is_kind, steps_in}
+unfoldable pub use Rattle.cil_keyed_lines.specs.Keyed.{hit_of}
+pub use Rattle.cil_keyed_lines.specs.declared.symbol_key.SymbolKey.{SymbolKey}
+pub use Rattle.cil_lines.proofs.StepLemmas.{hit-here, hit-none, hit-there}
+pub use Rattle.cil_lines.specs.Line.{Counters, IsNextPresent, IsPresence, NonePresent, count_of, hit}
+pub use Rattle.cil_rule_shifts.specs.Moves.{AreSame, AreTurned, AreTurnedForAll, HasNone, differs, goes_over, has_either, has_word, moves_for, moves_in, moves_of, moves_where, turns}
+pub use Rattle.cil_rule_shifts.specs.Pieces.{AreApart, ArePieces, has_target, hits_of, put_for, put_in}
+pub use Rattle.cil_rule_shifts.specs.Reach.{AreShort, IsMask, IsNext, IsNextWord, IsShort, NoneFrom, NoneFromWord, gives, has_head, has_permission, has_source, is_line, one_if, reaches}
+unfoldable pub use Rattle.cil_rule_shifts.specs.Reach.{is_present, takes}
+pub use Rattle.cil_rule_shifts.specs.declared.head.RuleHead.{RuleHead}
+pub use Rattle.cil_rule_shifts.specs.declared.reach.Reach.{Reach}
+pub use Rattle.cil_rule_shifts.specs.declared.targets.Targets.{Targets}
+pub use Rattle.cil_sums.proofs.RiseLemmas.{rises-bits, rises-map, rises-more, rises-none, rises-same, same-from_counts}
+pub use Rattle.cil_sums.specs.Rises.{RisesBy}
+pub use Rattle.std.proofs.lemmas.Bool.{cases_eq, cases_lt, eq-eqb, eqb-true, le-ltb, leb-false, leb-true, lt-ltb, ltb-true, ne_eqb}
+pub use Rattle.std.proofs.lemmas.Nat.Bits.{bit_at-pow_other, bit_at-pow_same, bit_at-trailing_zeros, bit_at-zero, bit_at_above, bit_at_and, bit_at_cat_high, bit_at_or, bit_at_xor}
+pub use Rattle.std.specs.Int.{bit_at, bit_not, trailing_zeros}
+pub use Rattle.std.specs.List.Sorted.{IsStrictlyIncreasing}
