@@ -1,6 +1,5 @@
 -- The accesses of ascending chunks ascend.
-use Rattle.std.proofs.Common.{◌≡◌, ◌⊎◌, inl, inr, ℕ, suc, zero, ◌<◌, ◌≤◌, ◌+◌, ◌*◌, List, [], ◌∷◌, filter, length, take, drop, sym, ap, ◌∙◌, subst, arith, Contains}
-use Rattle.cil_accesses.proofs.Common.{prefix_len, IsStrictlySortedBy, nat_cmp, ordering_then, Ordering, Less, Equal, kind_index, contains-filtered, rule_kind_of, AccessNumbers, Chunk, numbers_cmp, run_cmp, chunk_cmp, IsAccessOf, IsGiven, IsFirstGroup, in_run, has_bit, access_at, at_bit, at_bits, run_accesses, accesses_of}
+use Rattle.cil_accesses.proofs.Common.{◌≡◌, ◌⊎◌, inl, inr, ℕ, suc, zero, ◌<◌, ◌≤◌, ◌+◌, ◌*◌, List, [], ◌∷◌, filter, length, take, drop, sym, ap, ◌∙◌, subst, arith, Contains, prefix_len, IsStrictlySortedBy, nat_cmp, ordering_then, Ordering, Less, Equal, kind_index, contains-filtered, rule_kind_of, AccessNumbers, Chunk, numbers_cmp, run_cmp, chunk_cmp, IsAccessOf, IsGiven, IsFirstGroup, in_run, has_bit, access_at, at_bit, at_bits, run_accesses, accesses_of}
 use Rattle.std.proofs.lemmas.Bool.Decides.{nat_tests}
 use Rattle.std.proofs.lemmas.List.Kept.{IsStrictlySortedBy-filter}
 use Rattle.cil_specs.proofs.ReportLemmasMembers.{sorted_map}

@@ -15,6 +15,7 @@ pub use Rattle.cil_specs.proofs.NamesLemmas.{all-append, all-contained, all-firs
 pub use Rattle.cil_specs.proofs.ReportLemmas.{equal-is, same-kind, then_equal}
 pub use Rattle.cil_specs.specs.Rule.{kind_index}
 pub use Rattle.cil_text.specs.Image.{rule_kind_of}
+pub use Rattle.std.proofs.Common.{Any, Bool, Bor, Contains, IsPermutation, IsSorted, List, MatchOption, None, Some, [], add-one, ap, append-nil, append_assoc, arith, below_more, bit_or, cond, count_ones, div-le_self, drop, eq-eqb, false, filter, flat_map, get_or, if◌then◌else◌, inl, inr, length, map, not, one-add, option_map, pow-suc, refl, set, slice_get, subst, suc, sum_by, sym, take, take_all, true, w64, zero, ℕ, ◌%◌, ◌*◌, ◌++◌, ◌+◌, ◌-◌, ◌/◌, ◌<◌, ◌==◌, ◌^◌, ◌↔◌, ◌∙◌, ◌∷◌, ◌≡◌, ◌≤◌, ◌⊎◌}
 pub use Rattle.std.proofs.lemmas.Bool.{cases_eq, cases_lt, eqb-false, eqb-true, false_from_ne_true, true≢false}
 pub use Rattle.std.proofs.lemmas.Cmp.{nat_cmp_total, on_total, then_total, tied_itself}
 pub use Rattle.std.proofs.lemmas.List.{drop_at, get_or_default, length-append, length-map, map-append, set-get_or, set_split, take-append-drop, take_at, take_more, with_items_is}

@@ -1,6 +1,5 @@
 -- How many accesses chunks have.
-use Rattle.std.proofs.Common.{◌≡◌, ℕ, suc, zero, ◌<◌, ◌≤◌, ◌+◌, ◌*◌, ◌/◌, ◌%◌, ◌^◌, Bool, true, false, cond, List, [], ◌∷◌, filter, flat_map, length, get_or, take, drop, sum_by, count_ones, refl, sym, ap, ◌∙◌, arith, pow-suc}
-use Rattle.cil_accesses.proofs.Common.{bit_at, length-map, length-append, take-append-drop, sum_by-cons, sum_by-append, sum_by-drop_more, ones_cat, bit_at_lowest, bit_at-suc, bit_at-lt, eqb-true, eqb-false, Chunk, set_from, ones_of, runs_of, has_bit, access_at, at_bit, at_bits, run_accesses, accesses_of}
+use Rattle.cil_accesses.proofs.Common.{◌≡◌, ℕ, suc, zero, ◌<◌, ◌≤◌, ◌+◌, ◌*◌, ◌/◌, ◌%◌, ◌^◌, Bool, true, false, cond, List, [], ◌∷◌, filter, flat_map, length, get_or, take, drop, sum_by, count_ones, refl, sym, ap, ◌∙◌, arith, pow-suc, bit_at, length-map, length-append, take-append-drop, sum_by-cons, sum_by-append, sum_by-drop_more, ones_cat, bit_at_lowest, bit_at-suc, bit_at-lt, eqb-true, eqb-false, Chunk, set_from, ones_of, runs_of, has_bit, access_at, at_bit, at_bits, run_accesses, accesses_of}
 use Rattle.std.specs.Int.Count.{ones-ones}
 use Rattle.cil_accesses.proofs.Members.{joined-runs_of}
 

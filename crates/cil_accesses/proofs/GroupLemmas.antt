@@ -1,6 +1,5 @@
 -- The first group of a list, and those after it.
-use Rattle.std.proofs.Common.{◌≡◌, ℕ, suc, ◌+◌, ◌≤◌, Bool, true, false, cond, List, [], ◌∷◌, ◌++◌, length, take, drop, flat_map, slice_get, Some, None, refl, sym, ap, ◌∙◌, arith, one-add, Contains}
-use Rattle.cil_accesses.proofs.Common.{AllByRecursion, prefix_len, eq_by_cmp, is_eq, IsTotalOrder, Ordering, tied_itself, take-append-drop, length-append, take_at, drop_at, contains-first, contains-other, equal-is, put_first, groups_of, IsFirstGroup}
+use Rattle.cil_accesses.proofs.Common.{◌≡◌, ℕ, suc, ◌+◌, ◌≤◌, Bool, true, false, cond, List, [], ◌∷◌, ◌++◌, length, take, drop, flat_map, slice_get, Some, None, refl, sym, ap, ◌∙◌, arith, one-add, Contains, AllByRecursion, prefix_len, eq_by_cmp, is_eq, IsTotalOrder, Ordering, tied_itself, take-append-drop, length-append, take_at, drop_at, contains-first, contains-other, equal-is, put_first, groups_of, IsFirstGroup}
 use Rattle.std.proofs.lemmas.List.Folds.{length-prefix_len}
 
 -- groups have the elements of their list

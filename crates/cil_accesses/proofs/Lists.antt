@@ -1,6 +1,6 @@
 -- Lists that ascend, and what stands in them.
-use Rattle.std.proofs.Common.{◌≡◌, ◌⊎◌, inl, inr, Bool, true, false, cond, List, [], ◌∷◌, ◌++◌, refl, sym, ap, ◌∙◌, subst, arith, Contains, filter, true≢false}
-use Rattle.cil_accesses.proofs.Common.{AllByRecursion, IsStrictlySortedBy, Ordering, Less, recursion_from_All, all-append, all-contained, contains-cases, contains-first, contains-other}
+use Rattle.cil_accesses.proofs.Common.{◌≡◌, ◌⊎◌, inl, inr, Bool, true, false, cond, List, [], ◌∷◌, ◌++◌, refl, sym, ap, ◌∙◌, subst, arith, Contains, filter, AllByRecursion, IsStrictlySortedBy, Ordering, Less, recursion_from_All, all-append, all-contained, contains-cases, contains-first, contains-other}
+use Rattle.std.proofs.Common.{true≢false}
 use Rattle.cil_specs.proofs.ReportLemmasMembers.{all_from_contains}
 
 -- by elements, what is stated by recursion

@@ -1,6 +1,5 @@
 -- Chunks that are put in order.
-use Rattle.std.proofs.Common.{◌≡◌, ◌↔◌, ◌<◌, ◌^◌, List, [], refl, sym, subst, Contains, IsPermutation, IsSorted}
-use Rattle.cil_accesses.proofs.Common.{All, IsStrictlySortedBy, All-nil, recursion_from_All, All-from_recursion, AccessNumbers, Chunk, IsGiven, accesses_of, AreChunks, merged}
+use Rattle.cil_accesses.proofs.Common.{◌≡◌, ◌↔◌, ◌<◌, ◌^◌, List, [], refl, sym, subst, Contains, IsPermutation, IsSorted, All, IsStrictlySortedBy, All-nil, recursion_from_All, All-from_recursion, AccessNumbers, Chunk, IsGiven, accesses_of, AreChunks, merged}
 use Rattle.std.proofs.lemmas.List.Sorted.{All-permutation, Contains-permutation, IsPermutation-sym}
 use Rattle.cil_accesses.specs.contracts.chunk.ChunkOrd.TheImpl as chunk_ord
 use Rattle.cil_accesses.proofs.Members.{in-accesses_of, accesses_of-has}

@@ -1,6 +1,6 @@
 -- Which accesses the chunks of a list have.
-use Rattle.std.proofs.Common.{◌≡◌, ◌⊎◌, inl, inr, ℕ, suc, zero, ◌<◌, ◌≤◌, ◌+◌, ◌*◌, ◌/◌, ◌%◌, true, List, filter, flat_map, sym, ap, ◌∙◌, subst, arith, Contains, eq-eqb, eqb-true}
-use Rattle.cil_accesses.proofs.Common.{bit_at, cases_eq, Contains-append_left, Contains-append_right, Contains-append_cases, contains-map, contains-mapped, contains-filtered, AccessNumbers, Chunk, IsAccessOf, IsGiven, in_run, runs_of, has_bit, access_at, at_bit, at_bits, run_accesses, accesses_of}
+use Rattle.cil_accesses.proofs.Common.{◌≡◌, ◌⊎◌, inl, inr, ℕ, suc, zero, ◌<◌, ◌≤◌, ◌+◌, ◌*◌, ◌/◌, ◌%◌, true, List, filter, flat_map, sym, ap, ◌∙◌, subst, arith, Contains, eq-eqb, bit_at, cases_eq, Contains-append_left, Contains-append_right, Contains-append_cases, contains-map, contains-mapped, contains-filtered, AccessNumbers, Chunk, IsAccessOf, IsGiven, in_run, runs_of, has_bit, access_at, at_bit, at_bits, run_accesses, accesses_of}
+use Rattle.std.proofs.Common.{eqb-true}
 use Rattle.cil_specs.proofs.MeansLemmas.{contains-flat, flat-contains}
 use Rattle.cil_accesses.proofs.GroupLemmas.{joined-groups_of}
 use Rattle.cil_accesses.proofs.Lists.{contains-none, contains-filter, filter-passes}

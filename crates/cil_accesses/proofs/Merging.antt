@@ -1,7 +1,6 @@
 -- Chunks that are merged.
-use Rattle.std.proofs.Common.{◌≡◌, ◌⊎◌, inl, inr, ℕ, suc, ◌<◌, ◌%◌, add-one, Bool, true, false, cond, List, [], ◌∷◌, get_or, length, bit_or, refl, sym, ap, ◌∙◌, subst, arith, IsSorted}
+use Rattle.cil_accesses.proofs.Common.{◌≡◌, ◌⊎◌, inl, inr, ℕ, suc, ◌<◌, ◌%◌, add-one, Bool, true, false, cond, List, [], ◌∷◌, get_or, length, bit_or, refl, sym, ap, ◌∙◌, subst, arith, IsSorted, bit_at, AllByRecursion, IsStrictlySortedBy, nat_cmp, ordering_then, ordering_reverse, is_eq, is_lt, Ordering, Less, Equal, Greater, cases_eq, true≢false, bit_at-lt, bit_at_or, equal-is, contains-cases, contains-first, contains-other, AccessNumbers, Chunk, chunk_cmp, IsAccessOf, IsGiven, with_bits, nowhere, of_one_key, taking_up, merged_from, merged}
 use Rattle.std.specs.Bool.{MatchBool}
-use Rattle.cil_accesses.proofs.Common.{bit_at, AllByRecursion, IsStrictlySortedBy, nat_cmp, ordering_then, ordering_reverse, is_eq, is_lt, Ordering, Less, Equal, Greater, cases_eq, true≢false, bit_at-lt, bit_at_or, equal-is, contains-cases, contains-first, contains-other, AccessNumbers, Chunk, chunk_cmp, IsAccessOf, IsGiven, with_bits, nowhere, of_one_key, taking_up, merged_from, merged}
 use Rattle.std.specs.List.Retain.{DedupsFrom, IsDeduped}
 use Rattle.cil_accesses.specs.contracts.chunk.ChunkOrd.TheImpl as chunk_ord
 use Rattle.cil_accesses.proofs.Order.{derived-chunk, chunk_total, chunk_exact}

@@ -1,6 +1,5 @@
 -- From place to place among the rows.
-use Rattle.std.proofs.Common.{◌≡◌, ◌⊎◌, inl, inr, ◌==◌, bit_or, get_or, false, cond, ℕ, ◌+◌, ◌^◌, ◌<◌, ◌≤◌, not, List, [], ◌∷◌, ◌++◌, length, take, drop, map, slice_get, Some, sym, ap, ◌∙◌, subst, arith, append_assoc, Contains, Bor}
-use Rattle.cil_accesses.proofs.Common.{All, prefix_len, IsStrictlySortedBy, bit_at, take-append-drop, take_more, bit_at_or, All-nil, AccessNumbers, Chunk, RowPlace, chunk_cmp, IsFirstGroup, has_class, at_place, size_of, HasBitsOf, IsNextClass, IsNextRow, IsPlace, in_run, has_bit, access_at, at_bit, from_bit, accesses_of, AreChunks}
+use Rattle.cil_accesses.proofs.Common.{◌≡◌, ◌⊎◌, inl, inr, ◌==◌, bit_or, get_or, false, cond, ℕ, ◌+◌, ◌^◌, ◌<◌, ◌≤◌, not, List, [], ◌∷◌, ◌++◌, length, take, drop, map, slice_get, Some, sym, ap, ◌∙◌, subst, arith, append_assoc, Contains, Bor, All, prefix_len, IsStrictlySortedBy, bit_at, take-append-drop, take_more, bit_at_or, All-nil, AccessNumbers, Chunk, RowPlace, chunk_cmp, IsFirstGroup, has_class, at_place, size_of, HasBitsOf, IsNextClass, IsNextRow, IsPlace, in_run, has_bit, access_at, at_bit, from_bit, accesses_of, AreChunks}
 use Rattle.cil_accesses.proofs.GroupLemmas.{group-front, group-shorter}
 use Rattle.cil_accesses.proofs.Lists.{contains-none}
 use Rattle.cil_accesses.proofs.Made.{no-accesses}

@@ -1,6 +1,6 @@
 -- The bits of a chunk that are set, one after the other.
-use Rattle.std.proofs.Common.{◌≡◌, ◌↔◌, ◌⊎◌, inl, inr, ℕ, ◌<◌, ◌≤◌, ◌+◌, ◌-◌, ◌*◌, ◌/◌, ◌%◌, ◌^◌, ◌==◌, true, false, true≢false, List, [], ◌∷◌, ◌++◌, bit_or, get_or, w64, refl, sym, ap, ◌∙◌, subst, arith, eq-eqb, div-le_self}
-use Rattle.cil_accesses.proofs.Common.{bit_at, trailing_zeros, All, Equal, cases_eq, cases_lt, tied_itself, shr-shr, bit_at-zero, bit_at_above, bit_at-trailing_zeros, AccessNumbers, Chunk, chunk_cmp, IsAccessOf, IsGiven, with_bits, IsRenumbered, IsRenumberedAt, MovesUp, renumbered, access_at, has_bit, IsNextBit, NoBitFrom}
+use Rattle.cil_accesses.proofs.Common.{◌≡◌, ◌↔◌, ◌⊎◌, inl, inr, ℕ, ◌<◌, ◌≤◌, ◌+◌, ◌-◌, ◌*◌, ◌/◌, ◌%◌, ◌^◌, ◌==◌, true, false, List, [], ◌∷◌, ◌++◌, bit_or, get_or, w64, refl, sym, ap, ◌∙◌, subst, arith, eq-eqb, div-le_self, bit_at, trailing_zeros, All, Equal, cases_eq, cases_lt, tied_itself, shr-shr, bit_at-zero, bit_at_above, bit_at-trailing_zeros, AccessNumbers, Chunk, chunk_cmp, IsAccessOf, IsGiven, with_bits, IsRenumbered, IsRenumberedAt, MovesUp, renumbered, access_at, has_bit, IsNextBit, NoBitFrom}
+use Rattle.std.proofs.Common.{true≢false}
 use Rattle.cil_accesses.proofs.Merging.{both-first, both-second, one-of-both}
 use Rattle.cil_accesses.proofs.Order.{chunk_total, same-chunk_cmp, HaveOneKey}
 use Rattle.cil_accesses.proofs.Renumbering.{access-put, any-left, any-push, any-pushed, bit-added, bit-set, chunk-put, one-access}

@@ -1,6 +1,5 @@
 -- What the derived comparison of chunks computes, and the orders.
-use Rattle.std.proofs.Common.{◌≡◌, refl, sym, ap, ◌∙◌}
-use Rattle.cil_accesses.proofs.Common.{nat_cmp, ordering_then, IsTotalOrder, Ordering, Less, Equal, Greater, nat_cmp_total, on_total, then_total, kind_index, then_equal, same-kind, rule_kind_of, Chunk, run_cmp, chunk_cmp}
+use Rattle.cil_accesses.proofs.Common.{◌≡◌, refl, sym, ap, ◌∙◌, nat_cmp, ordering_then, IsTotalOrder, Ordering, Less, Equal, Greater, nat_cmp_total, on_total, then_total, kind_index, then_equal, same-kind, rule_kind_of, Chunk, run_cmp, chunk_cmp}
 use Rattle.std.proofs.lemmas.Map.Lookups.{exact_unsigned}
 use Rattle.cil_specs.specs.Statements as spec
 use Rattle.cil_specs.specs.Statements.{allow, auditallow, dontaudit, neverallow}

@@ -1,6 +1,5 @@
 -- Places among the accesses of chunks.
-use Rattle.std.proofs.Common.{◌≡◌, ℕ, suc, zero, ◌<◌, ◌≤◌, ◌+◌, ◌-◌, ◌^◌, List, [], ◌∷◌, ◌++◌, length, get_or, filter, map, slice_get, option_map, Some, None, refl, sym, ap, ◌∙◌, subst, arith, Contains}
-use Rattle.cil_accesses.proofs.Common.{All, AllByRecursion, HoldsAt, get_or_default, length-map, All-contains, All-from_recursion, recursion_from_All, all-first, all-second, contains-first, contains-other, contains-filtered, Chunk, IsFirstGroup, in_run, has_bit, access_at, at_bit, at_bits, from_bit, run_accesses, accesses_of}
+use Rattle.cil_accesses.proofs.Common.{◌≡◌, ℕ, suc, zero, ◌<◌, ◌≤◌, ◌+◌, ◌-◌, ◌^◌, List, [], ◌∷◌, ◌++◌, length, get_or, filter, map, slice_get, option_map, Some, None, refl, sym, ap, ◌∙◌, subst, arith, Contains, All, AllByRecursion, HoldsAt, get_or_default, length-map, All-contains, All-from_recursion, recursion_from_All, all-first, all-second, contains-first, contains-other, contains-filtered, Chunk, IsFirstGroup, in_run, has_bit, access_at, at_bit, at_bits, from_bit, run_accesses, accesses_of}
 use Rattle.cil_accesses.proofs.RunLemmas.{accesses-parts}
 
 -- a fact of an element as it is read

@@ -1,7 +1,6 @@
 -- Accesses whose numbers change.
-use Rattle.std.proofs.Common.{◌≡◌, ◌↔◌, ◌⊎◌, inl, inr, ℕ, suc, ◌<◌, ◌+◌, ◌*◌, ◌/◌, ◌%◌, ◌^◌, Bool, true, false, cond, List, [], ◌∷◌, ◌++◌, get_or, set, length, take, drop, Any, bit_or, refl, sym, ap, ◌∙◌, subst, arith, Contains, w64}
+use Rattle.cil_accesses.proofs.Common.{◌≡◌, ◌↔◌, ◌⊎◌, inl, inr, ℕ, suc, ◌<◌, ◌+◌, ◌*◌, ◌/◌, ◌%◌, ◌^◌, Bool, true, false, cond, List, [], ◌∷◌, ◌++◌, get_or, set, length, take, drop, Any, bit_or, refl, sym, ap, ◌∙◌, subst, arith, Contains, w64, bit_at, IsStrictlyIncreasing, IsStrictlySortedBy, nat_cmp, Equal, cases_eq, set_split, set-get_or, Contains-append_left, Contains-append_right, Contains-append_cases, bit_at_set_same, bit_at_set_other, bit_at-zero, equal-is, contains-cases, contains-first, AccessNumbers, Chunk, chunk_cmp, IsAccessOf, IsGiven, with_bits, of_one_key, taking_up, IsRenumbered, IsRenumberedAt, renumbered, has_bit, access_at}
 use Rattle.std.specs.Bool.{MatchBool}
-use Rattle.cil_accesses.proofs.Common.{bit_at, IsStrictlyIncreasing, IsStrictlySortedBy, nat_cmp, Equal, cases_eq, set_split, set-get_or, Contains-append_left, Contains-append_right, Contains-append_cases, bit_at_set_same, bit_at_set_other, bit_at-zero, equal-is, contains-cases, contains-first, AccessNumbers, Chunk, chunk_cmp, IsAccessOf, IsGiven, with_bits, of_one_key, taking_up, IsRenumbered, IsRenumberedAt, renumbered, has_bit, access_at}
 use Rattle.std.proofs.lemmas.Map.Keys.{sorted_from_strictly_increasing}
 use Rattle.cil_accesses.proofs.Lists.{contains-none}
 use Rattle.cil_accesses.proofs.Merging.{one-of-both, both-first, both-second}

@@ -1,6 +1,6 @@
 -- The first row at a place, and the places behind it.
-use Rattle.std.proofs.Common.{◌≡◌, ◌⊎◌, inl, inr, ℕ, ◌+◌, ◌-◌, ◌*◌, ◌<◌, ◌≤◌, Bool, true, false, not, cond, List, [], ◌∷◌, ◌++◌, length, take, drop, filter, map, slice_get, Some, None, refl, sym, ap, ◌∙◌, subst, arith, one-add, append_assoc, append-nil, Contains, true≢false}
-use Rattle.cil_accesses.proofs.Common.{prefix_len, IsStrictlySortedBy, IsTotalOrder, nat_cmp, ordering_then, is_eq, Ordering, Less, Equal, false_from_ne_true, nat_cmp_total, on_total, then_total, take-append-drop, map-append, filter-append, Contains-append_left, Contains-append_right, Contains-append_cases, kind_index, all-contained, contains-cases, contains-first, then_equal, equal-is, rule_kind_of, AccessNumbers, Chunk, RowPlace, run_cmp, chunk_cmp, IsGiven, IsFirstGroup, row_cmp, in_row, rows_of, class_cmp, has_class, at_place, IsNextClass, IsPlace, has_bit, access_at, at_bit, from_bit, accesses_of}
+use Rattle.cil_accesses.proofs.Common.{◌≡◌, ◌⊎◌, inl, inr, ℕ, ◌+◌, ◌-◌, ◌*◌, ◌<◌, ◌≤◌, Bool, true, false, not, cond, List, [], ◌∷◌, ◌++◌, length, take, drop, filter, map, slice_get, Some, None, refl, sym, ap, ◌∙◌, subst, arith, one-add, append_assoc, append-nil, Contains, prefix_len, IsStrictlySortedBy, IsTotalOrder, nat_cmp, ordering_then, is_eq, Ordering, Less, Equal, false_from_ne_true, nat_cmp_total, on_total, then_total, take-append-drop, map-append, filter-append, Contains-append_left, Contains-append_right, Contains-append_cases, kind_index, all-contained, contains-cases, contains-first, then_equal, equal-is, rule_kind_of, AccessNumbers, Chunk, RowPlace, run_cmp, chunk_cmp, IsGiven, IsFirstGroup, row_cmp, in_row, rows_of, class_cmp, has_class, at_place, IsNextClass, IsPlace, has_bit, access_at, at_bit, from_bit, accesses_of}
+use Rattle.std.proofs.Common.{true≢false}
 use Rattle.std.proofs.lemmas.Bool.Decides.{nat_tests}
 use Rattle.std.proofs.lemmas.Map.Lookups.{exact_unsigned}
 use Rattle.cil_accesses.proofs.GroupLemmas.{alike-own, groups-parts, prefix-ends, prefix-passes, prefix-is}

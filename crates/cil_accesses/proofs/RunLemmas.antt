@@ -1,6 +1,6 @@
 -- The first run of chunks, and those after it.
-use Rattle.std.proofs.Common.{◌≡◌, ◌⊎◌, inl, inr, ℕ, suc, true, false, List, [], ◌∷◌, ◌++◌, length, take, drop, flat_map, refl, sym, ap, ◌∙◌, subst, Contains, true≢false}
-use Rattle.cil_accesses.proofs.Common.{prefix_len, IsStrictlySortedBy, is_eq, nat_cmp, ordering_then, ordering_reverse, Ordering, Less, Equal, Greater, equal-is, all-contained, contains-cases, contains-middle, Chunk, run_cmp, chunk_cmp, IsFirstGroup, in_run, run_accesses, accesses_of}
+use Rattle.cil_accesses.proofs.Common.{◌≡◌, ◌⊎◌, inl, inr, ℕ, suc, true, false, List, [], ◌∷◌, ◌++◌, length, take, drop, flat_map, refl, sym, ap, ◌∙◌, subst, Contains, prefix_len, IsStrictlySortedBy, is_eq, nat_cmp, ordering_then, ordering_reverse, Ordering, Less, Equal, Greater, equal-is, all-contained, contains-cases, contains-middle, Chunk, run_cmp, chunk_cmp, IsFirstGroup, in_run, run_accesses, accesses_of}
+use Rattle.std.proofs.Common.{true≢false}
 use Rattle.cil_accesses.proofs.Order.{run_total, run_exact, InOneRun}
 use Rattle.cil_accesses.proofs.GroupLemmas.{first-group, groups-parts, prefix-ends, prefix-passes}
 use Rattle.cil_accesses.proofs.Lists.{contains-none, sorted-left, sorted-right, sorted-first}

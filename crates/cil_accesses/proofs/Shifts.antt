@@ -1,6 +1,6 @@
 -- Words whose bits move up together.
-use Rattle.std.proofs.Common.{◌≡◌, ◌↔◌, ◌⊎◌, inl, inr, ℕ, zero, suc, ◌<◌, ◌≤◌, ◌+◌, ◌-◌, ◌*◌, ◌/◌, ◌%◌, ◌^◌, List, length, get_or, w64, refl, sym, ap, ◌∙◌, subst, arith, eq-eqb, eqb-true}
-use Rattle.cil_accesses.proofs.Common.{bit_at, trailing_zeros, leading_zeros, IsStrictlyIncreasing, cases_lt, shr-shr, shr_split, leading_top, pow_pos, bit_at-zero, bit_at_above, bit_at_cat_low, bit_at_cat_high, bit_at-trailing_zeros, AccessNumbers, Chunk, IsAccessOf, IsGiven, IsWithin, IsMoved, IsTarget, IsRenumbered, IsRenumberedIn, MovesUp, access_at}
+use Rattle.cil_accesses.proofs.Common.{◌≡◌, ◌↔◌, ◌⊎◌, inl, inr, ℕ, zero, suc, ◌<◌, ◌≤◌, ◌+◌, ◌-◌, ◌*◌, ◌/◌, ◌%◌, ◌^◌, List, length, get_or, w64, refl, sym, ap, ◌∙◌, subst, arith, eq-eqb, bit_at, trailing_zeros, leading_zeros, IsStrictlyIncreasing, cases_lt, shr-shr, shr_split, leading_top, pow_pos, bit_at-zero, bit_at_above, bit_at_cat_low, bit_at_cat_high, bit_at-trailing_zeros, AccessNumbers, Chunk, IsAccessOf, IsGiven, IsWithin, IsMoved, IsTarget, IsRenumbered, IsRenumberedIn, MovesUp, access_at}
+use Rattle.std.proofs.Common.{eqb-true}
 use Rattle.cil_accesses.proofs.Members.{access-of}
 
 -- ---- the bits of two words

@@ -1,3 +1,4 @@
+pub mod Common
 pub mod Chunks
 pub mod Groups
 pub mod Merged

@@ -1,7 +1,6 @@
 //! An access by numbers.
 
-ghost use Rattle.std.specs.Prelude.{◌≡◌, length};
-ghost use Rattle.cil_accesses.specs.Renumbered.{renumbered, IsWithin};
+ghost use Rattle.cil_accesses.specs.Common.{◌≡◌, length, renumbered, IsWithin};
 
 use cil_text::RuleKind;
 

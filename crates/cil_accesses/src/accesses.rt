@@ -1,9 +1,7 @@
 //! Accesses in order.
 
-ghost use Rattle.std.specs.Prelude.{◌≡◌, ◌<◌, ◌^◌, ◌↔◌, [], Contains, length, slice_get};
-ghost use Rattle.std.specs.List.{All};
+ghost use Rattle.cil_accesses.specs.Common.{◌≡◌, ◌<◌, ◌^◌, ◌↔◌, [], Contains, length, slice_get, All, numbers_cmp, IsGiven};
 ghost use Rattle.std.specs.List.Sorted.{IsStrictlySortedBy};
-ghost use Rattle.cil_accesses.specs.Chunks.{numbers_cmp, IsGiven};
 
 use crate::access::AccessNumbers;
 use crate::chunk::Chunk;

@@ -1,9 +1,6 @@
 //! Accesses to the targets of one word.
 
-ghost use Rattle.std.specs.Prelude.{◌≡◌, ◌<◌, ◌≤◌, ◌^◌, ◌↔◌, MatchOption};
-ghost use Rattle.cil_accesses.specs.Chunks.{chunk_cmp, ones_of, IsAccessOf};
-ghost use Rattle.cil_accesses.specs.Merged.{of_one_key, taking_up};
-ghost use Rattle.cil_accesses.specs.View.{access_at, has_bit, in_run, IsNextBit, NoBitFrom};
+ghost use Rattle.cil_accesses.specs.Common.{◌≡◌, ◌<◌, ◌≤◌, ◌^◌, ◌↔◌, MatchOption, chunk_cmp, ones_of, IsAccessOf, of_one_key, taking_up, access_at, has_bit, in_run, IsNextBit, NoBitFrom};
 
 use crate::access::AccessNumbers;
 use cil_text::RuleKind;

@@ -1,10 +1,6 @@
 //! By how much the targets of a chunk move where numbers change.
 
-ghost use Rattle.std.specs.Prelude.{◌≡◌, ◌<◌, ◌+◌, ◌*◌, ◌^◌, ◌↔◌, true, length, slice_index, IfSome};
-ghost use Rattle.std.specs.Int.{bit_at};
-ghost use Rattle.cil_accesses.specs.Chunks.{IsAccessOf};
-ghost use Rattle.cil_accesses.specs.Renumbered.{IsMoved, IsWithin, MovesUp};
-ghost use Rattle.cil_accesses.specs.View.{has_bit};
+ghost use Rattle.cil_accesses.specs.Common.{◌≡◌, ◌<◌, ◌+◌, ◌*◌, ◌^◌, ◌↔◌, true, length, slice_index, IfSome, bit_at, IsAccessOf, IsMoved, IsWithin, MovesUp, has_bit};
 
 use crate::chunk::Chunk;
 

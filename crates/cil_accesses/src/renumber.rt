@@ -1,10 +1,6 @@
 //! Makes chunks anew where numbers change.
 
-ghost use Rattle.std.specs.Prelude.{◌≡◌, ◌<◌, ◌+◌, ◌*◌, ◌^◌, ◌↔◌, ◌⊎◌, length, IfSome, MatchBool, OnOk};
-ghost use Rattle.std.specs.Int.{bit_at};
-ghost use Rattle.std.specs.List.{All};
-ghost use Rattle.cil_accesses.specs.Chunks.{IsAccessOf, IsGiven};
-ghost use Rattle.cil_accesses.specs.Renumbered.{IsTarget, IsWithin, IsRenumbered, IsRenumberedIn, MovesUp};
+ghost use Rattle.cil_accesses.specs.Common.{◌≡◌, ◌<◌, ◌+◌, ◌*◌, ◌^◌, ◌↔◌, ◌⊎◌, length, IfSome, MatchBool, OnOk, bit_at, All, IsAccessOf, IsGiven, IsTarget, IsWithin, IsRenumbered, IsRenumberedIn, MovesUp};
 
 use crate::chunk::Chunk;
 use crate::chunk_places::ChunkPlaces;

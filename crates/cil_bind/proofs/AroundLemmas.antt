@@ -1,6 +1,6 @@
 -- The optionals around statements, by the numbers of rows.
-use Rattle.std.proofs.Common.{◌≡◌, ℕ, zero, suc, ◌+◌, ◌<◌, ◌≤◌, ◌==◌, Bool, true, false, List, [], ◌∷◌, ◌++◌, length, get_or, slice_get, take, drop, Some, refl, sym, ap, ◌∙◌, subst, append_assoc, append-nil, add-one, length-append, arith, if◌then◌else◌}
-use Rattle.cil_bind.proofs.Common.{take_all, none-some, eqb-true, Statements, Placed, Module, placed, joined, FlatStatement, flat, IsOptionalOf, IsPlacedAs, Spells, statement_count, texts_of, IsShown, ParsedModule, StatementView, placed-flat, AreSpelt, IsAround, AreAround, optional_number, NamedModule, Row}
+use Rattle.cil_bind.proofs.Common.{◌≡◌, ℕ, zero, suc, ◌+◌, ◌<◌, ◌≤◌, ◌==◌, Bool, true, false, List, [], ◌∷◌, ◌++◌, length, get_or, take, drop, Some, refl, sym, ap, ◌∙◌, subst, append_assoc, append-nil, add-one, length-append, arith, if◌then◌else◌, take_all, none-some, eqb-true, Statements, Placed, Module, placed, joined, FlatStatement, flat, IsOptionalOf, IsPlacedAs, Spells, statement_count, texts_of, IsShown, ParsedModule, StatementView, placed-flat, AreSpelt, IsAround, AreAround, optional_number, NamedModule, Row}
+use Rattle.std.proofs.Common.{slice_get}
 use Rattle.cil_bind.proofs.PositionLemmas.{take-next, take-length, around-at}
 use Rattle.cil_bind.proofs.PlaceLemmas.{flat-there, placed-there, placed-long, get-behind, joined-next, spelt-at, spelt-long}
 use Rattle.cil_bind.proofs.FromLemmas.{all-get, placed-named}

@@ -1,6 +1,6 @@
 -- References that are bound.
-use Rattle.std.proofs.Common.{◌≡◌, ℕ, zero, suc, ◌+◌, ◌≤◌, List, [], ◌∷◌, ◌++◌, map, length, get_or, slice_get, take, Option, Some, None, refl, sym, ap, ◌∙◌, subst, add-one, arith}
-use Rattle.cil_bind.proofs.Common.{length-map, map-append, take_all, none-some, same_Some, Word, Form, block, optional, type_name, type_alias, alias_actual, type_attribute, attribute_set, common, class, class_common, class_order, rule, itself, the_named, Placed, Table, types, classes, leads, references, read, FlatStatement, words_in, AreRows, Row, IsShown, NumberedWord, StatementView, IsLead, kind_of, StatementKind, AreLeads, AreBound, Binds, kinds_of, most_references, AreFrom, NamedModule}
+use Rattle.cil_bind.proofs.Common.{◌≡◌, ℕ, zero, suc, ◌+◌, ◌≤◌, List, [], ◌∷◌, ◌++◌, map, length, get_or, take, Option, Some, None, refl, sym, ap, ◌∙◌, subst, add-one, arith, length-map, map-append, take_all, none-some, same_Some, Word, Form, block, optional, type_name, type_alias, alias_actual, type_attribute, attribute_set, common, class, class_common, class_order, rule, itself, the_named, Placed, Table, types, classes, leads, references, read, FlatStatement, words_in, AreRows, Row, IsShown, NumberedWord, StatementView, IsLead, kind_of, StatementKind, AreLeads, AreBound, Binds, kinds_of, most_references, AreFrom, NamedModule}
+use Rattle.std.proofs.Common.{slice_get}
 use Rattle.cil_specs.specs.Expr.{leaves}
 use Rattle.cil_bind.proofs.DeclareLemmas.{rows-length}
 use Rattle.cil_bind.proofs.PositionLemmas.{take-next, take-last}

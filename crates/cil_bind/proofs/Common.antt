@@ -33,6 +33,7 @@ pub use Rattle.cil_specs.specs.Lookup.{Table, block_name, classes, commons, decl
 pub use Rattle.cil_specs.specs.Names.{Word, components, declared, is_name, is_reserved}
 pub use Rattle.cil_specs.specs.Report.{name_cmp, names_rise}
 pub use Rattle.cil_specs.specs.Statements.{Form, Statements, alias_actual, are_apart, as_declared, as_referred, attribute_set, block, class, class_common, class_order, common, is_optional, itself, no_more, optional, rise_from, rule, stands_apart, statement, statement_offsets, target_words, the_named, type_alias, type_attribute, type_name, words_of}
+pub use Rattle.std.proofs.Common.{All, Bool, Contains, IfNone, IsTrue, List, None, Option, Some, Vec, [], add-one, ap, append-nil, append_assoc, arith, bytes_eq, cond, drop, drop-cons, false, filter, fold, get_or, if◌then◌else◌, inl, inr, is_some, length, length-append, map, nat_eq, nat_lt, not, of_calls, position, refl, rules, slice_index_or, slice_set, subst, suc, sym, take, true, true≢false, zero, ℕ, ◌&&◌, ◌++◌, ◌+◌, ◌-◌, ◌<◌, ◌==◌, ◌^◌, ◌||◌, ◌∙◌, ◌∷◌, ◌≡◌, ◌≤◌, ◌⊎◌}
 pub use Rattle.std.proofs.lemmas.Bool.{cases_lt, cases_order, eq-eqb, eqb-true, le-ltb, lt-ltb}
 pub use Rattle.std.proofs.lemmas.Cmp.{nat_list_cmp_total, nat_list_eq_equiv}
 pub use Rattle.std.proofs.lemmas.List.{get_or_append_left, get_or_default, get_or_push, length-map, length_push, map-append, take-append-drop, take_all}

@@ -1,6 +1,6 @@
 -- What statements declare, and the entries that have it.
-use Rattle.std.proofs.Common.{◌≡◌, ℕ, zero, suc, ◌+◌, ◌<◌, ◌≤◌, Bool, true, false, not, ◌&&◌, ◌==◌, cond, List, [], ◌∷◌, ◌++◌, length, get_or, slice_get, take, drop, Contains, Option, Some, None, is_some, bytes_eq, position, if◌then◌else◌, refl, sym, ap, ◌∙◌, subst, add-one, append_assoc, true≢false, arith}
-use Rattle.cil_bind.proofs.Common.{list_any, AllByRecursion, lookup, option_or, eqb-true, eq-eqb, le-ltb, none-some, same_Some, get_or_from_slice_get, position-Some, take_all, take-append-drop, Word, is_optional, Placed, Table, types, classes, commons, scopes, declared_in, declares, is_word, same_namespace, both_true, first_true, second_true, contains-first, stands, same_place, later, earlier, table-in, twice-some, twice-nothing, PassesAmong, passes-among, any-middle, one-namespace, word_at, named, namespace_at, table_of, table_index, is_key, HaveDeclared, IsDeclared, IsRow, AreRows, AreNumbered, IsOnce, IsTaken, is_optional_row, Key, Row}
+use Rattle.cil_bind.proofs.Common.{◌≡◌, ℕ, zero, suc, ◌+◌, ◌<◌, ◌≤◌, Bool, true, false, not, ◌&&◌, ◌==◌, cond, List, [], ◌∷◌, ◌++◌, length, get_or, take, drop, Contains, Option, Some, None, is_some, bytes_eq, position, if◌then◌else◌, refl, sym, ap, ◌∙◌, subst, add-one, append_assoc, true≢false, arith, list_any, AllByRecursion, lookup, option_or, eqb-true, eq-eqb, le-ltb, none-some, same_Some, get_or_from_slice_get, position-Some, take_all, take-append-drop, Word, is_optional, Placed, Table, types, classes, commons, scopes, declared_in, declares, is_word, same_namespace, both_true, first_true, second_true, contains-first, stands, same_place, later, earlier, table-in, twice-some, twice-nothing, PassesAmong, passes-among, any-middle, one-namespace, word_at, named, namespace_at, table_of, table_index, is_key, HaveDeclared, IsDeclared, IsRow, AreRows, AreNumbered, IsOnce, IsTaken, is_optional_row, Key, Row}
+use Rattle.std.proofs.Common.{slice_get}
 use Rattle.indexmap.specs.IndexMap.{insert_entry}
 use Rattle.cil_specs.specs.PolicyFault.{twice, is_again, twice_words}
 use Rattle.cil_parse.specs.declared.table.Table as code

@@ -1,6 +1,6 @@
 -- The modules and the indices that rows tell.
-use Rattle.std.proofs.Common.{◌≡◌, ℕ, zero, suc, ◌+◌, ◌<◌, ◌≤◌, List, [], ◌∷◌, ◌++◌, length, get_or, slice_get, take, Some, refl, sym, ap, ◌∙◌, subst, append_assoc, append-nil, add-one, arith}
-use Rattle.cil_bind.proofs.Common.{AllByRecursion, take_all, none-some, same_Some, slice_get-get_or, slice_get_within, get_or_from_slice_get, Statements, no_more, statement, Placed, Module, placed, joined, namespace_inside, optionals_inside, FlatStatement, flat, IsPlacedAs, Spells, statement_count, ParsedModule, placed-flat, AreSpelt, IsFrom, AreFrom, HaveModule, NamedModule, Row}
+use Rattle.cil_bind.proofs.Common.{◌≡◌, ℕ, zero, suc, ◌+◌, ◌<◌, ◌≤◌, List, [], ◌∷◌, ◌++◌, length, get_or, take, Some, refl, sym, ap, ◌∙◌, subst, append_assoc, append-nil, add-one, arith, AllByRecursion, take_all, none-some, same_Some, slice_get-get_or, slice_get_within, get_or_from_slice_get, Statements, no_more, statement, Placed, Module, placed, joined, namespace_inside, optionals_inside, FlatStatement, flat, IsPlacedAs, Spells, statement_count, ParsedModule, placed-flat, AreSpelt, IsFrom, AreFrom, HaveModule, NamedModule, Row}
+use Rattle.std.proofs.Common.{slice_get}
 use Rattle.cil_bind.proofs.PositionLemmas.{take-next}
 use Rattle.cil_bind.proofs.PlaceLemmas.{flat-there, placed-there, placed-long, joined-next, spelt-at, spelt-long}
 

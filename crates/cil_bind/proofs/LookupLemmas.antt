@@ -1,6 +1,6 @@
 -- What look-ups by numbers find is what the definitions lead to.
-use Rattle.std.proofs.Common.{◌≡◌, ◌⊎◌, inl, inr, ℕ, zero, suc, ◌+◌, ◌<◌, ◌≤◌, ◌==◌, Bool, true, false, ◌&&◌, cond, List, [], ◌∷◌, length, get_or, drop, slice_get, Option, Some, None, IfSome, IfNone, is_some, All, position, nat_eq, nat_lt, Contains, refl, sym, ap, ◌∙◌, subst, arith, true≢false, add-one, drop-cons, if◌then◌else◌}
-use Rattle.cil_bind.proofs.Common.{find, position_or_len, option_and_then, cases_lt, eqb-true, Contains-get_or, find_at, position-Some, slice_get_past, get_or_from_slice_get, Word, components, Placed, Table, declared_in, is_word, declares, is_same, same_namespace, declaration, has_block, outward, nearest_block, inside, from_namespace, leads, is_global, word_text, first_true, second_true, one-namespace, word_at, named, namespace_at, path_of, table_index, is_key, AreOpened, IsFirstOf, IsLead, AreWithin, Key}
+use Rattle.cil_bind.proofs.Common.{◌≡◌, ◌⊎◌, inl, inr, ℕ, zero, suc, ◌+◌, ◌<◌, ◌≤◌, ◌==◌, Bool, true, false, ◌&&◌, cond, List, [], ◌∷◌, length, get_or, drop, Option, Some, None, IfNone, is_some, All, position, nat_eq, nat_lt, Contains, refl, sym, ap, ◌∙◌, subst, arith, true≢false, add-one, drop-cons, if◌then◌else◌, find, position_or_len, option_and_then, cases_lt, eqb-true, Contains-get_or, find_at, position-Some, slice_get_past, get_or_from_slice_get, Word, components, Placed, Table, declared_in, is_word, declares, is_same, same_namespace, declaration, has_block, outward, nearest_block, inside, from_namespace, leads, is_global, word_text, first_true, second_true, one-namespace, word_at, named, namespace_at, path_of, table_index, is_key, AreOpened, IsFirstOf, IsLead, AreWithin, Key}
+use Rattle.std.proofs.Common.{slice_get, IfSome}
 use Rattle.std.proofs.Math.ListN.{drop_of_length-le}
 use Rattle.std.proofs.lemmas.Bool.Decides.{Decides-ltb}
 use Rattle.cil_parse.specs.declared.table.Table as code

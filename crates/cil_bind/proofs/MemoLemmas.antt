@@ -1,6 +1,6 @@
 -- What is remembered of texts.
-use Rattle.std.proofs.Common.{◌≡◌, ℕ, zero, suc, ◌==◌, true, ◌⊎◌, inl, inr, slice_get, slice_set, get_or, List, [], ◌∷◌, Option, Some, refl, sym, ap, ◌∙◌, subst}
-use Rattle.cil_bind.proofs.Common.{none-some, same_Some, Placed, leads, texts_of, namespace_at, table_index, IsLead, LeadsTo, Remembers, RemembersNothing, NamedModule}
+use Rattle.cil_bind.proofs.Common.{◌≡◌, ℕ, zero, suc, ◌==◌, true, ◌⊎◌, inl, inr, slice_set, get_or, List, [], ◌∷◌, Option, Some, refl, sym, ap, ◌∙◌, subst, none-some, same_Some, Placed, leads, texts_of, namespace_at, table_index, IsLead, LeadsTo, Remembers, RemembersNothing, NamedModule}
+use Rattle.std.proofs.Common.{slice_get}
 use Rattle.cil_parse.specs.declared.table.Table as code
 use Rattle.cil_bind.specs.declared.memo.Remembered.{Remembered}
 use Rattle.cil_bind.proofs.DeclareLemmas.{same-table}

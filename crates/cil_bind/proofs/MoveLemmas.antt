@@ -1,6 +1,6 @@
 -- The new places of what is kept.
-use Rattle.std.proofs.Common.{◌≡◌, ℕ, zero, suc, ◌+◌, ◌<◌, Bool, true, false, cond, List, [], ◌∷◌, ◌++◌, map, filter, length, get_or, slice_get, take, length-append, Option, Some, None, is_some, option_map, position, refl, sym, ap, ◌∙◌, subst, true≢false, append-nil, add-one, arith, if◌then◌else◌}
-use Rattle.cil_bind.proofs.Common.{list_all, filter-append, none-some, same_Some, slice_get_within, Word, Placed, Table, leads, is_same, Optionals, is_within, restricted, AreApart, first_true, second_true, IsLead, AreLeads, AreBound, AreMoved, Binds, kinds_of, places_from, moved_to, has_place, Row, StatementKind}
+use Rattle.cil_bind.proofs.Common.{◌≡◌, ℕ, zero, suc, ◌+◌, ◌<◌, Bool, true, false, cond, List, [], ◌∷◌, ◌++◌, map, filter, length, get_or, take, length-append, Option, Some, None, is_some, position, refl, sym, ap, ◌∙◌, subst, true≢false, append-nil, add-one, arith, if◌then◌else◌, list_all, filter-append, none-some, same_Some, slice_get_within, Word, Placed, Table, leads, is_same, Optionals, is_within, restricted, AreApart, first_true, second_true, IsLead, AreLeads, AreBound, AreMoved, Binds, kinds_of, places_from, moved_to, has_place, Row, StatementKind}
+use Rattle.std.proofs.Common.{slice_get, option_map}
 use Rattle.cil_specs.proofs.RestrictedLemmas.{filter-yes, filter-no}
 use Rattle.cil_bind.proofs.BindingLemmas.{bound-next, kinds-push, kind-at}
 use Rattle.cil_bind.proofs.LookupLemmas.{no-lead}

@@ -1,6 +1,6 @@
 -- The namespaces that blocks open, one after the other.
-use Rattle.std.proofs.Common.{◌≡◌, ◌⊎◌, inl, inr, ℕ, zero, suc, ◌-◌, ◌+◌, ◌<◌, ◌^◌, Bool, true, false, ◌&&◌, List, [], ◌∷◌, ◌++◌, length, get_or, slice_get, Some, position, bytes_eq, nat_eq, fold, Contains, refl, sym, ap, ◌∙◌, subst, arith, true≢false, append_assoc, append-nil, if◌then◌else◌}
-use Rattle.cil_bind.proofs.Common.{list_any, IsDistinct, cases_order, nat_list_eq_equiv, length_push, get_or_append_left, get_or_default, get_or_push, Contains-push_cases, Any-from_list_any, list_any_at, position-Some, same_Some, slice_get-get_or, slice_get_within, first_true, second_true, Opens, with_block, spaces_of, AreInside, AreSpaces, Block}
+use Rattle.cil_bind.proofs.Common.{◌≡◌, ◌⊎◌, inl, inr, ℕ, zero, suc, ◌-◌, ◌+◌, ◌<◌, ◌^◌, Bool, true, false, ◌&&◌, List, [], ◌∷◌, ◌++◌, length, get_or, Some, position, bytes_eq, nat_eq, fold, Contains, refl, sym, ap, ◌∙◌, subst, arith, true≢false, append_assoc, append-nil, if◌then◌else◌, list_any, IsDistinct, cases_order, nat_list_eq_equiv, length_push, get_or_append_left, get_or_default, get_or_push, Contains-push_cases, Any-from_list_any, list_any_at, position-Some, same_Some, slice_get-get_or, slice_get_within, first_true, second_true, Opens, with_block, spaces_of, AreInside, AreSpaces, Block}
+use Rattle.std.proofs.Common.{slice_get}
 use Rattle.std.specs.Cmp.{unsigned_Decides}
 use Rattle.std.specs.Cmp.Derive.{both_true}
 use Rattle.std.proofs.lemmas.List.Sums.{fold-append}

@@ -1,6 +1,6 @@
 -- The optionals around the statements of a policy in order.
-use Rattle.std.proofs.Common.{◌≡◌, ℕ, zero, suc, ◌+◌, List, [], ◌∷◌, Some, slice_get, ap, subst, arith}
-use Rattle.cil_bind.proofs.Common.{none-some, same_Some, is_optional, Placed, AreOrdered, IsAround, AreAround, Row}
+use Rattle.cil_bind.proofs.Common.{◌≡◌, ℕ, zero, suc, ◌+◌, List, [], ◌∷◌, Some, ap, subst, arith, none-some, same_Some, is_optional, Placed, AreOrdered, IsAround, AreAround, Row}
+use Rattle.std.proofs.Common.{slice_get}
 use Rattle.cil_bind.specs.Nested.{IsInnermost, AreNested}
 use Rattle.cil_bind.proofs.OrderedLemmas.{one-offset}
 

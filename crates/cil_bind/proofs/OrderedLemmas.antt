@@ -1,6 +1,6 @@
 -- The joined policy of modules in order stands in order.
-use Rattle.std.proofs.Common.{◌≡◌, inl, inr, ℕ, zero, suc, ◌<◌, ◌≤◌, Bool, true, false, cond, List, [], ◌∷◌, ◌++◌, Some, slice_get, map, filter, length, refl, sym, ap, ◌∙◌, subst, arith, true≢false}
-use Rattle.cil_bind.proofs.Common.{AllByRecursion, cases_order, nat_list_cmp_total, none-some, same_Some, Form, statement_offsets, rise_from, Statements, no_more, statement, Module, Placed, namespace_inside, optionals_inside, placed, joined, name_cmp, names_rise, first_true, second_true, all-weaker, all-append, all-first, all-second, all-contained, contains-first, rises-low, rises-less, rises-append, offsets_in, offsets_of, IsRising, IsBefore, AreOrdered, AreSpelt, NamedModule}
+use Rattle.cil_bind.proofs.Common.{◌≡◌, inl, inr, ℕ, zero, suc, ◌<◌, ◌≤◌, Bool, true, false, cond, List, [], ◌∷◌, ◌++◌, Some, map, filter, length, refl, sym, ap, ◌∙◌, subst, arith, true≢false, AllByRecursion, cases_order, nat_list_cmp_total, none-some, same_Some, Form, statement_offsets, rise_from, Statements, no_more, statement, Module, Placed, namespace_inside, optionals_inside, placed, joined, name_cmp, names_rise, first_true, second_true, all-weaker, all-append, all-first, all-second, all-contained, contains-first, rises-low, rises-less, rises-append, offsets_in, offsets_of, IsRising, IsBefore, AreOrdered, AreSpelt, NamedModule}
+use Rattle.std.proofs.Common.{slice_get}
 use Rattle.std.specs.Ordering.{is_lt, ordering_reverse}
 use Rattle.std.specs.declared.cmp.Ordering.{Ordering}
 use Rattle.std.specs.declared.cmp.Ordering.TheVariants.{Less, Equal, Greater}

@@ -1,6 +1,6 @@
 -- Permissions as statements list them.
-use Rattle.std.proofs.Common.{◌≡◌, ℕ, zero, suc, ◌+◌, ◌<◌, ◌&&◌, ◌||◌, Bool, true, false, List, [], ◌∷◌, ◌++◌, map, length, take, get_or, slice_get, Some, bytes_eq, refl, sym, ap, ◌∙◌, true≢false, arith}
-use Rattle.cil_bind.proofs.Common.{length-map, Word, Form, common, class, rule, itself, the_named, has_name, texts, own_permissions, read, kind_of, permissions_in, NumberedWord}
+use Rattle.cil_bind.proofs.Common.{◌≡◌, ℕ, zero, suc, ◌+◌, ◌<◌, ◌&&◌, ◌||◌, Bool, true, false, List, [], ◌∷◌, ◌++◌, map, length, take, get_or, Some, bytes_eq, refl, sym, ap, ◌∙◌, true≢false, arith, length-map, Word, Form, common, class, rule, itself, the_named, has_name, texts, own_permissions, read, kind_of, permissions_in, NumberedWord}
+use Rattle.std.proofs.Common.{slice_get}
 use Rattle.cil_bind.specs.Listing.{lists_own}
 use Rattle.cil_bind.proofs.PositionLemmas.{take-last, any-last}
 

@@ -1,6 +1,6 @@
 -- Statements of a module that come to those of a joined policy.
-use Rattle.std.proofs.Common.{◌≡◌, inl, ℕ, zero, suc, ◌+◌, ◌<◌, ◌≤◌, List, [], ◌∷◌, ◌++◌, map, length, get_or, slice_get, take, Some, bytes_eq, refl, sym, ap, ◌∙◌, subst, append_assoc, append-nil, add-one, Contains, arith}
-use Rattle.cil_bind.proofs.Common.{IsDistinct, length-map, take_all, none-some, same_Some, Form, is_optional, Statements, Placed, Module, placed, joined, FlatStatement, flat, kind_of, row_of, row_for, Spells, statement_count, texts_of, IsShown, IsBlockOf, IsPlacedAs, ArePlacedAs, ParsedModule, StatementView, placed-flat, named, namespace_at, Opens, IsDeclared, IsRow, AreRows, Stands, AreSpelt, block_word, is_optional_kind, NamedModule, Row}
+use Rattle.cil_bind.proofs.Common.{◌≡◌, inl, ℕ, zero, suc, ◌+◌, ◌<◌, ◌≤◌, List, [], ◌∷◌, ◌++◌, map, length, get_or, take, Some, bytes_eq, refl, sym, ap, ◌∙◌, subst, append_assoc, append-nil, add-one, Contains, arith, IsDistinct, length-map, take_all, none-some, same_Some, Form, is_optional, Statements, Placed, Module, placed, joined, FlatStatement, flat, kind_of, row_of, row_for, Spells, statement_count, texts_of, IsShown, IsBlockOf, IsPlacedAs, ArePlacedAs, ParsedModule, StatementView, placed-flat, named, namespace_at, Opens, IsDeclared, IsRow, AreRows, Stands, AreSpelt, block_word, is_optional_kind, NamedModule, Row}
+use Rattle.std.proofs.Common.{slice_get}
 use Rattle.cil_bind.proofs.PositionLemmas.{take-next}
 use Rattle.cil_bind.proofs.ScopeLemmas.{stands-next, kind-optional}
 

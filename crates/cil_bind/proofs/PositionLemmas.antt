@@ -1,6 +1,6 @@
 -- The first place in a list at which a test passes.
-use Rattle.std.proofs.Common.{◌≡◌, ℕ, ◌+◌, zero, suc, Bool, true, false, ◌||◌, nat_lt, List, [], ◌∷◌, ◌++◌, length, take, drop, cond, Option, Some, None, is_some, option_map, position, refl, sym, ap, ◌∙◌, add-one, arith}
-use Rattle.cil_bind.proofs.Common.{list_any, slice_get, option_or, none-some, same_Some, list_any-append, lt-ltb, le-ltb}
+use Rattle.cil_bind.proofs.Common.{◌≡◌, ℕ, ◌+◌, zero, suc, Bool, true, false, ◌||◌, nat_lt, List, [], ◌∷◌, ◌++◌, length, take, drop, cond, Option, Some, None, is_some, position, refl, sym, ap, ◌∙◌, add-one, arith, list_any, slice_get, option_or, none-some, same_Some, list_any-append, lt-ltb, le-ltb}
+use Rattle.std.proofs.Common.{option_map}
 use Rattle.std.proofs.Math.Bool.{or-false}
 pub use Rattle.cil_names.proofs.TextLemmas.{less-suc, position-cons}
 

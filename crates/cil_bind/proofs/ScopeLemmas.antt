@@ -1,6 +1,6 @@
 -- Statements of a joined policy by numbers.
-use Rattle.std.proofs.Common.{◌≡◌, ◌⊎◌, inl, inr, ℕ, zero, suc, ◌<◌, ◌≤◌, List, [], ◌∷◌, ◌++◌, length, get_or, slice_get, Contains, Option, Some, None, bytes_eq, refl, sym, ap, ◌∙◌, subst, append-nil, arith, length-append}
-use Rattle.cil_bind.proofs.Common.{AllByRecursion, IsDistinct, option_map, get_or_append_left, none-some, same_Some, Word, Form, block, rule, itself, the_named, is_optional, Placed, Table, types, classes, commons, scopes, declared_in, read, kind_of, NumberedWord, word_at, named, namespace_at, table_of, IsDeclared, IsRow, AreRows, AreNumbered, Opens, IsOpenedIn, Stands, block_word, is_optional_kind, StatementKind, Row}
+use Rattle.cil_bind.proofs.Common.{◌≡◌, ◌⊎◌, inl, inr, ℕ, zero, suc, ◌<◌, ◌≤◌, List, [], ◌∷◌, ◌++◌, length, get_or, Contains, Option, Some, None, bytes_eq, refl, sym, ap, ◌∙◌, subst, append-nil, arith, length-append, AllByRecursion, IsDistinct, option_map, get_or_append_left, none-some, same_Some, Word, Form, block, rule, itself, the_named, is_optional, Placed, Table, types, classes, commons, scopes, declared_in, read, kind_of, NumberedWord, word_at, named, namespace_at, table_of, IsDeclared, IsRow, AreRows, AreNumbered, Opens, IsOpenedIn, Stands, block_word, is_optional_kind, StatementKind, Row}
+use Rattle.std.proofs.Common.{slice_get}
 use Rattle.cil_text.specs.Image.{place_of}
 use Rattle.cil_parse.specs.declared.table.Table as code
 use Rattle.cil_parse.specs.declared.row.StatementKind.TheVariants as kinds

@@ -1,6 +1,5 @@
 -- Where names lead among the statements that are kept: to what they led to, if it is kept.
-use Rattle.std.proofs.Common.{◌≡◌, ℕ, Bool, true, false, cond, if◌then◌else◌, List, [], ◌∷◌, filter, Option, Some, None, refl, sym, ap, ◌∙◌, subst}
-use Rattle.cil_bind.proofs.Common.{find, option_or, option_and_then, components, Placed, Table, declares, declaration, has_block, outward, nearest_block, inside, from_namespace, is_global, leads, Optionals, is_within, restricted, AreApart}
+use Rattle.cil_bind.proofs.Common.{◌≡◌, ℕ, Bool, true, false, cond, if◌then◌else◌, List, [], ◌∷◌, filter, Option, Some, None, refl, sym, ap, ◌∙◌, subst, find, option_or, option_and_then, components, Placed, Table, declares, declaration, has_block, outward, nearest_block, inside, from_namespace, is_global, leads, Optionals, is_within, restricted, AreApart}
 use Rattle.cil_specs.proofs.RestrictedLemmas.{filter-yes, filter-no, has_block-restricted, nearest_block-restricted}
 
 -- what was found is found again if it passes, and nothing is found where nothing was

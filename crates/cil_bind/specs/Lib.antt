@@ -1,3 +1,4 @@
+pub mod Common
 pub mod Namespaces
 pub mod Lookup
 pub mod Rows

@@ -1,17 +1,7 @@
 //! What references are bound to.
 
-ghost use Rattle.std.specs.Prelude.{◌≡◌, ◌<◌, ℕ, List, [], length, OnOk, IfOk};
-ghost use Rattle.cil_specs.specs.Joined.{Placed};
-ghost use Rattle.cil_parse.specs.Flat.{FlatStatement};
-ghost use Rattle.cil_parse.specs.Forms.{kind_of};
-ghost use Rattle.cil_parse.specs.Lexicon.{AreNumbersOf};
-ghost use Rattle.cil_parse.specs.Parsed.{names_of, texts_of};
-ghost use Rattle.cil_parse.specs.View.{IsShown};
+ghost use Rattle.cil_bind.specs.Common.{◌≡◌, ◌<◌, ℕ, List, [], length, OnOk, IfOk, Placed, FlatStatement, kind_of, AreNumbersOf, names_of, texts_of, IsShown, Binds, AreBound, kinds_of, most_references, IsRow, AreRows, IsFrom, AreFrom, AreWorded, AsKnown, Remembers, RemembersOf};
 ghost use Rattle.cil_bind.specs.Lookup.{namespace_at as namespace_of, Knows};
-ghost use Rattle.cil_bind.specs.Binding.{Binds, AreBound, kinds_of, most_references};
-ghost use Rattle.cil_bind.specs.Rows.{IsRow, AreRows};
-ghost use Rattle.cil_bind.specs.Scope.{IsFrom, AreFrom};
-ghost use Rattle.cil_bind.specs.Words.{AreWorded, AsKnown, Remembers, RemembersOf};
 
 use crate::joined::Joined;
 use crate::lookup::Lookup;

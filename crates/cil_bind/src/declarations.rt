@@ -1,11 +1,6 @@
 //! Where each name is declared first.
 
-ghost use Rattle.std.specs.Prelude.{◌≡◌, ◌<◌, ◌∷◌, ◌^◌, ℕ, List, [], true, false, not, ◌&&◌, length, take, slice_get, IfOk, Some};
-ghost use Rattle.cil_specs.specs.Joined.{Placed};
-ghost use Rattle.cil_specs.specs.Names.{Word};
-ghost use Rattle.cil_specs.specs.PolicyFault.{twice_words};
-ghost use Rattle.cil_bind.specs.Lookup.{HaveDeclared};
-ghost use Rattle.cil_bind.specs.Rows.{AreRows, AreNumbered, IsOnce, IsTaken, DeclareThat, is_optional_row};
+ghost use Rattle.cil_bind.specs.Common.{◌≡◌, ◌<◌, ◌∷◌, ◌^◌, ℕ, List, [], true, false, not, ◌&&◌, length, take, slice_get, IfOk, Some, Placed, Word, twice_words, HaveDeclared, AreRows, AreNumbered, IsOnce, IsTaken, DeclareThat, is_optional_row};
 
 use crate::lookup::Key;
 use crate::rows::Row;

@@ -1,19 +1,12 @@
 //! Laws of joined policies. They have no code.
 
-ghost use Rattle.std.specs.Prelude.{ℕ, List, map, IsTrue};
+ghost use Rattle.cil_bind.specs.Common.{ℕ, List, map, IsTrue, Optionals, AreApart, IsFirstFault, restricted, twice, IsFaultOf, names_rise, AreSpelt, AreAround, IsFirstAgain, fault_of, IsOnce, Row};
 ghost use Rattle.cil_specs.specs.Joined.{Placed, Module, joined as joined_policy};
-ghost use Rattle.cil_specs.specs.Kept.{Optionals, AreApart, IsFirstFault, restricted};
 ghost use Rattle.cil_specs.specs.ModuleText.{IsModuleText};
-ghost use Rattle.cil_specs.specs.PolicyFault.{twice, IsFaultOf};
-ghost use Rattle.cil_specs.specs.Report.{names_rise};
-ghost use Rattle.cil_bind.specs.Scope.{AreSpelt, AreAround};
 ghost use Rattle.cil_bind.specs.Ordered.{AreOrdered, IsLeast};
-ghost use Rattle.cil_bind.specs.Policy.{IsFirstAgain, fault_of};
-ghost use Rattle.cil_bind.specs.Rows.{IsOnce};
 ghost use Rattle.cil_bind.specs.Nested.{AreNested};
 ghost use Rattle.cil_bind.specs.Written.{IsWritten, AreWritten, HaveOneNames};
 ghost use Rattle.cil_bind.specs.declared.redeclaration.Redeclaration.{Redeclaration};
-ghost use Rattle.cil_bind.specs.declared.rows.Row.{Row};
 
 use crate::joined::Joined;
 use std::alloc::Allocator;

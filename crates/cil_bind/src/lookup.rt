@@ -1,10 +1,7 @@
 //! Where names lead, by numbers.
 
-ghost use Rattle.std.specs.Prelude.{◌≡◌, ◌<◌, ◌∷◌, ℕ, List, [], Some, None, All, length, slice_index_or, IfSome, IfNone, if◌then◌else◌};
-ghost use Rattle.cil_specs.specs.Joined.{Placed};
+ghost use Rattle.cil_bind.specs.Common.{◌≡◌, ◌<◌, ◌∷◌, ℕ, List, [], Some, None, All, length, slice_index_or, IfSome, IfNone, if◌then◌else◌, Placed, components, word_at, namespace_at, path_of, table_of, Knows, IsLead, AreWithin};
 ghost use Rattle.cil_specs.specs.Lookup.{declaration, outward as looked_outward, nearest_block as nearest, inside as looked_inside, from_namespace as looked_from, leads as looked, is_global};
-ghost use Rattle.cil_specs.specs.Names.{components};
-ghost use Rattle.cil_bind.specs.Lookup.{word_at, namespace_at, path_of, table_of, Knows, IsLead, AreWithin};
 
 use crate::namespaces::Namespaces;
 use cil_parse::Table;

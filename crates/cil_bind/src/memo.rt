@@ -1,9 +1,6 @@
 //! What texts led to when they were last looked up.
 
-ghost use Rattle.std.specs.Prelude.{◌≡◌, ◌<◌, ◌⊎◌, ℕ, List, [], None, Some, length, IfSome, OnOk};
-ghost use Rattle.cil_specs.specs.Joined.{Placed};
-ghost use Rattle.cil_parse.specs.Parsed.{names_of, texts_of};
-ghost use Rattle.cil_bind.specs.Words.{AsKnown, LeadsTo, Remembers, RemembersNothing};
+ghost use Rattle.cil_bind.specs.Common.{◌≡◌, ◌<◌, ◌⊎◌, ℕ, List, [], None, Some, length, IfSome, OnOk, Placed, names_of, texts_of, AsKnown, LeadsTo, Remembers, RemembersNothing};
 
 use crate::lookup::Lookup;
 use crate::words::lead;

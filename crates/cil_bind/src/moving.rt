@@ -1,15 +1,7 @@
 //! What references are bound to once statements have dropped.
 
-ghost use Rattle.std.specs.Prelude.{◌≡◌, ◌++◌, ◌∷◌, ◌<◌, ◌^◌, ℕ, List, [], true, false, map, length, slice_index_or, OnOk, IfOk};
-ghost use Rattle.std.specs.List.{list_all};
-ghost use Rattle.cil_specs.specs.Joined.{Placed};
-ghost use Rattle.cil_specs.specs.Lookup.{references};
-ghost use Rattle.cil_specs.specs.Kept.{Optionals, AreApart, is_within, restricted};
-ghost use Rattle.cil_bind.specs.Lookup.{Knows};
+ghost use Rattle.cil_bind.specs.Common.{◌≡◌, ◌++◌, ◌∷◌, ◌<◌, ◌^◌, ℕ, List, [], true, false, map, length, slice_index_or, OnOk, IfOk, list_all, Placed, references, Optionals, AreApart, is_within, restricted, Knows, IsRow, AreRows, IsFrom, AreFrom, AreWorded, RemembersOf};
 ghost use Rattle.cil_bind.specs.Binding.{AreLeads, AreBound, AreMoved, Binds, kinds_of, places_from, moved_to, has_place as is_placed};
-ghost use Rattle.cil_bind.specs.Rows.{IsRow, AreRows};
-ghost use Rattle.cil_bind.specs.Scope.{IsFrom, AreFrom};
-ghost use Rattle.cil_bind.specs.Words.{AreWorded, RemembersOf};
 
 use crate::binding::{bind_row, room};
 use crate::joined::Joined;

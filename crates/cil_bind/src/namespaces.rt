@@ -1,7 +1,6 @@
 //! Namespaces by numbers.
 
-ghost use Rattle.std.specs.Prelude.{◌≡◌, ◌<◌, ◌++◌, ◌∷◌, ◌⊎◌, [], length, slice_index_or, bytes_eq, Contains, IfOk, OnErr, IfSome, IfNone, List, ℕ};
-ghost use Rattle.std.specs.List.{IsDistinct};
+ghost use Rattle.cil_bind.specs.Common.{◌≡◌, ◌<◌, ◌++◌, ◌∷◌, ◌⊎◌, [], length, slice_index_or, bytes_eq, Contains, IfOk, OnErr, IfSome, IfNone, List, ℕ, IsDistinct};
 ghost use Rattle.cil_bind.specs.Namespaces.{Opens};
 
 use indexmap::IndexSet;

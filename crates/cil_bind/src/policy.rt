@@ -1,15 +1,7 @@
 //! A joined policy whose references are bound.
 
-ghost use Rattle.std.specs.Prelude.{◌≡◌, ◌<◌, ◌^◌, ℕ, IfOk, OnOk, List, false, filter, bytes_eq, length, slice_index_or};
-ghost use Rattle.std.specs.List.{IsDistinct, list_all};
+ghost use Rattle.cil_bind.specs.Common.{◌≡◌, ◌<◌, ◌^◌, ℕ, IfOk, OnOk, List, false, filter, bytes_eq, length, slice_index_or, IsDistinct, list_all, places_from, AreSpelt, AreFrom, AreAround, StandsFor, HaveDeclared, DeclareThat, IsOnce, Makes, IsBoundTo, AreMarked, TellsAround, AreWorded, Optionals, AreApart, restricted};
 ghost use Rattle.cil_specs.specs.Joined.{Placed, Module, joined as joined_policy};
-ghost use Rattle.cil_bind.specs.Binding.{places_from};
-ghost use Rattle.cil_bind.specs.Scope.{AreSpelt, AreFrom, AreAround, StandsFor};
-ghost use Rattle.cil_bind.specs.Lookup.{HaveDeclared};
-ghost use Rattle.cil_bind.specs.Rows.{DeclareThat, IsOnce};
-ghost use Rattle.cil_bind.specs.Policy.{Makes, IsBoundTo, AreMarked, TellsAround};
-ghost use Rattle.cil_bind.specs.Words.{AreWorded};
-ghost use Rattle.cil_specs.specs.Kept.{Optionals, AreApart, restricted};
 
 use crate::binding::bind;
 use crate::declarations::{Declarations, Declared};

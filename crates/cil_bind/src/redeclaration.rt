@@ -1,12 +1,7 @@
 //! Names that are declared again.
 
-ghost use Rattle.std.specs.Prelude.{◌≡◌, Some};
-ghost use Rattle.cil_specs.specs.Names.{Word};
-ghost use Rattle.cil_specs.specs.Joined.{Placed};
+ghost use Rattle.cil_bind.specs.Common.{◌≡◌, Some, Word, Placed, declared_in, IsFrom, IsTold};
 ghost use Rattle.cil_specs.specs.Lookup as lookup;
-ghost use Rattle.cil_specs.specs.Lookup.{declared_in};
-ghost use Rattle.cil_bind.specs.Scope.{IsFrom};
-ghost use Rattle.cil_bind.specs.Policy.{IsTold};
 
 use crate::joined::Joined;
 use crate::rows::Row;

@@ -1,18 +1,10 @@
 //! The statements of a joined policy by numbers.
 
-ghost use Rattle.std.specs.Prelude.{◌≡◌, ◌<◌, ◌≤◌, ◌+◌, ◌++◌, ◌∷◌, ◌^◌, ◌⊎◌, ℕ, suc, List, length, take, slice_get, [], IfOk, OnOk, IfNone, IfSome, Some};
-ghost use Rattle.cil_specs.specs.Names.{Word};
+ghost use Rattle.cil_bind.specs.Common.{◌≡◌, ◌<◌, ◌≤◌, ◌+◌, ◌++◌, ◌∷◌, ◌^◌, ◌⊎◌, ℕ, suc, List, length, take, slice_get, [], IfOk, OnOk, IfNone, IfSome, Some, Word, bytes_eq, IsDistinct, FlatStatement, texts_of, statement_count, Spells, IsShown, IsDeclared, Row};
 ghost use Rattle.cil_specs.specs.Statements.{Statements, is_optional as is_optional_form};
-ghost use Rattle.std.specs.Prelude.{bytes_eq};
-ghost use Rattle.std.specs.List.{IsDistinct};
 ghost use Rattle.cil_specs.specs.Joined.{Placed, Module, placed, joined as joined_policy};
-ghost use Rattle.cil_parse.specs.Flat.{FlatStatement};
-ghost use Rattle.cil_parse.specs.Parsed.{texts_of, statement_count, Spells};
-ghost use Rattle.cil_parse.specs.View.{IsShown};
-ghost use Rattle.cil_bind.specs.Rows.{IsDeclared};
 ghost use Rattle.cil_bind.specs.Scope.{StandsFor, AreSpelt, AreFrom, AreAround, HaveModule, Declares, optional_number, block_word as word_of_block, is_optional_kind};
 ghost use Rattle.cil_bind.specs.declared.joined.NamedModule.{NamedModule};
-ghost use Rattle.cil_bind.specs.declared.rows.Row.{Row};
 
 use crate::joined::Joined;
 use crate::namespaces::Namespaces;

@@ -1,11 +1,7 @@
 //! The words of modules in one numbering.
 
-ghost use Rattle.std.specs.Prelude.{◌≡◌, ◌++◌, ◌∷◌, ◌⊎◌, ◌<◌, [], ℕ, List, bytes_eq, length, slice_get, IfOk, Some};
-ghost use Rattle.std.specs.List.{IsDistinct};
+ghost use Rattle.cil_bind.specs.Common.{◌≡◌, ◌++◌, ◌∷◌, ◌⊎◌, ◌<◌, [], ℕ, List, bytes_eq, length, slice_get, IfOk, Some, IsDistinct, AreNumbersOf, names_of, texts_of, AreWorded, AsKnown, LeadsTo};
 ghost use Rattle.cil_specs.specs.Lookup.{is_global as is_global_text};
-ghost use Rattle.cil_parse.specs.Lexicon.{AreNumbersOf};
-ghost use Rattle.cil_parse.specs.Parsed.{names_of, texts_of};
-ghost use Rattle.cil_bind.specs.Words.{AreWorded, AsKnown, LeadsTo};
 
 use crate::joined::Joined;
 use crate::lookup::Lookup;

@@ -1,6 +1,6 @@
 -- Words with faults, as they are read of statements that are seen.
-use Rattle.std.proofs.Common.{◌≡◌, ℕ, zero, suc, true, false, Bool, not, ◌&&◌, List, [], ◌∷◌, map, filter, get_or, Option, Some, None, is_some, slice_get, true≢false, refl, sym, ap, ◌∙◌, subst, take, drop, cond, length, add-one, arith, ◌+◌, ◌<◌, ◌≤◌, if◌then◌else◌}
-use Rattle.cil_check.proofs.Common.{option_map, option_or, option_and_then, none-some, same_Some, slice_get-map, length-map, Word, WordExpr, leaves, Form, block, optional, type_name, type_alias, alias_actual, type_attribute, attribute_set, common, class, class_common, class_order, rule, itself, the_named, Placed, Table, types, actual_statement, leads, references, holds_of, is_alias, is_of_another_kind, is_unset, is_unfound, read, kind_of, words_in, texts_of, NumberedWord, IsLead, first_unfound, IsSeen, Reads, word_if, test_of, again_words, first_at, association_table, given_kind, given_word, given_lead, HasFirsts, Seen, Association, Actual, Common, is_before}
+use Rattle.cil_check.proofs.Common.{◌≡◌, ℕ, zero, suc, true, false, Bool, not, ◌&&◌, List, [], ◌∷◌, map, filter, get_or, Option, Some, None, is_some, true≢false, refl, sym, ap, ◌∙◌, subst, take, drop, cond, length, add-one, arith, ◌+◌, ◌<◌, ◌≤◌, if◌then◌else◌, option_map, option_or, option_and_then, none-some, same_Some, slice_get-map, length-map, Word, WordExpr, leaves, Form, block, optional, type_name, type_alias, alias_actual, type_attribute, attribute_set, common, class, class_common, class_order, rule, itself, the_named, Placed, Table, types, actual_statement, leads, references, holds_of, is_alias, is_of_another_kind, is_unset, is_unfound, read, kind_of, words_in, texts_of, NumberedWord, IsLead, first_unfound, IsSeen, Reads, word_if, test_of, again_words, first_at, association_table, given_kind, given_word, given_lead, HasFirsts, Seen, Association, Actual, Common, is_before}
+use Rattle.std.proofs.Common.{slice_get}
 use Rattle.cil_parse.specs.declared.row.StatementKind.TheVariants as kinds
 use Rattle.cil_parse.specs.Kinds.{table_of, reference_table}
 use Rattle.cil_parse.specs.declared.table.Table as code_table

@@ -1,6 +1,6 @@
 -- The first attribute that depends on itself is the first fault of its kind.
-use Rattle.std.proofs.Common.{◌≡◌, ℕ, ◌<◌, true, cond, List, [], ◌∷◌, take, filter, Option, Some, slice_get, Vec, Contains, refl, sym, ap, ◌∙◌, subst}
-use Rattle.cil_check.proofs.Common.{Word, type_attribute, Placed, types, declared_name, is_attribute, PolicyFault, circular, IsCircular, IsFaultOf, sets_of, DependsOn, attribute-word, attribute_words, circular_words, circular-listed, depends_on, depends-decided, no-elements, contains-middle, IsOnce, words_in, NumberedWord, AreOrdered, IsLeast, HaveOneNames, AreNodes, Leads, attribute_count, IsNumbered, IsGraphOf, IsSeen, Reads, fault_at, Seen}
+use Rattle.cil_check.proofs.Common.{◌≡◌, ℕ, ◌<◌, true, cond, List, [], ◌∷◌, take, filter, Option, Some, Vec, Contains, refl, sym, ap, ◌∙◌, subst, Word, type_attribute, Placed, types, declared_name, is_attribute, PolicyFault, circular, IsCircular, IsFaultOf, sets_of, DependsOn, attribute-word, attribute_words, circular_words, circular-listed, depends_on, depends-decided, no-elements, contains-middle, IsOnce, words_in, NumberedWord, AreOrdered, IsLeast, HaveOneNames, AreNodes, Leads, attribute_count, IsNumbered, IsGraphOf, IsSeen, Reads, fault_at, Seen}
+use Rattle.std.proofs.Common.{slice_get}
 use Rattle.cil_dependence.specs.Dependence.{IsStraight, IsFirst}
 use Rattle.cil_check.proofs.CircleLemmas.{leads-depends}
 use Rattle.cil_check.proofs.DeclaredLemmas.{contains-at}

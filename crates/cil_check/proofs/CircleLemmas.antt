@@ -1,6 +1,5 @@
 -- Where attributes depend on themselves, by numbers and by full names.
-use Rattle.std.proofs.Common.{◌↔◌, ℕ, List, [], ◌∷◌, Vec, sym, subst}
-use Rattle.cil_check.proofs.Common.{Placed, types, declared_name, sets_of, DependsThrough, DependsOn, IsOnce, LeadsThrough, Leads, HaveOneNames, IsNumbered, AreMentioned, IsGraphOf}
+use Rattle.cil_check.proofs.Common.{◌↔◌, ℕ, List, [], ◌∷◌, Vec, sym, subst, Placed, types, declared_name, sets_of, DependsThrough, DependsOn, IsOnce, LeadsThrough, Leads, HaveOneNames, IsNumbered, AreMentioned, IsGraphOf}
 use Rattle.cil_check.proofs.MentionLemmas.{one-name, led-to, mentioned-next, next-mentioned}
 
 module _ {A : Type 0} (policy : List Placed) (graph : List (Vec ℕ A)) (once : IsOnce policy) (named : HaveOneNames policy) (is : IsGraphOf policy graph) where

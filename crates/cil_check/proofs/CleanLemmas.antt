@@ -1,6 +1,6 @@
 -- Statements without faults of the kinds that are seen at one statement.
-use Rattle.std.proofs.Common.{◌≡◌, ℕ, ◌+◌, ◌<◌, ◌≤◌, List, [], length, get_or, slice_get, take, Some, inl, inr, subst, arith}
-use Rattle.cil_check.proofs.Common.{cases_lt, Placed, PolicyFaultKind, PolicyFault, twice, missing, wrong_kind, alias_twice, alias_unset, second_common, too_many_permissions, circular, code_of, IsFaultOf, faulty_words, policy_kind_of, HasNoneBelow, IsCleanAt, Twice}
+use Rattle.cil_check.proofs.Common.{◌≡◌, ℕ, ◌+◌, ◌<◌, ◌≤◌, List, [], length, get_or, take, Some, inl, inr, subst, arith, cases_lt, Placed, PolicyFaultKind, PolicyFault, twice, missing, wrong_kind, alias_twice, alias_unset, second_common, too_many_permissions, circular, code_of, IsFaultOf, faulty_words, policy_kind_of, HasNoneBelow, IsCleanAt, Twice}
+use Rattle.std.proofs.Common.{slice_get}
 use Rattle.cil_check.proofs.CheckLemmas.{checked}
 use Rattle.cil_check.proofs.LeastLemmas.{NoneFaultyBelow, none-faulty-first, none-faulty-next, none-faulty-end}
 

@@ -42,6 +42,7 @@ pub use Rattle.cil_specs.specs.PolicyFault.{IsCircular, IsFaultOf, IsNoLater, Po
 pub use Rattle.cil_specs.specs.Rule.{SetStatement, an_attribute, element_at, element_of, element_or_none, is_class, name_or_none, set_statement_of, sets_of}
 pub use Rattle.cil_specs.specs.Sets.{DependsOn, DependsThrough, IsNextOf, is_the_attribute, mentions}
 pub use Rattle.cil_specs.specs.Statements.{Form, Statements, alias_actual, as_declared, as_referred, attribute_set, block, class, class_common, class_order, common, is_optional, itself, optional, rise_from, rule, the_named, type_alias, type_attribute, type_name}
+pub use Rattle.std.proofs.Common.{Bool, Bor, Contains, List, MatchOption, None, Option, Some, Vec, [], add-one, ap, append-nil, arith, bytes_eq, cond, drop, false, filter, fold, get_or, if◌then◌else◌, inl, inr, is_some, length, map, nat_eq, nat_le, nat_lt, not, position, refl, rules, set, subst, suc, sym, take, true, true≢false, zero, ℕ, ◌&&◌, ◌++◌, ◌+◌, ◌<◌, ◌==◌, ◌||◌, ◌↔◌, ◌∙◌, ◌∷◌, ◌≡◌, ◌≤◌, ◌⊎◌}
 pub use Rattle.std.proofs.Math.Bool.{or-false, or-true}
 pub use Rattle.std.proofs.lemmas.Bool.{cases_lt, cases_order, eq-eqb, eqb-false, eqb-true, le-ltb, leb-true, lt-ltb, ltb-true}
 pub use Rattle.std.proofs.lemmas.Grind.{flat_map-append}

@@ -1,6 +1,6 @@
 -- Types, aliases and attributes of a policy that declares none twice: each full name tells its statement.
-use Rattle.std.proofs.Common.{◌≡◌, ℕ, zero, suc, Bool, true, List, [], ◌∷◌, length, get_or, Contains, Option, Some, None, is_some, position, slice_get, refl, sym, ap, ◌∙◌, true≢false}
-use Rattle.cil_check.proofs.Common.{IfSome, none-some, same_Some, slice_get_within, slice_get_read, slice_get-get_or, get_or_from_slice_get, position-Some, bytes_eq-Decides, Word, Placed, types, scopes, declared_in, declared_name, word_text, is_word, same_namespace, declares, is_same, both_true, IsOnce, any-contained, IsName, HaveOneNames, any-position}
+use Rattle.cil_check.proofs.Common.{◌≡◌, ℕ, zero, suc, Bool, true, List, [], ◌∷◌, length, get_or, Contains, Option, Some, None, is_some, position, refl, sym, ap, ◌∙◌, true≢false, IfSome, none-some, same_Some, slice_get_within, slice_get_read, slice_get-get_or, get_or_from_slice_get, position-Some, bytes_eq-Decides, Word, Placed, types, scopes, declared_in, declared_name, word_text, is_word, same_namespace, declares, is_same, both_true, IsOnce, any-contained, IsName, HaveOneNames, any-position}
+use Rattle.std.proofs.Common.{slice_get}
 use Rattle.cil_specs.proofs.DeclaredLemmas.{AtMostOne, declared-once}
 use Rattle.cil_check.proofs.FullNameLemmas.{full-name-same, full-name-some}
 use Rattle.cil_check.proofs.WordLemmas.{same-itself}

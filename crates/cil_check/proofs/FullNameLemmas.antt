@@ -1,6 +1,5 @@
 -- Full names tell a name and its namespace, where the names in them have no dots.
-use Rattle.std.proofs.Common.{◌≡◌, ℕ, Bool, true, false, ◌&&◌, ◌||◌, ◌==◌, nat_le, List, [], ◌∷◌, ◌++◌, get_or, drop, length, refl, sym, ap, ◌∙◌, true≢false}
-use Rattle.cil_check.proofs.Common.{AllByRecursion, list_any, list_all, begins_name, is_name_byte, is_name, full_name, first_true, second_true, any-middle, IsName}
+use Rattle.cil_check.proofs.Common.{◌≡◌, ℕ, Bool, true, false, ◌&&◌, ◌||◌, ◌==◌, nat_le, List, [], ◌∷◌, ◌++◌, get_or, drop, length, refl, sym, ap, ◌∙◌, true≢false, AllByRecursion, list_any, list_all, begins_name, is_name_byte, is_name, full_name, first_true, second_true, any-middle, IsName}
 use Rattle.cil_text.proofs.NameLemmas.{no-dot}
 
 abbrev pub has_dot : List ℕ → Bool

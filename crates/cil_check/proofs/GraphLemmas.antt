@@ -1,6 +1,6 @@
 -- The graph of attributes, as it grows statement by statement and word by word.
-use Rattle.std.proofs.Common.{◌≡◌, ◌⊎◌, ◌↔◌, inl, inr, ℕ, zero, suc, ◌+◌, ◌<◌, ◌≤◌, Bool, true, false, List, [], ◌∷◌, ◌++◌, length, take, get_or, Option, Some, None, position, slice_get, Vec, Contains, if◌then◌else◌, refl, sym, ap, ◌∙◌, subst, length-append, arith}
-use Rattle.cil_check.proofs.Common.{option_map, option_and_then, cases_lt, get_or_append_left, take_all, count_by_more_no, count_by_more_yes, none-some, same_Some, slice_get_within, slice_get-get_or, get_or_from_slice_get, slice_get_read, Word, WordExpr, leaves, attribute_set, Placed, types, leads, is_same, is_attribute, words_in, kind_of, IsLead, take-last, IsEdge, attribute_count, IsNumbered, HaveNumbers, number_of, number_led, Mentions, AreMentioned, IsGraphOf}
+use Rattle.cil_check.proofs.Common.{◌≡◌, ◌⊎◌, ◌↔◌, inl, inr, ℕ, zero, suc, ◌+◌, ◌<◌, ◌≤◌, Bool, true, false, List, [], ◌∷◌, ◌++◌, length, take, get_or, Option, Some, None, position, Vec, Contains, if◌then◌else◌, refl, sym, ap, ◌∙◌, subst, arith, option_map, option_and_then, cases_lt, get_or_append_left, take_all, count_by_more_no, count_by_more_yes, none-some, same_Some, slice_get_within, slice_get-get_or, get_or_from_slice_get, slice_get_read, Word, WordExpr, leaves, attribute_set, Placed, types, leads, is_same, is_attribute, words_in, kind_of, IsLead, take-last, IsEdge, attribute_count, IsNumbered, HaveNumbers, number_of, number_led, Mentions, AreMentioned, IsGraphOf}
+use Rattle.std.proofs.Common.{slice_get, length-append}
 use Rattle.std.proofs.lemmas.List.Elements.{Contains-push, Contains-push_cases, Contains-append_left}
 use Rattle.std.proofs.Math.Seq.{get_or-append_seam}
 use Rattle.cil_parse.specs.declared.row.StatementKind.TheVariants as kinds

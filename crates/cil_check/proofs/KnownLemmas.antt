@@ -1,6 +1,6 @@
 -- Statements that are clean by their kinds, and permissions of lists that are known.
-use Rattle.std.proofs.Common.{◌≡◌, ℕ, ◌≤◌, ◌<◌, ◌++◌, not, ◌&&◌, Bool, true, false, List, [], ◌∷◌, map, filter, cond, Some, None, slice_get, take, get_or, refl, sym, ap, ◌∙◌, subst, true≢false, arith}
-use Rattle.cil_check.proofs.Common.{list_all, option_to_list, none-some, same_Some, slice_get_within, Word, Form, block, optional, type_name, type_alias, alias_actual, type_attribute, attribute_set, common, class, class_common, class_order, rule, itself, the_named, Placed, classes, declared_in, holds_of, has_name, texts, permissions_of, references, named_permissions, PolicyFaultKind, twice, missing, wrong_kind, alias_twice, alias_unset, second_common, too_many_permissions, circular, code_of, is_unfound, is_lacking, missing_words, kinds_asked, is_of_another_kind, alias_words, has_earlier_actual, element_words, is_unset, alias_unset_words, common_words, has_earlier_common, has_too_many, faulty_words, kind_of, permissions_in, IsLead, AreFoundInside, IsOf, is_rule, is_plain, class_lead, lacking_words, has_list, IsCleanAt}
+use Rattle.cil_check.proofs.Common.{◌≡◌, ℕ, ◌≤◌, ◌<◌, ◌++◌, not, ◌&&◌, Bool, true, false, List, [], ◌∷◌, map, filter, cond, Some, None, take, get_or, refl, sym, ap, ◌∙◌, subst, true≢false, arith, list_all, option_to_list, none-some, same_Some, slice_get_within, Word, Form, block, optional, type_name, type_alias, alias_actual, type_attribute, attribute_set, common, class, class_common, class_order, rule, itself, the_named, Placed, classes, declared_in, holds_of, has_name, texts, permissions_of, references, named_permissions, PolicyFaultKind, twice, missing, wrong_kind, alias_twice, alias_unset, second_common, too_many_permissions, circular, code_of, is_unfound, is_lacking, missing_words, kinds_asked, is_of_another_kind, alias_words, has_earlier_actual, element_words, is_unset, alias_unset_words, common_words, has_earlier_common, has_too_many, faulty_words, kind_of, permissions_in, IsLead, AreFoundInside, IsOf, is_rule, is_plain, class_lead, lacking_words, has_list, IsCleanAt}
+use Rattle.std.proofs.Common.{slice_get}
 use Rattle.cil_bind.specs.KnownLists.{texts_listed}
 use Rattle.cil_bind.specs.declared.joined.NamedModule.{NamedModule}
 use Rattle.cil_bind.specs.Scope.{IsFrom}

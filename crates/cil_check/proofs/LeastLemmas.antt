@@ -1,6 +1,6 @@
 -- The first faulty word that is found is the least fault of its kind.
-use Rattle.std.proofs.Common.{◌≡◌, ◌⊎◌, inl, inr, ℕ, ◌+◌, ◌<◌, ◌≤◌, suc, Bool, true, false, nat_le, cond, if◌then◌else◌, List, [], ◌∷◌, ◌++◌, length, take, drop, map, filter, flat_map, Some, refl, sym, ap, ◌∙◌, subst, Contains, arith, append-nil}
-use Rattle.cil_check.proofs.Common.{AllByRecursion, slice_get, list_any, option_to_list, map-append, length-append, length-take-le, same_Some, slice_get_within, leb-true, cases_lt, Word, Form, block, optional, type_name, type_alias, alias_actual, type_attribute, attribute_set, common, class, class_common, class_order, rule, itself, the_named, rise_from, as_declared, as_referred, leaves, Placed, Table, types, classes, commons, scopes, references, named_permissions, declared_in, declared_name, PolicyFaultKind, twice, missing, wrong_kind, alias_twice, alias_unset, second_common, too_many_permissions, circular, PolicyFault, is_again, missing_words, is_unfound, is_lacking, kinds_asked, is_of_another_kind, wrong_kind_words, alias_words, has_earlier_actual, element_words, is_unset, common_words, has_earlier_common, has_too_many, tables, is_outside, IsFaultOf, IsNoLater, both_true, first_true, second_true, sets_of, faulty_words, faulty-listed, attribute_words, depends_on, all-contained, contains-cases, contains-first, contains-other, contains-map, rises-low, rises-less, stands, same_place, later, earlier, offsets_in, offsets_of, IsBefore, AreOrdered, IsLeast, fault_at, around-at}
+use Rattle.cil_check.proofs.Common.{◌≡◌, ◌⊎◌, inl, inr, ℕ, ◌+◌, ◌<◌, ◌≤◌, suc, Bool, true, false, nat_le, cond, if◌then◌else◌, List, [], ◌∷◌, ◌++◌, length, take, drop, map, filter, Some, refl, sym, ap, ◌∙◌, subst, Contains, arith, append-nil, AllByRecursion, slice_get, list_any, option_to_list, map-append, length-append, length-take-le, same_Some, slice_get_within, leb-true, cases_lt, Word, Form, block, optional, type_name, type_alias, alias_actual, type_attribute, attribute_set, common, class, class_common, class_order, rule, itself, the_named, rise_from, as_declared, as_referred, leaves, Placed, Table, types, classes, commons, scopes, references, named_permissions, declared_in, declared_name, PolicyFaultKind, twice, missing, wrong_kind, alias_twice, alias_unset, second_common, too_many_permissions, circular, PolicyFault, is_again, missing_words, is_unfound, is_lacking, kinds_asked, is_of_another_kind, wrong_kind_words, alias_words, has_earlier_actual, element_words, is_unset, common_words, has_earlier_common, has_too_many, tables, is_outside, IsFaultOf, IsNoLater, both_true, first_true, second_true, sets_of, faulty_words, faulty-listed, attribute_words, depends_on, all-contained, contains-cases, contains-first, contains-other, contains-map, rises-low, rises-less, stands, same_place, later, earlier, offsets_in, offsets_of, IsBefore, AreOrdered, IsLeast, fault_at, around-at}
+use Rattle.std.proofs.Common.{flat_map}
 use Rattle.std.proofs.Math.Seq.{take-append_seam}
 use Rattle.cil_specs.proofs.PartLemmas.{all-middle}
 use Rattle.cil_bind.proofs.OrderedLemmas.{IsAmidst, ordered-amidst}

@@ -1,6 +1,6 @@
 -- Which attributes set statements mention, by numbers and by full names.
-use Rattle.std.proofs.Common.{◌≡◌, ℕ, inl, inr, Bool, true, false, if◌then◌else◌, List, [], take, Contains, Option, Some, None, is_some, position, slice_get, refl, sym, ap, ◌∙◌, subst, true≢false, arith}
-use Rattle.cil_check.proofs.Common.{option_map, option_and_then, none-some, same_Some, bytes_eq-Decides, Word, WordExpr, leaves, map_leaves, Form, type_alias, type_attribute, attribute_set, Placed, types, leads, declared_in, declared_name, is_same, is_attribute, an_attribute, SetStatement, name_or_none, element_at, element_or_none, element_of, set_statement_of, sets_of, is_the_attribute, mentions, IsNextOf, contains-first, contains-cases, contains-map, contains-mapped, contains-middle, IsOnce, passes-among, any-contained, declared-led, contains-flat, flat-contains, leaves-mapped, attribute-word, HaveOneNames, attribute_count, IsNumbered, number_of, number_led, Mentions, AreMentioned}
+use Rattle.cil_check.proofs.Common.{◌≡◌, ℕ, inl, inr, Bool, true, false, if◌then◌else◌, List, [], take, Contains, Option, Some, None, is_some, position, refl, sym, ap, ◌∙◌, subst, true≢false, arith, option_map, option_and_then, none-some, same_Some, bytes_eq-Decides, Word, WordExpr, leaves, map_leaves, Form, type_alias, type_attribute, attribute_set, Placed, types, leads, declared_in, declared_name, is_same, is_attribute, an_attribute, SetStatement, name_or_none, element_at, element_or_none, element_of, set_statement_of, sets_of, is_the_attribute, mentions, IsNextOf, contains-first, contains-cases, contains-map, contains-mapped, contains-middle, IsOnce, passes-among, any-contained, declared-led, contains-flat, flat-contains, leaves-mapped, attribute-word, HaveOneNames, attribute_count, IsNumbered, number_of, number_led, Mentions, AreMentioned}
+use Rattle.std.proofs.Common.{slice_get}
 use Rattle.cil_check.proofs.NumberLemmas.{count-once}
 use Rattle.cil_check.proofs.DeclaredLemmas.{at-contains, contains-at, same-place, first-place, some-name}
 

@@ -1,6 +1,6 @@
 -- Elements of a list by how many that pass a test stand in front of them.
-use Rattle.std.proofs.Common.{◌≡◌, inl, inr, ℕ, ◌+◌, ◌<◌, zero, suc, Bool, true, cond, List, [], ◌∷◌, take, Some, slice_get, refl, ap, ◌∙◌, arith}
-use Rattle.cil_check.proofs.Common.{count_by, none-some, same_Some, cases_order, sum_by-cons}
+use Rattle.cil_check.proofs.Common.{◌≡◌, inl, inr, ℕ, ◌+◌, ◌<◌, zero, suc, Bool, true, cond, List, [], ◌∷◌, take, Some, refl, ap, ◌∙◌, arith, count_by, none-some, same_Some, cases_order, sum_by-cons}
+use Rattle.std.proofs.Common.{slice_get}
 
 count-cons : {X : Type 0} (p : X → Bool) (x : X) (xs : List X) (b : Bool) → p x ≡ b → count_by p (x ∷ xs) ≡ cond b 1 0 + count_by p xs
 count-cons p x xs b e = sum_by-cons (λ y. cond (p y) 1 0) x xs ∙ ap (λ c. cond c 1 0 + count_by p xs) e

@@ -1,6 +1,6 @@
 -- The first place in a list at which a test passes.
-use Rattle.std.proofs.Common.{◌≡◌, ℕ, ◌+◌, zero, suc, Bool, true, false, ◌||◌, List, [], ◌∷◌, ◌++◌, length, take, cond, Option, Some, None, is_some, option_map, position, refl, sym, ap, ◌∙◌, subst, add-one}
-use Rattle.cil_check.proofs.Common.{find, list_any, slice_get, AllByRecursion, option_or, none-some, same_Some, at_if, position-cons, position-append, take-next, take-length}
+use Rattle.cil_check.proofs.Common.{◌≡◌, ℕ, ◌+◌, zero, suc, Bool, true, false, ◌||◌, List, [], ◌∷◌, ◌++◌, length, take, cond, Option, Some, None, is_some, position, refl, sym, ap, ◌∙◌, subst, add-one, find, list_any, slice_get, AllByRecursion, option_or, none-some, same_Some, at_if, position-cons, position-append, take-next, take-length}
+use Rattle.std.proofs.Common.{option_map}
 
 -- tests that pass alike
 pub position-same : {X : Type 0} (p q : X → Bool) → ((x : X) → p x ≡ q x) → (xs : List X) → position p xs ≡ position q xs

@@ -1,6 +1,6 @@
 -- Policies with set statements and without.
-use Rattle.std.proofs.Common.{◌≡◌, ℕ, ◌+◌, List, [], ◌∷◌, ◌++◌, take, Contains, Some, slice_get, refl, sym, ap, ◌∙◌, subst, arith}
-use Rattle.cil_check.proofs.Common.{flat_map, flat_map-append, Placed, types, declared_name, PolicyFault, circular, IsFaultOf, SetStatement, set_statement_of, sets_of, DependsThrough, Form, attribute_set, contains-flat, contains-first, kind_of, take-last}
+use Rattle.cil_check.proofs.Common.{◌≡◌, ℕ, ◌+◌, List, [], ◌∷◌, ◌++◌, take, Contains, Some, refl, sym, ap, ◌∙◌, subst, arith, flat_map, flat_map-append, Placed, types, declared_name, PolicyFault, circular, IsFaultOf, SetStatement, set_statement_of, sets_of, DependsThrough, Form, attribute_set, contains-flat, contains-first, kind_of, take-last}
+use Rattle.std.proofs.Common.{slice_get}
 use Rattle.cil_parse.specs.declared.row.StatementKind.TheVariants as kinds
 use Rattle.cil_check.proofs.AskedLemmas.{form-set}
 use Rattle.cil_check.proofs.DeclaredLemmas.{at-contains}

@@ -1,15 +1,6 @@
 //! The statements of a bound policy.
 
-ghost use Rattle.std.specs.Prelude.{◌≡◌, ◌<◌, ◌∷◌, [], ℕ, List, None, length, slice_get, slice_index_or, Some};
-ghost use Rattle.cil_specs.specs.Names.{Word, components};
-ghost use Rattle.cil_specs.specs.Joined.{Placed};
-ghost use Rattle.cil_parse.specs.Builder.{read};
-ghost use Rattle.cil_parse.specs.Forms.{kind_of};
-ghost use Rattle.cil_parse.specs.Parsed.{texts_of, names_of};
-ghost use Rattle.cil_parse.specs.Lexicon.{AreNumbersOf};
-ghost use Rattle.cil_check.specs.Kinds.{test_of};
-ghost use Rattle.cil_check.specs.Bound.{IsOf, IsSeen};
-ghost use Rattle.cil_check.specs.Image.{policy_kind_of, fault_at, IsFoundFault};
+ghost use Rattle.cil_check.specs.Common.{◌≡◌, ◌<◌, ◌∷◌, [], ℕ, List, None, length, slice_get, slice_index_or, Some, Word, components, Placed, read, kind_of, texts_of, names_of, AreNumbersOf, test_of, IsOf, IsSeen, policy_kind_of, fault_at, IsFoundFault};
 
 use crate::fault::{PolicyFault, PolicyFaultKind};
 use crate::kinds::Kind;

@@ -1,28 +1,12 @@
 //! The first fault of a policy whose references are bound, but for names that are declared twice.
 
-ghost use Rattle.std.specs.Prelude.{◌≡◌, ◌≢◌, ◌<◌, ◌^◌, [], List, length, Some, None, slice_get, take, filter, IfOk, IfErr, OnOk};
-ghost use Rattle.cil_specs.specs.Names.{Word};
+ghost use Rattle.cil_check.specs.Common.{◌≡◌, ◌≢◌, ◌<◌, ◌^◌, [], List, length, Some, None, slice_get, take, filter, IfOk, IfErr, OnOk, Word, Placed, types, references, is_of_another_kind, wrong_kind_words, is_unset, alias_unset_words, IsFaultOf, circular, words_in, AreNumbersOf, names_of, IsOf, IsSeen, Reads, IsNoted, HasFirsts, policy_kind_of, IsFoundFault, PolicyFaultIs, IsLeast, IsFaultIn, IsFaultless, HasNoneBelow, HasInherited, HaveListed, HaveWords, test_of, word_if, again_words};
 ghost use Rattle.cil_specs.specs.Expr.{WordExpr, leaves};
 ghost use Rattle.cil_specs.specs.Statements.{attribute_set};
-ghost use Rattle.cil_specs.specs.Joined.{Placed};
-ghost use Rattle.cil_specs.specs.Lookup.{types, references};
-ghost use Rattle.cil_specs.specs.PolicyFault.{is_of_another_kind, wrong_kind_words, is_unset, alias_unset_words, IsFaultOf, circular};
 ghost use Rattle.cil_specs.proofs.FirstLemmas.{faulty_words};
-ghost use Rattle.cil_parse.specs.Forms.{words_in};
-ghost use Rattle.cil_parse.specs.Lexicon.{AreNumbersOf};
-ghost use Rattle.cil_parse.specs.Parsed.{names_of};
-ghost use Rattle.cil_check.specs.Bound.{IsOf, IsSeen, Reads};
-ghost use Rattle.cil_check.specs.Checker.{IsNoted};
-ghost use Rattle.cil_check.specs.Associations.{HasFirsts};
-ghost use Rattle.cil_check.specs.Image.{policy_kind_of, IsFoundFault, PolicyFaultIs};
-ghost use Rattle.cil_bind.specs.Ordered.{IsLeast};
-ghost use Rattle.cil_check.specs.Ordered.{IsFaultIn, IsFaultless, HasNoneBelow};
-ghost use Rattle.cil_check.specs.Inherited.{HasInherited};
-ghost use Rattle.cil_check.specs.Permissions.{HaveListed, HaveWords};
 ghost use Rattle.cil_check.specs.declared.firsts.Association.TheVariants.{Actual, Common};
 ghost use Rattle.cil_check.specs.declared.fault.PolicyFault.TheVariants.{Memory};
 ghost use Rattle.cil_check.specs.declared.fault.PolicyFaultKind.TheVariants.{Twice, Circular};
-ghost use Rattle.cil_check.specs.Kinds.{test_of, word_if, again_words};
 
 use crate::bound::{BoundPolicy, Seen};
 use crate::fault::{PolicyFault, PolicyFaultKind};

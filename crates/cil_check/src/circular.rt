@@ -1,13 +1,7 @@
 //! Attributes that depend on themselves.
 
-ghost use Rattle.std.specs.Prelude.{◌≢◌, ◌↔◌, [], List, IsTrue, OnOk, IfErr};
-ghost use Rattle.cil_specs.specs.Joined.{Placed};
+ghost use Rattle.cil_check.specs.Common.{◌≢◌, ◌↔◌, [], List, IsTrue, OnOk, IfErr, Placed, circular, IsFaultOf, IsLeast, IsOf, IsNoted, PolicyFaultIs};
 ghost use Rattle.cil_specs.specs.Rule.{sets_of};
-ghost use Rattle.cil_specs.specs.PolicyFault.{circular, IsFaultOf};
-ghost use Rattle.cil_bind.specs.Ordered.{IsLeast};
-ghost use Rattle.cil_check.specs.Bound.{IsOf};
-ghost use Rattle.cil_check.specs.Checker.{IsNoted};
-ghost use Rattle.cil_check.specs.Image.{PolicyFaultIs};
 
 use crate::attribute_graph::AttributeNumbers;
 use crate::bound::BoundPolicy;

@@ -1,16 +1,8 @@
 //! Policies without faults of the kinds that are seen at one statement.
 
-ghost use Rattle.std.specs.Prelude.{◌≡◌, [], List, Some, slice_get, IsTrue};
-ghost use Rattle.cil_specs.specs.Joined.{Placed};
-ghost use Rattle.cil_specs.specs.PolicyFault.{missing_words, alias_unset_words};
-ghost use Rattle.cil_parse.specs.Lexicon.{AreNumbersOf};
-ghost use Rattle.cil_parse.specs.Parsed.{names_of};
+ghost use Rattle.cil_check.specs.Common.{◌≡◌, [], List, Some, slice_get, IsTrue, Placed, missing_words, alias_unset_words, AreNumbersOf, names_of, IsSeen, IsNoted, lacking_words, has_list, HasNoneBelow, IsCleanAt};
 ghost use Rattle.cil_bind.specs.KnownLists.{AreKnown};
-ghost use Rattle.cil_check.specs.Bound.{IsSeen};
-ghost use Rattle.cil_check.specs.Checker.{IsNoted};
 ghost use Rattle.cil_check.specs.Kinds.{is_rule as is_rule_kind, is_plain as is_plain_kind};
-ghost use Rattle.cil_check.specs.Missing.{lacking_words, has_list};
-ghost use Rattle.cil_check.specs.Ordered.{HasNoneBelow, IsCleanAt};
 
 use crate::bound::Seen;
 use crate::checker::{CHECKED, Checker};

@@ -1,9 +1,6 @@
 //! The commons that statements give to classes.
 
-ghost use Rattle.std.specs.Prelude.{◌≡◌, [], List, OnOk};
-ghost use Rattle.cil_specs.specs.Joined.{Placed};
-ghost use Rattle.cil_check.specs.Bound.{IsOf};
-ghost use Rattle.cil_check.specs.Inherited.{HasInherited};
+ghost use Rattle.cil_check.specs.Common.{◌≡◌, [], List, OnOk, Placed, IsOf, HasInherited};
 
 use crate::bound::BoundPolicy;
 use crate::firsts::Association;

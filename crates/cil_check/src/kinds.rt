@@ -1,7 +1,6 @@
 //! Kinds of what statements declare in the table of types.
 
-ghost use Rattle.std.specs.Prelude.{◌≡◌};
-ghost use Rattle.cil_check.specs.Kinds.{is_kind};
+ghost use Rattle.cil_check.specs.Common.{◌≡◌, is_kind};
 
 use cil_parse::StatementKind;
 

@@ -1,15 +1,6 @@
 //! Names that lead to nothing, and permissions that their classes lack.
 
-ghost use Rattle.std.specs.Prelude.{◌≡◌, ◌<◌, List, ℕ, true, Contains, Some, length, slice_get};
-ghost use Rattle.cil_specs.specs.Joined.{Placed};
-ghost use Rattle.cil_specs.specs.Lookup.{classes, references, has_name, permissions_of};
-ghost use Rattle.cil_specs.specs.PolicyFault.{missing_words};
-ghost use Rattle.cil_parse.specs.Lexicon.{AreNumbersOf};
-ghost use Rattle.cil_parse.specs.Parsed.{names_of};
-ghost use Rattle.cil_bind.specs.Lookup.{word_at, IsFirstOf, IsLead};
-ghost use Rattle.cil_check.specs.Bound.{IsSeen, Reads};
-ghost use Rattle.cil_check.specs.Checker.{IsNoted, first_unfound};
-ghost use Rattle.cil_check.specs.Missing.{class_lead, lacking_words};
+ghost use Rattle.cil_check.specs.Common.{◌≡◌, ◌<◌, List, ℕ, true, Contains, Some, length, slice_get, Placed, classes, references, has_name, permissions_of, missing_words, AreNumbersOf, names_of, word_at, IsFirstOf, IsLead, IsSeen, Reads, IsNoted, first_unfound, class_lead, lacking_words};
 
 use crate::bound::Seen;
 use crate::checker::Checker;

@@ -1,16 +1,7 @@
 //! The permissions that classes and commons list, by numbers.
 
-ghost use Rattle.std.specs.Prelude.{◌≡◌, ◌<◌, ◌||◌, ◌&&◌, ◌==◌, ◌++◌, ◌∷◌, [], ℕ, false, List, map, length, bytes_eq, Some, OnOk, IfOk, if◌then◌else◌};
+ghost use Rattle.cil_check.specs.Common.{◌≡◌, ◌<◌, ◌||◌, ◌&&◌, ◌==◌, ◌++◌, ◌∷◌, [], ℕ, false, List, map, length, bytes_eq, Some, OnOk, IfOk, if◌then◌else◌, Word, Placed, has_name, texts, distinct, read, AreNumbersOf, texts_of, names_of, word_at, is_listed, HaveListed, HaveWords, lists_own, IsOf};
 ghost use Rattle.std.specs.List.{list_any, AllByRecursion, IsDistinct};
-ghost use Rattle.cil_specs.specs.Names.{Word};
-ghost use Rattle.cil_specs.specs.Joined.{Placed};
-ghost use Rattle.cil_specs.specs.Lookup.{has_name, texts, distinct};
-ghost use Rattle.cil_parse.specs.Builder.{read};
-ghost use Rattle.cil_parse.specs.Lexicon.{AreNumbersOf};
-ghost use Rattle.cil_parse.specs.Parsed.{texts_of, names_of};
-ghost use Rattle.cil_bind.specs.Lookup.{word_at};
-ghost use Rattle.cil_check.specs.Permissions.{is_listed, HaveListed, HaveWords, lists_own};
-ghost use Rattle.cil_check.specs.Bound.{IsOf};
 ghost use Rattle.cil_bind.specs.Written.{IsOneName};
 
 use crate::bound::{BoundPolicy, Seen};

@@ -1,12 +1,6 @@
 //! Classes of too many permissions.
 
-ghost use Rattle.std.specs.Prelude.{◌≡◌, List, Some, slice_get};
-ghost use Rattle.cil_specs.specs.Joined.{Placed};
-ghost use Rattle.cil_specs.specs.Lookup.{classes};
-ghost use Rattle.cil_specs.specs.PolicyFault.{has_too_many, too_many_words};
-ghost use Rattle.cil_bind.specs.Lookup.{IsFirstOf};
-ghost use Rattle.cil_check.specs.Bound.{IsSeen, Reads};
-ghost use Rattle.cil_check.specs.Checker.{IsNoted};
+ghost use Rattle.cil_check.specs.Common.{◌≡◌, List, Some, slice_get, Placed, classes, has_too_many, too_many_words, IsFirstOf, IsSeen, Reads, IsNoted};
 
 use crate::bound::Seen;
 use crate::checker::Checker;

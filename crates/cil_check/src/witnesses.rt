@@ -1,8 +1,6 @@
 //! The commons by which classes that are given several have the permissions that rules name.
 
-ghost use Rattle.std.specs.Prelude.{◌≡◌, List, length};
-ghost use Rattle.cil_specs.specs.Joined.{Placed};
-ghost use Rattle.cil_check.specs.Bound.{IsOf, IsSeen};
+ghost use Rattle.cil_check.specs.Common.{◌≡◌, List, length, Placed, IsOf, IsSeen};
 
 use crate::bound::{BoundPolicy, Seen};
 use crate::groups::Groups;

@@ -1,6 +1,5 @@
 -- Counters of accesses that are no more than the rules of two policies, by symbols and by full names.
-use Rattle.std.proofs.Common.{◌≡◌, ℕ, ◌+◌, ◌<◌, ◌≤◌, List, [], length, cond, bytes_eq, Option, None, Some, position, refl, ap, ◌∙◌, arith}
-use Rattle.cil_counters.proofs.Common.{get_or_from_slice_get, slice_get_within, Meaning, count_of, RuleKind, SymbolKey, found-name, atom_of, name_at, count_named, atom_with, count_at}
+use Rattle.cil_counters.proofs.Common.{◌≡◌, ℕ, ◌+◌, ◌<◌, ◌≤◌, List, [], length, cond, bytes_eq, Option, None, Some, position, refl, ap, ◌∙◌, arith, get_or_from_slice_get, slice_get_within, Meaning, count_of, RuleKind, SymbolKey, found-name, atom_of, name_at, count_named, atom_with, count_at}
 use Rattle.cil_counters.proofs.ToldLemmas.{all-named}
 
 module _ (names : List (List ℕ)) where

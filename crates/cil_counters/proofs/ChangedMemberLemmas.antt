@@ -1,7 +1,6 @@
 -- Names of attributes and types that are hit, put together one after the other.
-use Rattle.std.proofs.Common.{◌≡◌, ◌≢◌, ◌⊎◌, ℕ, zero, suc, ◌+◌, ◌-◌, ◌*◌, ◌/◌, ◌%◌, ◌<◌, ◌≤◌, Bool, true, cond, not, List, [], ◌∷◌, ◌++◌, Option, None, Some, length, get_or, take, min, nat_lt, bytes_eq, position, slice_get, is_some, refl, sym, ap, subst, ◌∙◌, inl, inr, arith, take_all, true≢false}
+use Rattle.cil_counters.proofs.Common.{◌≡◌, ◌≢◌, ◌⊎◌, ℕ, zero, suc, ◌+◌, ◌-◌, ◌*◌, ◌/◌, ◌%◌, ◌<◌, ◌≤◌, Bool, true, cond, not, List, [], ◌∷◌, ◌++◌, Option, None, Some, length, get_or, take, min, nat_lt, bytes_eq, position, slice_get, is_some, refl, sym, ap, subst, ◌∙◌, inl, inr, arith, take_all, true≢false, Contains, IsDistinct, cases_eq, cases_lt, le-ltb, lt-ltb, list_any_at, sum_by_more, sum_by_more_le, get_or_from_slice_get, same_Some, slice_get_within, bytes_eq-Decides, any-position, differ, found-name, has_turned, AreChangedMembers, AreHit, AreNamed, has_at}
 use Rattle.std.specs.Int.{bit_at}
-use Rattle.cil_counters.proofs.Common.{Contains, IsDistinct, cases_eq, cases_lt, le-ltb, lt-ltb, list_any_at, sum_by_more, sum_by_more_le, get_or_from_slice_get, same_Some, slice_get_within, bytes_eq-Decides, any-position, differ, found-name, has_turned, AreChangedMembers, AreHit, AreNamed, has_at}
 use Rattle.std.proofs.lemmas.List.Elements.{Contains-append_cases, Contains-append_left, Contains-append_right, Contains-get_or}
 use Rattle.std.proofs.lemmas.List.Quantifiers.{all_pairs_push}
 use Rattle.std.proofs.lemmas.Nat.Bits.{bit_at-lt}

@@ -29,6 +29,7 @@ pub use Rattle.cil_table_updates.specs.Policies.{AreApart, count_named}
 pub use Rattle.cil_text.specs.Image.{rule_kind_of}
 pub use Rattle.cil_text.specs.declared.statement.RuleKind.{RuleKind}
 pub use Rattle.cil_text.specs.declared.statement.RuleKind.TheVariants.{Allow, AuditAllow, DontAudit, NeverAllow}
+pub use Rattle.std.proofs.Common.{Bool, Equal, Greater, Less, List, None, Option, Some, [], ap, arith, bytes_eq, cond, count_by, false, get_or, inl, inr, is_some, length, map, max, min, nat_lt, not, position, refl, set, slice_get, slice_index, slice_index_or, subst, suc, sym, take, take_all, true, true≢false, zero, zero-add, ℕ, ◌%◌, ◌&&◌, ◌*◌, ◌++◌, ◌+◌, ◌-◌, ◌/◌, ◌<◌, ◌==◌, ◌^◌, ◌||◌, ◌↔◌, ◌∙◌, ◌∷◌, ◌≡◌, ◌≢◌, ◌≤◌, ◌⊎◌}
 pub use Rattle.std.proofs.lemmas.Bool.{and_from, and_parts, both_ways, cases_Bool, cases_eq, cases_lt, le-ltb, lt-ltb, ltb-true, not-true}
 pub use Rattle.std.proofs.lemmas.List.{get_or-set_other, get_or-set_same, get_or_append_left, length-map, length-set, map-append}
 pub use Rattle.std.proofs.lemmas.List.Folds.{list_any_at}

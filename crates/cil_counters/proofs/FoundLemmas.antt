@@ -1,6 +1,5 @@
 -- An access that is in the table of one policy alone has a counter that isn't what it was.
-use Rattle.std.proofs.Common.{◌≡◌, ◌≢◌, ℕ, true, List, [], bytes_eq, length, nat_lt, Option, None, Some, position, refl, sym, ap, ◌∙◌}
-use Rattle.cil_counters.proofs.Common.{list_all, get_or_from_slice_get, has_name, count_of, is_in_table, keeps_type, Atom, rule_kind_of, RuleKind, Allow, AuditAllow, DontAudit, NeverAllow, SymbolKey, is_rule_below, meaning_in, Resolved, found-name, atom_of, name_at, atom_with, count_at, IsCounted}
+use Rattle.cil_counters.proofs.Common.{◌≡◌, ◌≢◌, ℕ, true, List, [], bytes_eq, length, nat_lt, Option, None, Some, position, refl, sym, ap, ◌∙◌, list_all, get_or_from_slice_get, has_name, count_of, is_in_table, keeps_type, Atom, rule_kind_of, RuleKind, Allow, AuditAllow, DontAudit, NeverAllow, SymbolKey, is_rule_below, meaning_in, Resolved, found-name, atom_of, name_at, atom_with, count_at, IsCounted}
 use Rattle.cil_specs.specs.Statements as spec
 use Rattle.cil_specs.specs.Statements.{allow, auditallow, dontaudit, neverallow}
 use Rattle.cil_table_updates.specs.Adjusted.{Counter}

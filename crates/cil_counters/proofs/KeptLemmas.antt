@@ -1,6 +1,6 @@
 -- What is counted by symbols, where names come in the place of names that the policy lacks.
-use Rattle.std.proofs.Common.{◌≡◌, ℕ, ◌+◌, ◌*◌, ◌&&◌, Bool, true, false, List, [], ◌∷◌, length, cond, count_by, bytes_eq, get_or, slice_get, Option, None, Some, is_some, position, Contains, refl, sym, ap, ◌∙◌, ◌≤◌, arith, true≢false}
-use Rattle.cil_counters.proofs.Common.{list_all, IsDistinct, and_parts, sum_by-cons, slice_get_within, get_or_from_slice_get, bytes_eq-Decides, AreTheSame, has_name, Meaning, is_in, keeps_type, keeps_attribute, HasSoundSets, SetStatement, holds_with, AreNumbersOf, any-position, SymbolKey, is_rule_below, meaning_in, sets_in, Resolved, found-name, AreCounts, AreKept, symbol-name, symbol-some, counted-named, names-apart, AreSymbolsOf, IsCounted, IsCountedBy}
+use Rattle.cil_counters.proofs.Common.{◌≡◌, ℕ, ◌+◌, ◌*◌, ◌&&◌, Bool, true, false, List, [], ◌∷◌, length, cond, count_by, bytes_eq, get_or, slice_get, Option, None, Some, is_some, position, refl, sym, ap, ◌∙◌, ◌≤◌, arith, true≢false, list_all, IsDistinct, and_parts, sum_by-cons, slice_get_within, get_or_from_slice_get, bytes_eq-Decides, AreTheSame, has_name, Meaning, is_in, keeps_type, keeps_attribute, HasSoundSets, SetStatement, holds_with, AreNumbersOf, any-position, SymbolKey, is_rule_below, meaning_in, sets_in, Resolved, found-name, AreCounts, AreKept, symbol-name, symbol-some, counted-named, names-apart, AreSymbolsOf, IsCounted, IsCountedBy}
+use Rattle.std.proofs.Common.{Contains}
 use Rattle.cil_specs.proofs.NamesLemmas.{contains-first, contains-other}
 use Rattle.cil_resolve.specs.Consistent.{is_consistent}
 use Rattle.cil_member_updates.specs.Counts.{one_if}

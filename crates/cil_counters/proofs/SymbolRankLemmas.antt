@@ -1,6 +1,5 @@
 -- The places of names by their symbols.
-use Rattle.std.proofs.Common.{◌≡◌, ◌⊎◌, ℕ, ◌+◌, ◌<◌, List, [], length, set, get_or, bytes_eq, position, slice_get, slice_index, None, Some, is_some, sym, ap, ◌∙◌, inl, inr, arith, true≢false}
-use Rattle.cil_counters.proofs.Common.{cases_eq, cases_lt, length-set, get_or-set_same, get_or-set_other, list_any_at, get_or_from_slice_get, same_Some, slice_get_within, slice_get-get_or, bytes_eq-Decides, any-position, AreNumbersOf, ArePlaces, symbol-name, symbol-some, AreApart, ArePut, AreRanks, IsPut}
+use Rattle.cil_counters.proofs.Common.{◌≡◌, ◌⊎◌, ℕ, ◌+◌, ◌<◌, List, [], length, set, get_or, bytes_eq, position, slice_get, slice_index, None, Some, is_some, sym, ap, ◌∙◌, inl, inr, arith, true≢false, cases_eq, cases_lt, length-set, get_or-set_same, get_or-set_other, list_any_at, get_or_from_slice_get, same_Some, slice_get_within, slice_get-get_or, bytes_eq-Decides, any-position, AreNumbersOf, ArePlaces, symbol-name, symbol-some, AreApart, ArePut, AreRanks, IsPut}
 use Rattle.cil_rules.proofs.ChangesLemmas.{name_at-place, number-within, places-length}
 use Rattle.cil_symbols.specs.Numbered as numbered
 

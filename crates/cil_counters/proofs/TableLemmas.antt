@@ -1,6 +1,6 @@
 -- The access table of a policy by full names, told by its counters.
-use Rattle.std.proofs.Common.{◌≡◌, ◌↔◌, ℕ, ◌<◌, false, cond, List, length, map, Contains, refl, sym, ap, subst, ◌∙◌, true≢false, arith}
-use Rattle.cil_counters.proofs.Common.{IsTrue, IsStrictlySortedBy, and_from, and_parts, lt-ltb, ltb-true, count_of, is_in_table, is_listed, AreAtoms, all_from_contains, any-map, any_from, any_from_map, any_to, contains_from, contains_to, rule_kind_of, RuleKind, Allow, AuditAllow, DontAudit, NeverAllow, SymbolKey, meaning_in, Resolved, atom_of, IsCounted, AreRanks}
+use Rattle.cil_counters.proofs.Common.{◌≡◌, ◌↔◌, ℕ, ◌<◌, false, cond, List, length, map, refl, sym, ap, subst, ◌∙◌, true≢false, arith, IsTrue, IsStrictlySortedBy, and_from, and_parts, lt-ltb, ltb-true, count_of, is_in_table, is_listed, AreAtoms, all_from_contains, any-map, any_from, any_from_map, any_to, contains_from, contains_to, rule_kind_of, RuleKind, Allow, AuditAllow, DontAudit, NeverAllow, SymbolKey, meaning_in, Resolved, atom_of, IsCounted, AreRanks}
+use Rattle.std.proofs.Common.{Contains}
 use Rattle.cil_specs.specs.Rule as spec
 use Rattle.cil_accesses.specs.declared.access.AccessNumbers.{AccessNumbers}
 use Rattle.cil_accesses.specs.Chunks.{numbers_cmp}

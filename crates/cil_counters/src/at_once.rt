@@ -1,10 +1,6 @@
 //! The violations of a policy that is compiled once, and whose counters are not kept.
 
-ghost use Rattle.std.specs.Prelude.{◌≡◌, length, IfOk};
-ghost use Rattle.std.specs.Rc.{rc_value};
-ghost use Rattle.cil_resolve.specs.Resolved.{meaning_in};
-ghost use Rattle.cil_resolve.specs.Sets.{sets_in};
-ghost use Rattle.cil_specs.specs.Violations.{AreViolations};
+ghost use Rattle.cil_counters.specs.Common.{◌≡◌, length, IfOk, rc_value, meaning_in, sets_in, AreViolations};
 
 use crate::counters::Counters;
 use cil_names::Seed;

@@ -1,26 +1,16 @@
 //! The counters of a policy.
 
-ghost use Rattle.std.specs.Prelude.{◌≡◌, ◌↔◌, ◌-◌, ◌<◌, ◌≤◌, ◌^◌, ℕ, List, bytes_eq, false, length, min, IfOk, IsTrue, None, OnOk};
+ghost use Rattle.cil_counters.specs.Common.{◌≡◌, ◌↔◌, ◌-◌, ◌<◌, ◌≤◌, ◌^◌, ℕ, List, bytes_eq, false, length, min, IfOk, IsTrue, None, OnOk, rc_value, is_in_table, is_member, differ, AreViolations, AreNumbersOf, meaning_in, name_in, sets_in, pairs_of, AreChangedMembers, count_with, had_named, has_named, steps_in, symbols_now, AreBounded, AreSettled, AreSymbolsOf, AreTakenBack, HasFewNames, HasNames, IsNow, WasBefore};
 ghost use Rattle.std.specs.List.{IsDistinct};
-ghost use Rattle.std.specs.Rc.{rc_value};
 ghost use Rattle.cil_delta_specs.specs.Work.{AdjustsFew, EvaluatesFew};
 ghost use Rattle.cil_member_rows.specs.Rows as member_rows;
-ghost use Rattle.cil_specs.specs.Meaning.{is_in_table};
 ghost use Rattle.cil_specs.specs.Report as report;
 ghost use Rattle.cil_specs.specs.Report.{AreAtoms, AreChanges};
-ghost use Rattle.cil_specs.specs.Members.{is_member};
-ghost use Rattle.cil_specs.specs.Sets.{differ};
-ghost use Rattle.cil_specs.specs.Violations.{AreViolations};
 ghost use Rattle.cil_member_updates.specs.Policy.{AreCounts};
-ghost use Rattle.cil_parse.specs.Lexicon.{AreNumbersOf};
 ghost use Rattle.cil_resolve.specs.Meter.{adjustments_in, evaluations_in};
-ghost use Rattle.cil_resolve.specs.Resolved.{meaning_in};
-ghost use Rattle.cil_resolve.specs.Sets.{name_in, sets_in};
 ghost use Rattle.cil_rules.specs.Rows.{listed};
 ghost use Rattle.cil_violations.specs.Rows.{hits};
 ghost use Rattle.cil_counters.specs.ChangeCounts.{CountsSome};
-ghost use Rattle.cil_counters.specs.ChangedMembers.{pairs_of, AreChangedMembers};
-ghost use Rattle.cil_counters.specs.Counted.{count_with, had_named, has_named, steps_in, symbols_now, AreBounded, AreSettled, AreSymbolsOf, AreTakenBack, HasFewNames, HasNames, IsNow, WasBefore};
 ghost use Rattle.cil_keyed_lines.specs.Keyed as access_tables;
 ghost use Rattle.cil_table_updates.specs.Policies.{count_named};
 

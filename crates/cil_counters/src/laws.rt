@@ -1,12 +1,7 @@
 //! What counters say by full names. The functions have no code.
 
-ghost use Rattle.std.specs.Prelude.{◌≡◌, ◌↔◌, ◌+◌, ◌≤◌, ℕ, List, IsTrue};
+ghost use Rattle.cil_counters.specs.Common.{◌≡◌, ◌↔◌, ◌+◌, ◌≤◌, ℕ, List, IsTrue, count_of, is_member, differ, meaning_in, atom_with, count_with, had_named, has_named, AreBounded, IsNow, WasBefore};
 ghost use Rattle.cil_delta_specs.specs.Dirty.{IsChanged};
-ghost use Rattle.cil_specs.specs.Meaning.{count_of};
-ghost use Rattle.cil_specs.specs.Members.{is_member};
-ghost use Rattle.cil_specs.specs.Sets.{differ};
-ghost use Rattle.cil_resolve.specs.Resolved.{meaning_in};
-ghost use Rattle.cil_counters.specs.Counted.{atom_with, count_with, had_named, has_named, AreBounded, IsNow, WasBefore};
 
 use crate::counters::Counters;
 use cil_resolve::{

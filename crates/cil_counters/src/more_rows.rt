@@ -1,7 +1,6 @@
 //! Rows for the symbols that came.
 
-ghost use Rattle.std.specs.Prelude.{◌≡◌, ◌≤◌, ℕ, OnOk};
-ghost use Rattle.cil_member_rows.specs.Rows.{count_before, count_now, rows_in};
+ghost use Rattle.cil_counters.specs.Common.{◌≡◌, ◌≤◌, ℕ, OnOk, count_before, count_now, rows_in};
 
 use cil_member_rows::MemberRows;
 use std::alloc::{AllocError, Allocator};

@@ -1,8 +1,6 @@
 //! What a policy is by symbols.
 
-ghost use Rattle.std.specs.Prelude.{◌≤◌, length, IfOk};
-ghost use Rattle.cil_parse.specs.Lexicon.{AreNumbersOf};
-ghost use Rattle.cil_counters.specs.Counted.{AreSymbolsOf};
+ghost use Rattle.cil_counters.specs.Common.{◌≤◌, length, IfOk, AreNumbersOf, AreSymbolsOf};
 
 use cil_member_updates::KeptTypes;
 use cil_resolve::Resolved;

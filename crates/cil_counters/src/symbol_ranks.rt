@@ -1,7 +1,6 @@
 //! The places of a policy's names in a list, by the symbols of the names.
 
-ghost use Rattle.std.specs.Prelude.{◌≡◌, ◌<◌, ℕ, List, length, slice_index, IfOk};
-ghost use Rattle.cil_parse.specs.Lexicon.{AreNumbersOf};
+ghost use Rattle.cil_counters.specs.Common.{◌≡◌, ◌<◌, ℕ, List, length, slice_index, IfOk, AreNumbersOf};
 ghost use Rattle.cil_rules.specs.Ranks.{IsMerged};
 ghost use Rattle.cil_counters.specs.SymbolRanks.{ArePut, AreRanks};
 

@@ -1,6 +1,5 @@
 -- One edge more.
-use Rattle.std.proofs.Common.{◌≡◌, ◌⊎◌, ◌↔◌, inl, inr, ℕ, zero, suc, List, [], ◌∷◌, ◌++◌, set, Some, slice_get, Vec, Contains, refl, sym, ap, ◌∙◌, subst, arith}
-use Rattle.cil_dependence.proofs.Common.{Contains-push, Contains-push_cases, Contains-append_left, none-some, same_Some, IsEdge}
+use Rattle.cil_dependence.proofs.Common.{◌≡◌, ◌⊎◌, ◌↔◌, inl, inr, ℕ, zero, suc, List, [], ◌∷◌, ◌++◌, set, Some, slice_get, Vec, Contains, refl, sym, ap, ◌∙◌, subst, arith, Contains-push, Contains-push_cases, Contains-append_left, none-some, same_Some, IsEdge}
 
 -- the same of nodes behind a first
 behind-more : {P Q R : Type 0} {a from : ℕ} → P ↔ (Q ⊎ ((a ≡ from) × R)) → P ↔ (Q ⊎ ((suc a ≡ suc from) × R))

@@ -1,6 +1,5 @@
 -- Walks from one node to another.
-use Rattle.std.proofs.Common.{◌≡◌, ℕ, zero, suc, ◌<◌, ◌≤◌, List, [], ◌∷◌, ◌++◌, length, Option, Some, slice_get, Vec, All, Contains, MatchOption, sym, subst, arith}
-use Rattle.cil_dependence.proofs.Common.{All-contains, IsEdge, AreNodes, LeadsThrough, Leads}
+use Rattle.cil_dependence.proofs.Common.{◌≡◌, ℕ, zero, suc, ◌<◌, ◌≤◌, List, [], ◌∷◌, ◌++◌, length, Option, Some, slice_get, Vec, All, Contains, MatchOption, sym, subst, arith, All-contains, IsEdge, AreNodes, LeadsThrough, Leads}
 
 -- the edges of a node are its list
 abbrev Has : {A : Type 0} → ℕ → Option (Vec ℕ A) → Type 0

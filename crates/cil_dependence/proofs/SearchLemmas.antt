@@ -1,6 +1,6 @@
 -- The search of all that a node leads to.
-use Rattle.std.proofs.Common.{◌≡◌, ◌⊎◌, ◌↔◌, inl, inr, ℕ, zero, suc, ◌+◌, ◌*◌, ◌<◌, ◌≤◌, Bool, true, false, not, cond, List, [], ◌∷◌, ◌++◌, length, get_or, set, replicate, sum_by, count_by, Some, slice_get, Vec, Contains, refl, sym, ap, ◌∙◌, subst, length-append, arith, true≢false}
-use Rattle.cil_dependence.proofs.Common.{cases_eq, get_or-set_other, get_or-set_same, length-replicate, length-set, Contains-push, Contains-push_cases, Contains-append_left, Contains-append_right, Contains-append_cases, slice_get_within, slice_get_read, get_or_from_slice_get, IsEdge, AreNodes, LeadsThrough, Leads}
+use Rattle.cil_dependence.proofs.Common.{◌≡◌, ◌⊎◌, ◌↔◌, inl, inr, ℕ, zero, suc, ◌+◌, ◌*◌, ◌<◌, ◌≤◌, Bool, true, false, not, cond, List, [], ◌∷◌, ◌++◌, length, get_or, set, replicate, sum_by, count_by, Some, slice_get, Vec, Contains, refl, sym, ap, ◌∙◌, subst, arith, true≢false, cases_eq, get_or-set_other, get_or-set_same, length-replicate, length-set, Contains-push, Contains-push_cases, Contains-append_left, Contains-append_right, Contains-append_cases, slice_get_within, slice_get_read, get_or_from_slice_get, IsEdge, AreNodes, LeadsThrough, Leads}
+use Rattle.std.proofs.Common.{length-append}
 use Rattle.std.proofs.lemmas.List.Sums.{sum_by-set, get_or-le-sum_by}
 use Rattle.cil_dependence.proofs.LeadsLemmas.{edge-listed, listed-edge, leads-edge, leads-join, leads-within, leads-keeps}
 

@@ -1,6 +1,5 @@
 -- What the steps of a walk do to it.
-use Rattle.std.proofs.Common.{◌≡◌, inl, inr, ℕ, ◌+◌, ◌-◌, ◌<◌, ◌≤◌, Some, List, [], ◌∷◌, ◌++◌, length, get_or, map, replicate, set, sum, sum_by, slice_get, Vec, Contains, refl, sym, ap, ◌∙◌, subst, arith}
-use Rattle.cil_dependence.proofs.Common.{cases_eq, get_or_default, get_or-map, get_or-set_other, get_or-set_same, length-map, Contains-get_or, slice_get-get_or, slice_get_read, slice_get_within, get_or_from_slice_get, New, Open, Done, IsCircular, AreNodes, IsEdge, Leads, EndsIn, HasKnown, IsStepped, IsWalk, IsWalking, StillKnows, steps_left, weight}
+use Rattle.cil_dependence.proofs.Common.{◌≡◌, inl, inr, ℕ, ◌+◌, ◌-◌, ◌<◌, ◌≤◌, Some, List, [], ◌∷◌, ◌++◌, length, get_or, map, replicate, set, sum, sum_by, slice_get, Vec, Contains, refl, sym, ap, ◌∙◌, subst, arith, cases_eq, get_or_default, get_or-map, get_or-set_other, get_or-set_same, length-map, Contains-get_or, slice_get-get_or, slice_get_read, slice_get_within, get_or_from_slice_get, New, Open, Done, IsCircular, AreNodes, IsEdge, Leads, EndsIn, HasKnown, IsStepped, IsWalk, IsWalking, StillKnows, steps_left, weight}
 use Rattle.cil_dependence.specs.declared.order.State.{State}
 use Rattle.cil_dependence.specs.declared.order.Walk.{Walk}
 use Rattle.cil_dependence.proofs.LeadsLemmas.{listed-edge}

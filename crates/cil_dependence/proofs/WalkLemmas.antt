@@ -1,6 +1,6 @@
 -- A walk in depth: the nodes that are done stand in the order of dependence, and the open ones on one path.
-use Rattle.std.proofs.Common.{◌≡◌, ◌≢◌, inl, inr, ℕ, zero, suc, ◌+◌, ◌<◌, ◌≤◌, Some, List, [], ◌∷◌, ◌++◌, length, get_or, set, replicate, sum, sum_by, slice_get, Vec, Contains, refl, sym, ap, ◌∙◌, subst, length-append, arith}
-use Rattle.cil_dependence.proofs.Common.{cases_eq, cases_lt, get_or_append_left, get_or_default, get_or-set_other, get_or-set_same, length-replicate, length-set, Contains-push, Contains-push_cases, Contains-append_left, slice_get_within, same_Some, New, Open, Done, IsOrder, IsCircular, IsEdge, AreNodes, LeadsThrough, Leads, IsWalk, weight}
+use Rattle.cil_dependence.proofs.Common.{◌≡◌, ◌≢◌, inl, inr, ℕ, zero, suc, ◌+◌, ◌<◌, ◌≤◌, Some, List, [], ◌∷◌, ◌++◌, length, get_or, set, replicate, sum, sum_by, slice_get, Vec, Contains, refl, sym, ap, ◌∙◌, subst, arith, cases_eq, cases_lt, get_or_append_left, get_or_default, get_or-set_other, get_or-set_same, length-replicate, length-set, Contains-push, Contains-push_cases, Contains-append_left, slice_get_within, same_Some, New, Open, Done, IsOrder, IsCircular, IsEdge, AreNodes, LeadsThrough, Leads, IsWalk, weight}
+use Rattle.std.proofs.Common.{length-append}
 use Rattle.std.proofs.lemmas.List.Sums.{sum_by-set}
 use Rattle.std.proofs.Math.Seq.{get_or-append_seam}
 use Rattle.cil_dependence.specs.declared.order.State.{State}

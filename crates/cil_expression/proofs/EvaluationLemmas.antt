@@ -1,8 +1,7 @@
 -- Evaluation of the expression in front.
-use Rattle.std.proofs.Common.{◌≡◌, length, Bool, true, false, not, ◌&&◌, ◌||◌, List, [], ◌∷◌, ◌++◌, Contains, refl, sym, ap, ◌∙◌, subst, arith, append_assoc}
+use Rattle.cil_expression.proofs.Common.{◌≡◌, length, Bool, true, false, not, ◌&&◌, ◌||◌, List, [], ◌∷◌, ◌++◌, Contains, refl, sym, ap, ◌∙◌, subst, arith, append_assoc, Expr, every, named, opposite, both, either, one_of, nothing, elements, leaves, contains-first, SetNode, nodes_of, holds_by, Answers}
 use Rattle.std.proofs.Math.Bool.{beq}
 use Rattle.std.proofs.lemmas.List.Elements.{Contains-append_left, Contains-append_right}
-use Rattle.cil_expression.proofs.Common.{Expr, every, named, opposite, both, either, one_of, nothing, elements, leaves, contains-first, SetNode, nodes_of, holds_by, Answers}
 use Rattle.cil_specs.specs.Sets.{differ}
 use Rattle.cil_parse.specs.declared.row.SetNode.TheVariants as nodes
 use Rattle.cil_expression.specs.declared.expression.Element.{Element}

@@ -1,7 +1,6 @@
 -- What an expression holds goes by the values of its leaves.
-use Rattle.std.proofs.Common.{◌≡◌, ℕ, Bool, false, not, ◌&&◌, ◌||◌, List, [], Contains, refl, ap, ◌∙◌}
+use Rattle.cil_expression.proofs.Common.{◌≡◌, ℕ, Bool, false, not, ◌&&◌, ◌||◌, List, [], Contains, refl, ap, ◌∙◌, Expr, every, named, opposite, both, either, one_of, nothing, elements, leaves, map_leaves, contains-first, holds_by}
 use Rattle.std.proofs.lemmas.List.Elements.{Contains-append_left, Contains-append_right}
-use Rattle.cil_expression.proofs.Common.{Expr, every, named, opposite, both, either, one_of, nothing, elements, leaves, map_leaves, contains-first, holds_by}
 use Rattle.cil_specs.specs.Rule as spec
 use Rattle.cil_specs.specs.Sets.{differ, element_holds, expr_holds}
 

@@ -1,6 +1,5 @@
 -- Expressions that are the same come to one, by whatever those of their leaves that are the same lead to.
-use Rattle.std.proofs.Common.{◌≡◌, Bool, true, false, ◌&&◌, List, [], ◌∷◌, map, length, refl, sym, ap, ◌∙◌, arith, true≢false}
-use Rattle.cil_expression.proofs.Common.{Expr, leaves, map_leaves, SetNode, holds_by, all_same, same_node, are_same, nodes_of, expr_of}
+use Rattle.cil_expression.proofs.Common.{◌≡◌, Bool, true, false, ◌&&◌, List, [], ◌∷◌, map, length, refl, sym, ap, ◌∙◌, arith, true≢false, Expr, leaves, map_leaves, SetNode, holds_by, all_same, same_node, are_same, nodes_of, expr_of}
 use Rattle.cil_specs.proofs.MeansLemmas.{leaves-mapped}
 use Rattle.cil_parse.specs.declared.row.SetNode.TheVariants as nodes
 use Rattle.cil_expression.proofs.HoldsLemmas.{holds-mapped}

@@ -1,8 +1,7 @@
 -- Names that are the same in pairs.
-use Rattle.std.proofs.Common.{◌≡◌, Bool, true, false, ◌&&◌, List, [], ◌∷◌, Contains, length, ◌==◌, refl, sym, ap, ◌∙◌, subst, arith}
+use Rattle.cil_expression.proofs.Common.{◌≡◌, Bool, true, false, ◌&&◌, List, [], ◌∷◌, Contains, length, ◌==◌, refl, sym, ap, ◌∙◌, subst, arith, SetNode, contains-first, contains-other, all_same, same_node, AnswersPairs}
 use Rattle.std.proofs.Math.Dec.{eqb-suc-zero}
 use lib.Pointwise.{pointwise}
-use Rattle.cil_expression.proofs.Common.{SetNode, contains-first, contains-other, all_same, same_node, AnswersPairs}
 use Rattle.cil_parse.specs.declared.row.SetNode.TheVariants as nodes
 use Rattle.cil_parse.specs.contracts.row.SetNodePartialEq.TheImpl as derived
 

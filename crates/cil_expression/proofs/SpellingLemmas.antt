@@ -1,8 +1,7 @@
 -- The nodes and the leaves of an expression spell it.
-use Rattle.std.proofs.Common.{◌≡◌, ℕ, zero, suc, ◌+◌, List, [], ◌∷◌, ◌++◌, length, map, refl, sym, ap, ◌∙◌, arith, append_assoc, append-nil}
+use Rattle.cil_expression.proofs.Common.{◌≡◌, ℕ, zero, suc, ◌+◌, List, [], ◌∷◌, ◌++◌, length, map, refl, sym, ap, ◌∙◌, arith, append_assoc, append-nil, Expr, WordExpr, every, named, opposite, both, either, one_of, nothing, elements, leaves, map_leaves, SetNode, with_one, with_two, first_or_nothing, exprs_of, expr_of, nodes_of, IsSpelt, IsWhole}
 use Rattle.std.proofs.lemmas.List.{length-append}
 use Rattle.cil_specs.specs.Names.{Word}
-use Rattle.cil_expression.proofs.Common.{Expr, WordExpr, every, named, opposite, both, either, one_of, nothing, elements, leaves, map_leaves, SetNode, with_one, with_two, first_or_nothing, exprs_of, expr_of, nodes_of, IsSpelt, IsWhole}
 use Rattle.cil_specs.proofs.MeansLemmas.{leaves-mapped}
 use Rattle.cil_parse.specs.Forms.{expr_nodes}
 use Rattle.cil_parse.specs.declared.row.SetNode.TheVariants as nodes

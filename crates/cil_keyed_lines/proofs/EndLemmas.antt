@@ -1,7 +1,6 @@
 -- Keys that are taken out with their lines, and the counters of the others.
-use Rattle.std.proofs.Common.{◌≡◌, ◌≢◌, ◌⊎◌, ℕ, ◌+◌, ◌-◌, ◌*◌, ◌%◌, ◌<◌, ◌≤◌, ◌==◌, Bool, true, false, cond, if◌then◌else◌, List, [], ◌∷◌, ◌++◌, length, get_or, set, take, position, slice_get, Option, None, Some, IfSome, bit_and, w64, refl, sym, ap, ◌∙◌, true≢false, inl, inr, arith, ◌^◌, eq-eqb, ◌||◌}
+use Rattle.cil_keyed_lines.proofs.Common.{◌≡◌, ◌≢◌, ◌⊎◌, ℕ, ◌+◌, ◌-◌, ◌*◌, ◌%◌, ◌<◌, ◌≤◌, ◌==◌, Bool, true, false, cond, if◌then◌else◌, List, [], ◌∷◌, ◌++◌, length, get_or, set, take, position, slice_get, Option, None, Some, IfSome, bit_and, w64, refl, sym, ap, ◌∙◌, true≢false, inl, inr, arith, ◌^◌, eq-eqb, ◌||◌, list_any, IsDistinct, swap_remove, falls, has_line, hit_at, State, HasCount, AreLeft, lines_in, count_past, hit_nothing, hit_off, hit_on, SymbolKey, count_by, hit_of, is_key, with_key, AreAmong, AreCounted, AreHeld, AreKeyed, ArePaired}
 use Rattle.std.specs.Int.{bit_not, bit_at}
-use Rattle.cil_keyed_lines.proofs.Common.{list_any, IsDistinct, swap_remove, falls, has_line, hit_at, State, HasCount, AreLeft, lines_in, count_past, hit_nothing, hit_off, hit_on, SymbolKey, count_by, hit_of, is_key, with_key, AreAmong, AreCounted, AreHeld, AreKeyed, ArePaired}
 use Rattle.std.proofs.lemmas.Bool.{cases_eq, cases_lt, ne_eqb}
 use Rattle.std.proofs.lemmas.List.{get_or_default, length-append, length-set, length-take-le, get_or-take, get_or-set_same, get_or-set_other, get_or_at}
 use Rattle.std.proofs.lemmas.List.Folds.{list_any-append, list_any_at}

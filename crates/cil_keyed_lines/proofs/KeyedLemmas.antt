@@ -1,7 +1,6 @@
 -- The counters of keys, by the places of their lines.
-use Rattle.std.proofs.Common.{zero, suc, ◌≡◌, ◌≢◌, ◌⊎◌, ℕ, ◌+◌, ◌/◌, ◌%◌, ◌^◌, ◌<◌, ◌≤◌, ◌==◌, ◌&&◌, Bool, true, false, cond, if◌then◌else◌, nat_lt, List, [], ◌∷◌, ◌++◌, length, get_or, position, slice_get, bit_and, w64, Option, None, Some, Result, Ok, Err, MatchOption, OnOk, OnErr, refl, sym, ap, ◌∙◌, true≢false, inl, inr, arith}
+use Rattle.cil_keyed_lines.proofs.Common.{zero, suc, ◌≡◌, ◌≢◌, ◌⊎◌, ℕ, ◌+◌, ◌/◌, ◌%◌, ◌^◌, ◌<◌, ◌≤◌, ◌==◌, ◌&&◌, Bool, true, false, cond, if◌then◌else◌, nat_lt, List, [], ◌∷◌, ◌++◌, length, get_or, position, slice_get, bit_and, w64, Option, None, Some, Result, Ok, Err, MatchOption, OnOk, OnErr, refl, sym, ap, ◌∙◌, true≢false, inl, inr, arith, list_any, position_or_len, IsDistinct, hit_at, State, hit_in, hit_nothing, hit_off, same_counts, SymbolKey, Keyed, AreKeyed, IsLineOf, IsNoLine, NoneCounted, before_at, count_by, hit_of, is_key, is_kind, now_at, with_key}
 use Rattle.std.specs.Int.{bit_not}
-use Rattle.cil_keyed_lines.proofs.Common.{list_any, position_or_len, IsDistinct, hit_at, State, hit_in, hit_nothing, hit_off, same_counts, SymbolKey, Keyed, AreKeyed, IsLineOf, IsNoLine, NoneCounted, before_at, count_by, hit_of, is_key, is_kind, now_at, with_key}
 use Rattle.std.specs.Option.{option_map_or}
 use Rattle.std.proofs.lemmas.Bool.{cases_eq, cases_lt, eqb-true, eq-eqb, ltb-false, lt-ltb}
 use Rattle.std.proofs.lemmas.List.{length-append}

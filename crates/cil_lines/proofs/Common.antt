@@ -6,6 +6,7 @@ unfoldable pub use Rattle.cil_lines.specs.Limit.{AreBelow, has_place, limit, lim
 pub use Rattle.cil_lines.specs.Line.{Counters, HasRoom, IsPresence, total, value}
 unfoldable pub use Rattle.cil_lines.specs.Line.{count_of, hit}
 pub use Rattle.cil_lines.specs.declared.digit.Entry.{Entry}
+pub use Rattle.std.proofs.Common.{Err, List, None, Ok, OnErr, OnOk, Option, Result, Some, [], ap, arith, bit_and, bit_or, bit_xor, drop, eq-eqb, false, get_or, if◌then◌else◌, inl, inr, length, ltb, max, min, pow-suc, refl, rules, set, subst, suc, sym, take, true, vec_len, w64, zero, ℕ, ◌%◌, ◌*◌, ◌++◌, ◌+◌, ◌-◌, ◌/◌, ◌<◌, ◌==◌, ◌^◌, ◌∙◌, ◌∷◌, ◌≡◌, ◌≢◌, ◌≤◌}
 pub use Rattle.std.proofs.Math.ListN.{drop_of_length-le, get_or-eq_default, length-set}
 pub use Rattle.std.proofs.lemmas.Bool.{cases_Bool, cases_eq, cases_lt, le-ltb, lt-ltb, ltb-false, ltb-true, ne_eqb}
 pub use Rattle.std.proofs.lemmas.List.{get_or-set_other, get_or-set_same, get_or-take, get_or_default, length-take, length-take-le, with_items_is}

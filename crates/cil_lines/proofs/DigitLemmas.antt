@@ -1,6 +1,5 @@
 -- The bits of a digit, and which words have a place in it.
-use Rattle.std.proofs.Common.{◌≡◌, ◌≢◌, ℕ, ◌<◌, ◌≤◌, List, [], length, get_or, set, ltb, sym, ap, ◌∙◌, arith, if◌then◌else◌, inl, inr, Result, Ok, Err, OnOk}
-use Rattle.cil_lines.proofs.Common.{cases_lt, lt-ltb, le-ltb, get_or-set_same, get_or-set_other, length-set, insert, Entry, Words, bits_in, bits_of, HasPlace, Rises, IsEntry, IsGap}
+use Rattle.cil_lines.proofs.Common.{◌≡◌, ◌≢◌, ℕ, ◌<◌, ◌≤◌, List, [], length, get_or, set, ltb, sym, ap, ◌∙◌, arith, if◌then◌else◌, inl, inr, Result, Ok, Err, OnOk, cases_lt, lt-ltb, le-ltb, get_or-set_same, get_or-set_other, length-set, insert, Entry, Words, bits_in, bits_of, HasPlace, Rises, IsEntry, IsGap}
 use Rattle.cil_lines.proofs.EntryLemmas.{bits_in-set_same, bits_in-set_other, bits_in-insert, bits_in-past, has_entry-at, has_entry-insert, no_entry-gap}
 
 -- what follows from a fact follows where there is no error

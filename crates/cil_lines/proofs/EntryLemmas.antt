@@ -1,6 +1,5 @@
 -- Entries of a digit, in the order of their words.
-use Rattle.std.proofs.Common.{zero, suc, ◌≡◌, ◌≢◌, ℕ, ◌+◌, ◌-◌, ◌<◌, ◌≤◌, ◌==◌, List, [], ◌∷◌, length, get_or, take, set, ltb, false, refl, sym, ap, subst, ◌∙◌, arith, eq-eqb, if◌then◌else◌, inl, inr}
-use Rattle.cil_lines.proofs.Common.{cases_eq, ne_eqb, le-ltb, get_or-set_same, get_or-set_other, insert, Entry, bits_in, Rises, HasEntry, IsEntry, IsGap}
+use Rattle.cil_lines.proofs.Common.{zero, suc, ◌≡◌, ◌≢◌, ℕ, ◌+◌, ◌-◌, ◌<◌, ◌≤◌, ◌==◌, List, [], ◌∷◌, length, get_or, take, set, ltb, false, refl, sym, ap, subst, ◌∙◌, arith, eq-eqb, if◌then◌else◌, inl, inr, cases_eq, ne_eqb, le-ltb, get_or-set_same, get_or-set_other, insert, Entry, bits_in, Rises, HasEntry, IsEntry, IsGap}
 
 abbrev entry : ℕ → ℕ → Entry
 entry w b = record { word = w; bits = b }

@@ -1,6 +1,5 @@
 -- Places of words without bits, which are given up.
-use Rattle.std.proofs.Common.{zero, suc, ◌≡◌, ◌≢◌, ℕ, ◌+◌, ◌-◌, ◌<◌, ◌≤◌, ◌==◌, ltb, min, List, [], ◌∷◌, length, get_or, take, refl, sym, ap, ◌∙◌, arith, if◌then◌else◌, inl, inr}
-use Rattle.cil_lines.proofs.Common.{cases_eq, cases_lt, get_or-take, length-take-le, bit_at-zero, same_from_bits, bit_at, remove, Entry, Words, bits_in, bits_of, Rises, HasEntry, HasPlace, IsEntry, limit, limit_of, AreBelow, value}
+use Rattle.cil_lines.proofs.Common.{zero, suc, ◌≡◌, ◌≢◌, ℕ, ◌+◌, ◌-◌, ◌<◌, ◌≤◌, ◌==◌, ltb, min, List, [], ◌∷◌, length, get_or, take, refl, sym, ap, ◌∙◌, arith, if◌then◌else◌, inl, inr, cases_eq, cases_lt, get_or-take, length-take-le, bit_at-zero, same_from_bits, bit_at, remove, Entry, Words, bits_in, bits_of, Rises, HasEntry, HasPlace, IsEntry, limit, limit_of, AreBelow, value}
 use Rattle.cil_lines.proofs.DigitLemmas.{dense_is, sparse_is}
 use Rattle.cil_lines.proofs.EntryLemmas.{bits-there, Rises-from}
 use Rattle.cil_lines.proofs.PlaceLemmas.{limit-more, limit-some}

@@ -1,6 +1,5 @@
 -- Counters by the digits of a line.
-use Rattle.std.proofs.Common.{zero, suc, ◌≡◌, ◌≢◌, ℕ, ◌+◌, ◌-◌, ◌*◌, ◌/◌, ◌%◌, ◌^◌, ◌<◌, ◌≤◌, List, [], ◌∷◌, ◌++◌, length, get_or, take, drop, set, min, refl, sym, ap, subst, ◌∙◌, arith, eq-eqb, if◌then◌else◌, bit_xor, bit_and, bit_or, inl, inr, pow-suc, Option, Some, None, Result, Ok, Err, OnErr}
-use Rattle.cil_lines.proofs.Common.{cases_eq, cases_lt, ne_eqb, bit_at_lowest, bit_at-suc, bit_at_xor, bit_at_and, bit_at_or, bit_at-lt, bit_at-zero, shr_and_one, bit_at, Words, bits_of, HasPlace, IsNext, Counters, value, total, count_of, hit, HasRoom, IsPresence}
+use Rattle.cil_lines.proofs.Common.{zero, suc, ◌≡◌, ◌≢◌, ℕ, ◌+◌, ◌-◌, ◌*◌, ◌/◌, ◌%◌, ◌^◌, ◌<◌, ◌≤◌, List, [], ◌∷◌, ◌++◌, length, get_or, take, drop, set, min, refl, sym, ap, subst, ◌∙◌, arith, eq-eqb, if◌then◌else◌, bit_xor, bit_and, bit_or, inl, inr, pow-suc, Option, Some, None, Result, Ok, Err, OnErr, cases_eq, cases_lt, ne_eqb, bit_at_lowest, bit_at-suc, bit_at_xor, bit_at_and, bit_at_or, bit_at-lt, bit_at-zero, shr_and_one, bit_at, Words, bits_of, HasPlace, IsNext, Counters, value, total, count_of, hit, HasRoom, IsPresence}
 use Rattle.std.specs.Int.Bits.{and_zero_r}
 
 -- ---- one digit of a list changes

@@ -1,6 +1,5 @@
 -- Places that a digit keeps, and the limits of counters by places.
-use Rattle.std.proofs.Common.{zero, suc, ◌≡◌, ℕ, ◌+◌, ◌*◌, ◌<◌, ◌≤◌, true, false, List, [], ◌∷◌, ◌++◌, length, get_or, set, refl, sym, ap, ◌∙◌, arith, eq-eqb, if◌then◌else◌, inl, inr}
-use Rattle.cil_lines.proofs.Common.{cases_eq, cases_lt, cases_Bool, ne_eqb, lt-ltb, le-ltb, insert, Entry, Words, Rises, HasEntry, HasPlace, has_entry, has_place, limit}
+use Rattle.cil_lines.proofs.Common.{zero, suc, ◌≡◌, ℕ, ◌+◌, ◌*◌, ◌<◌, ◌≤◌, true, false, List, [], ◌∷◌, ◌++◌, length, get_or, set, refl, sym, ap, ◌∙◌, arith, eq-eqb, if◌then◌else◌, inl, inr, cases_eq, cases_lt, cases_Bool, ne_eqb, lt-ltb, le-ltb, insert, Entry, Words, Rises, HasEntry, HasPlace, has_entry, has_place, limit}
 use Rattle.std.proofs.lemmas.List.{length-set}
 
 abbrev entry : ℕ → ℕ → Entry

@@ -1,6 +1,5 @@
 -- What a search by words finds among entries.
-use Rattle.std.proofs.Common.{◌≡◌, ◌≢◌, ℕ, ◌-◌, ◌<◌, ◌≤◌, List, length, get_or, ltb, max, true, false, ap, ◌∙◌, arith, inl, inr}
-use Rattle.cil_lines.proofs.Common.{cases_eq, ltb-true, ltb-false, get_or_default, Entry, bits_in, Rises, IsEntry, IsGap, IsLast}
+use Rattle.cil_lines.proofs.Common.{◌≡◌, ◌≢◌, ℕ, ◌-◌, ◌<◌, ◌≤◌, List, length, get_or, ltb, max, true, false, ap, ◌∙◌, arith, inl, inr, cases_eq, ltb-true, ltb-false, get_or_default, Entry, bits_in, Rises, IsEntry, IsGap, IsLast}
 use Rattle.std.specs.List.Sorted.{IsPartitionPoint, IsNonDecreasingBy}
 use Rattle.cil_lines.proofs.EntryLemmas.{Rises-strictly, Rises-last, bits_in-gap}
 

@@ -1,7 +1,6 @@
 -- Steps of the counters of a word within their limits.
-use Rattle.std.proofs.Common.{suc, ◌≡◌, ◌≢◌, ℕ, ◌+◌, ◌-◌, ◌*◌, ◌/◌, ◌%◌, ◌^◌, ◌<◌, ◌≤◌, List, [], ◌∷◌, length, get_or, drop, set, min, refl, sym, ap, subst, ◌∙◌, arith, eq-eqb, if◌then◌else◌, bit_xor, bit_and, inl, inr, pow-suc, w64}
+use Rattle.cil_lines.proofs.Common.{suc, ◌≡◌, ◌≢◌, ℕ, ◌+◌, ◌-◌, ◌*◌, ◌/◌, ◌%◌, ◌^◌, ◌<◌, ◌≤◌, List, [], ◌∷◌, length, get_or, drop, set, min, refl, sym, ap, subst, ◌∙◌, arith, eq-eqb, if◌then◌else◌, bit_xor, bit_and, inl, inr, pow-suc, w64, cases_eq, cases_lt, ne_eqb, bit_at_xor, bit_at_and, bit_at_not, bit_at_above, bit_at-lt, bit_at-zero, bit_at, bit_not, Words, bits_of, HasPlace, Counters, value, count_of, hit, HasRoom, limit, limit_of, AreBelow, CanRaise, CanLower}
 use Rattle.std.proofs.Math.Seq.{drop-cons}
-use Rattle.cil_lines.proofs.Common.{cases_eq, cases_lt, ne_eqb, bit_at_xor, bit_at_and, bit_at_not, bit_at_above, bit_at-lt, bit_at-zero, bit_at, bit_not, Words, bits_of, HasPlace, Counters, value, count_of, hit, HasRoom, limit, limit_of, AreBelow, CanRaise, CanLower}
 use Rattle.std.proofs.lemmas.Nat.{and_le_l, and_le_r}
 use Rattle.cil_lines.proofs.LineLemmas.{value-set, half_add, some_bit}
 use Rattle.cil_lines.proofs.PlaceLemmas.{limit-end, limit-some, limit-here, limit-more, place-limit}

@@ -1,6 +1,5 @@
 -- Set statements and rules of a resolved policy stand at spots of their own.
-use Rattle.std.proofs.Common.{◌≡◌, ◌∙◌, ℕ, zero, suc, ◌<◌, inl, inr, List, [], ◌∷◌, map, slice_get, AllPairs, Some, refl, sym, ap}
-use Rattle.cil_matching.proofs.Common.{IsStrictlySortedBy, Less, Equal, cases_order, tied_itself, none-some, same_Some, slice_get_within, get_or_from_slice_get, Rule, SetStatement, IsSameRule, IsSameSet, rule_cmp, rule_total, all-at, Spot, spot_cmp, set_spot, rule_spot, AreApart}
+use Rattle.cil_matching.proofs.Common.{◌≡◌, ◌∙◌, ℕ, zero, suc, ◌<◌, inl, inr, List, [], ◌∷◌, map, slice_get, AllPairs, Some, refl, sym, ap, IsStrictlySortedBy, Less, Equal, cases_order, tied_itself, none-some, same_Some, slice_get_within, get_or_from_slice_get, Rule, SetStatement, IsSameRule, IsSameSet, rule_cmp, rule_total, all-at, Spot, spot_cmp, set_spot, rule_spot, AreApart}
 use Rattle.cil_resolve.specs.Apart.{StandApart}
 use Rattle.cil_matching.proofs.MatchedLemmas.{from-mapped}
 

@@ -13,6 +13,7 @@ pub use Rattle.cil_specs.proofs.ViolationLemmas.{rule_total}
 pub use Rattle.cil_specs.specs.Report.{name_cmp}
 pub use Rattle.cil_specs.specs.Rule.{IsSameRule, IsSameSet, ResolvedTarget, Rule, RuleContent, SetStatement, a_type, an_attribute, at_element, at_itself, content_of, kind_index}
 pub use Rattle.cil_specs.specs.Violations.{rule_cmp}
+pub use Rattle.std.proofs.Common.{AllPairs, Bool, IsTrue, List, None, Option, Some, [], ap, arith, bytes_eq, cond, false, get_or, if◌then◌else◌, inl, inr, is_some, length, map, nat_lt, option_map, position, refl, set, slice_get, slice_index_or, subst, suc, sym, true, true≢false, zero, ℕ, ◌&&◌, ◌++◌, ◌+◌, ◌<◌, ◌==◌, ◌||◌, ◌↔◌, ◌∙◌, ◌∷◌, ◌≡◌, ◌≤◌}
 pub use Rattle.std.proofs.lemmas.Bool.{and_parts, cases_eq, cases_lt, cases_order, eq-eqb, eqb-true, ltb-true}
 pub use Rattle.std.proofs.lemmas.Cmp.{tied_itself}
 pub use Rattle.std.proofs.lemmas.List.{length-append, length-map, length-set, map-append}

@@ -1,6 +1,5 @@
 -- Rules say the same by their numbers where they do by their names.
-use Rattle.std.proofs.Common.{◌≡◌, ◌∙◌, ◌==◌, ◌↔◌, ℕ, zero, suc, ◌<◌, Bool, true, false, true≢false, ◌&&◌, nat_lt, List, [], ◌∷◌, length, map, slice_get, slice_index_or, Option, None, Some, refl, sym, ap, arith}
-use Rattle.cil_matching.proofs.Common.{list_all, and_parts, eqb-true, eq-eqb, ltb-true, length-map, slice_get-get_or, get_or_from_slice_get, a_type, an_attribute, ResolvedTarget, at_itself, at_element, RuleContent, content_of, kind_index, same-kind, is_that, is_number_of, is_element_by, is_target_by, ArePermissionsBy, SayTheSame, AreNumbers}
+use Rattle.cil_matching.proofs.Common.{◌≡◌, ◌∙◌, ◌==◌, ◌↔◌, ℕ, zero, suc, ◌<◌, Bool, true, false, true≢false, ◌&&◌, nat_lt, List, [], ◌∷◌, length, map, slice_get, slice_index_or, Option, None, Some, refl, sym, ap, arith, list_all, and_parts, eqb-true, eq-eqb, ltb-true, length-map, slice_get-get_or, get_or_from_slice_get, a_type, an_attribute, ResolvedTarget, at_itself, at_element, RuleContent, content_of, kind_index, same-kind, is_that, is_number_of, is_element_by, is_target_by, ArePermissionsBy, SayTheSame, AreNumbers}
 use Rattle.cil_specs.specs.Rule as spec
 use Rattle.cil_specs.proofs.Runs.{first_true, second_true, both_true}
 use Rattle.cil_text.specs.Image.{rule_kind_of}

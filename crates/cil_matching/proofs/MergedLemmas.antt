@@ -1,7 +1,6 @@
 -- Two lists in one strict order, gone along side by side.
-use Rattle.std.proofs.Common.{◌≡◌, ◌∙◌, ℕ, ◌+◌, ◌<◌, ◌≤◌, inl, inr, List, length, get_or, slice_get, Some, sym, ap, arith}
+use Rattle.cil_matching.proofs.Common.{◌≡◌, ◌∙◌, ℕ, ◌+◌, ◌<◌, ◌≤◌, inl, inr, List, length, get_or, slice_get, Some, sym, ap, arith, IsStrictlySortedBy, Ordering, Less, Equal, Greater, cases_lt, cases_order, same_Some, slice_get_within, slice_get-get_or, get_or_from_slice_get, AreBefore, IsFoundAt, IsMissedAt}
 use Rattle.std.specs.Cmp.{IsTotalOrder}
-use Rattle.cil_matching.proofs.Common.{IsStrictlySortedBy, Ordering, Less, Equal, Greater, cases_lt, cases_order, same_Some, slice_get_within, slice_get-get_or, get_or_from_slice_get, AreBefore, IsFoundAt, IsMissedAt}
 use Rattle.std.specs.Ordering.{ordering_reverse}
 use Rattle.std.proofs.lemmas.Map.Keys.{Less-from_sorted}
 

@@ -1,6 +1,5 @@
 -- The numbers of one policy's names in another one.
-use Rattle.std.proofs.Common.{◌≡◌, ◌∙◌, ◌↔◌, ℕ, ◌<◌, List, length, slice_get, slice_index_or, [], Option, None, Some, sym, ap, subst}
-use Rattle.cil_matching.proofs.Common.{IsStrictlySortedBy, Equal, tied_itself, none-some, same_Some, slice_get-get_or, name_cmp, name_total, AreSameAt, IsFoundAt, IsMissedAt}
+use Rattle.cil_matching.proofs.Common.{◌≡◌, ◌∙◌, ◌↔◌, ℕ, ◌<◌, List, length, slice_get, slice_index_or, [], Option, None, Some, sym, ap, subst, IsStrictlySortedBy, Equal, tied_itself, none-some, same_Some, slice_get-get_or, name_cmp, name_total, AreSameAt, IsFoundAt, IsMissedAt}
 use Rattle.std.proofs.lemmas.Map.Lookups.{exact_bytes}
 use Rattle.cil_matching.proofs.MergedLemmas.{found-place}
 

@@ -1,6 +1,5 @@
 -- Places that a walk passed over, found by the spots that stand there.
-use Rattle.std.proofs.Common.{◌≡◌, ◌∙◌, ℕ, ◌+◌, inl, inr, false, true≢false, List, [], ◌∷◌, ◌++◌, length, get_or, position, slice_get, Option, None, Some, is_some, refl, sym, ap, arith}
-use Rattle.cil_matching.proofs.Common.{list_any, cases_lt, length-append, slice_get_within, slice_get-get_or, get-append, get-last, ArePassed, Spot, same_spot, AreApart}
+use Rattle.cil_matching.proofs.Common.{◌≡◌, ◌∙◌, ℕ, ◌+◌, inl, inr, false, true≢false, List, [], ◌∷◌, ◌++◌, length, get_or, position, slice_get, Option, None, Some, is_some, refl, sym, ap, arith, list_any, cases_lt, length-append, slice_get_within, slice_get-get_or, get-append, get-last, ArePassed, Spot, same_spot, AreApart}
 use Rattle.std.specs.Option.{option_and_then}
 use Rattle.cil_bind.proofs.PositionLemmas.{any-position}
 use Rattle.cil_optionals.proofs.DependentLemmas.{got-push}

@@ -1,6 +1,5 @@
 -- Spots, each found among others.
-use Rattle.std.proofs.Common.{◌≡◌, ◌∙◌, ℕ, ◌==◌, ◌||◌, true, false, true≢false, List, [], ◌∷◌, ◌++◌, map, cond, position, get_or, slice_get, Option, None, Some, is_some, option_map, bytes_eq, suc, refl, sym, ap, if◌then◌else◌}
-use Rattle.cil_matching.proofs.Common.{list_any, eqb-true, eq-eqb, map-append, slice_get_within, slice_get-get_or, get_or_from_slice_get, Equal, name_cmp, then_equal, Spot, spot_of, same_spot, spot_cmp, AreApart}
+use Rattle.cil_matching.proofs.Common.{◌≡◌, ◌∙◌, ℕ, ◌==◌, ◌||◌, true, false, true≢false, List, [], ◌∷◌, ◌++◌, map, cond, position, get_or, slice_get, Option, None, Some, is_some, option_map, bytes_eq, suc, refl, sym, ap, if◌then◌else◌, list_any, eqb-true, eq-eqb, map-append, slice_get_within, slice_get-get_or, get_or_from_slice_get, Equal, name_cmp, then_equal, Spot, spot_of, same_spot, spot_cmp, AreApart}
 use Rattle.std.proofs.lemmas.List.Folds.{list_any_at}
 use Rattle.std.proofs.lemmas.List.Quantifiers.{position-Some}
 use Rattle.std.proofs.lemmas.Slice.Eq.{bytes_eq-Decides}

@@ -1,3 +1,4 @@
+pub mod Common
 pub mod Matching
 pub mod Spot
 pub mod Inverse

@@ -2,9 +2,8 @@
 
 ghost use Rattle.std.specs.Prelude.{◌≡◌, ◌<◌, ℕ, length, map, position as place_of, slice_get, Some, IfOk};
 ghost use Rattle.std.specs.Option.{option_and_then};
-ghost use Rattle.cil_resolve.specs.Sets.{sets_in};
+ghost use Rattle.cil_matching.specs.Common.{sets_in, same_spot, set_spot, spot_of};
 ghost use Rattle.cil_matching.specs.Passed.{ArePassed};
-ghost use Rattle.cil_matching.specs.Spot.{same_spot, set_spot, spot_of};
 
 use crate::inverse::{inverse, place_at};
 use crate::positions::{Position, Positions};

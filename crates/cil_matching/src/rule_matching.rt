@@ -1,9 +1,6 @@
 //! The rules of one policy that stand in another one.
 
-ghost use Rattle.std.specs.Prelude.{◌≡◌, ◌↔◌, ℕ, slice_get, Some, IfOk};
-ghost use Rattle.cil_specs.specs.Rule.{IsSameRule};
-ghost use Rattle.cil_resolve.specs.Resolved.{meaning_in};
-ghost use Rattle.cil_matching.specs.Matching.{AreMatched};
+ghost use Rattle.cil_matching.specs.Common.{◌≡◌, ◌↔◌, ℕ, slice_get, Some, IfOk, IsSameRule, meaning_in, AreMatched};
 
 use crate::inverse::{inverse, place_at};
 use crate::rule_places::rule_places;

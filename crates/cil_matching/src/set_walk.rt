@@ -1,10 +1,7 @@
 //! A walk along the set statements of two policies, side by side.
 
 ghost use Rattle.std.specs.Prelude.{◌≡◌, ◌↔◌, ◌<◌, ◌≤◌, ℕ, length, map, option_map, position as place_of, slice_get, Some, IfOk, IsTrue};
-ghost use Rattle.cil_specs.specs.Rule.{IsSameSet};
-ghost use Rattle.cil_resolve.specs.Sets.{sets_in};
-ghost use Rattle.cil_matching.specs.Matching.{AreRight, AreSameAt};
-ghost use Rattle.cil_matching.specs.Spot.{Spot, same_spot, set_spot, spot_of};
+ghost use Rattle.cil_matching.specs.Common.{IsSameSet, sets_in, AreRight, AreSameAt, Spot, same_spot, set_spot, spot_of};
 
 use crate::inverse::place_at;
 use crate::name_numbers::name_numbers;

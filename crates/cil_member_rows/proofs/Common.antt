@@ -6,5 +6,6 @@ pub use Rattle.cil_member_rows.specs.Rows.{AreMarked, IsChange, IsHeld, count_be
 pub use Rattle.cil_recorded.proofs.LogLemmas.{hit_in, hit_nothing, hit_off, hit_out}
 pub use Rattle.cil_recorded.specs.Log.{hit_at}
 pub use Rattle.cil_recorded.specs.Recorded.{State}
+pub use Rattle.std.proofs.Common.{Bool, IsTrue, List, [], ap, arith, bit_and, bit_xor, false, get_or, inl, inr, length, min, refl, rules, set, subst, sym, true, w64, ℕ, ◌%◌, ◌*◌, ◌+◌, ◌-◌, ◌/◌, ◌<◌, ◌^◌, ◌↔◌, ◌∙◌, ◌≡◌, ◌≢◌, ◌≤◌, ◌⊎◌}
 pub use Rattle.std.proofs.lemmas.Bool.{cases_eq, cases_lt, true≢false}
 pub use Rattle.std.specs.Int.{bit_at, bit_not}

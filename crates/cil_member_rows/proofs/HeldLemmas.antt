@@ -1,6 +1,5 @@
 -- The bits of who was a member, when counters move.
-use Rattle.std.proofs.Common.{◌≡◌, ◌≢◌, ℕ, ◌+◌, ◌*◌, ◌/◌, ◌<◌, ◌≤◌, List, length, min, sym, ap, ◌∙◌, arith, inl, inr}
-use Rattle.cil_member_rows.proofs.Common.{cases_eq, bit_at, IsPresence, hit_at, State, hit_off, hit_out, bits_at, words_of, rows_in, count_before, count_now, IsHeld}
+use Rattle.cil_member_rows.proofs.Common.{◌≡◌, ◌≢◌, ℕ, ◌+◌, ◌*◌, ◌/◌, ◌<◌, ◌≤◌, List, length, min, sym, ap, ◌∙◌, arith, inl, inr, cases_eq, bit_at, IsPresence, hit_at, State, hit_off, hit_out, bits_at, words_of, rows_in, count_before, count_now, IsHeld}
 use Rattle.std.proofs.lemmas.Nat.Bits.{bit_at-zero}
 
 -- a word by its number is the word of each of its targets

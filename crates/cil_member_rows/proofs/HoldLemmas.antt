@@ -1,6 +1,5 @@
 -- The bits at a settling, word by word.
-use Rattle.std.proofs.Common.{◌≡◌, ℕ, ◌+◌, ◌*◌, ◌<◌, ◌≤◌, List, length, refl, sym, ap, subst, ◌∙◌, arith, inl, inr}
-use Rattle.cil_member_rows.proofs.Common.{cases_eq, cases_lt, IsPresence, State, bits_at, words_of, count_now, IsHeld}
+use Rattle.cil_member_rows.proofs.Common.{◌≡◌, ℕ, ◌+◌, ◌*◌, ◌<◌, ◌≤◌, List, length, refl, sym, ap, subst, ◌∙◌, arith, inl, inr, cases_eq, cases_lt, IsPresence, State, bits_at, words_of, count_now, IsHeld}
 use Rattle.cil_recorded.specs.Places.{step_at, IsUntouched}
 use Rattle.cil_member_rows.proofs.BitLemmas.{none_behind}
 use Rattle.cil_member_rows.proofs.HeldLemmas.{presence_none, presence_same, word_of}

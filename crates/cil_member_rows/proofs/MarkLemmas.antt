@@ -1,6 +1,5 @@
 -- Marks of rows, when counters move.
-use Rattle.std.proofs.Common.{◌≡◌, ◌≢◌, ◌⊎◌, ◌↔◌, ℕ, ◌+◌, ◌/◌, ◌<◌, ◌≤◌, Bool, true, false, IsTrue, List, length, refl, sym, ap, subst, ◌∙◌, arith, inl, inr}
-use Rattle.cil_member_rows.proofs.Common.{cases_eq, true≢false, hit_at, State, hit_nothing, hit_off, hit_out, mark_at, rows_in, steps_in, count_before, count_now, AreMarked}
+use Rattle.cil_member_rows.proofs.Common.{◌≡◌, ◌≢◌, ◌⊎◌, ◌↔◌, ℕ, ◌+◌, ◌/◌, ◌<◌, ◌≤◌, Bool, true, false, IsTrue, List, length, refl, sym, ap, subst, ◌∙◌, arith, inl, inr, cases_eq, true≢false, hit_at, State, hit_nothing, hit_off, hit_out, mark_at, rows_in, steps_in, count_before, count_now, AreMarked}
 use Rattle.cil_member_rows.specs.Words.{AreSome, IsOutside}
 use Rattle.cil_member_rows.specs.declared.words.Words.{Words}
 

@@ -1,6 +1,5 @@
 -- Masks before and after, and what was a member and is.
-use Rattle.std.proofs.Common.{◌≡◌, ℕ, ◌-◌, ◌/◌, ◌%◌, ◌^◌, ◌<◌, bit_and, bit_xor, arith, inl, inr, w64}
-use Rattle.cil_member_rows.proofs.Common.{cases_eq, bit_not, hit, IsPresence, hit_at, hit_in, hit_off, IsChange}
+use Rattle.cil_member_rows.proofs.Common.{◌≡◌, ℕ, ◌-◌, ◌/◌, ◌%◌, ◌^◌, ◌<◌, bit_and, bit_xor, arith, inl, inr, w64, cases_eq, bit_not, hit, IsPresence, hit_at, hit_in, hit_off, IsChange}
 use Rattle.std.proofs.lemmas.Nat.Bits.{bit_at_and, bit_at_not, bit_at_xor, bit_at-lt}
 use Rattle.cil_lines.proofs.StepLemmas.{hit-here, hit-there}
 

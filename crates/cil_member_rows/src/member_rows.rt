@@ -1,11 +1,8 @@
 //! Rows of counters by type, with the bits of who was a member before the steps.
 
-ghost use Rattle.std.specs.Prelude.{◌≡◌, ◌↔◌, ℕ, ◌+◌, ◌-◌, ◌/◌, ◌<◌, ◌≤◌, ◌^◌, true, false, min, IfOk, IsTrue, MatchOption, OnErr, OnOk};
-ghost use Rattle.cil_lines.specs.Line.{hit, IsNextPresent, IsPresence, NonePresent};
+ghost use Rattle.cil_member_rows.specs.Common.{◌≡◌, ◌↔◌, ℕ, ◌+◌, ◌-◌, ◌/◌, ◌<◌, ◌≤◌, ◌^◌, true, false, min, IfOk, IsTrue, MatchOption, OnErr, OnOk, hit, IsNextPresent, IsPresence, NonePresent, hit_at, rows_in, IsChange, AreSome, IsOutside};
 ghost use Rattle.cil_recorded.specs.Differences.{appeared_at, change_key, gone_at, Ascends};
-ghost use Rattle.cil_recorded.specs.Log.{hit_at};
-ghost use Rattle.cil_member_rows.specs.Rows.{count_before, count_now, rows_in, steps_in, IsChange};
-ghost use Rattle.cil_member_rows.specs.Words.{AreSome, IsOutside};
+ghost use Rattle.cil_member_rows.specs.Rows.{count_before, count_now, steps_in};
 
 mod ended;
 mod settling;

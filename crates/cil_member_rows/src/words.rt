@@ -1,7 +1,6 @@
 //! Words that stand behind one another.
 
-ghost use Rattle.std.specs.Prelude.{◌≡◌, ◌↔◌, ◌+◌, ◌<◌, ◌^◌, ◌⊎◌, ℕ, IsTrue};
-ghost use Rattle.cil_member_rows.specs.Words.{AreSome, IsOutside};
+ghost use Rattle.cil_member_rows.specs.Common.{◌≡◌, ◌↔◌, ◌+◌, ◌<◌, ◌^◌, ◌⊎◌, ℕ, IsTrue, AreSome, IsOutside};
 
 /// The words from the first one to behind the last one; none where the end isn't behind the first one.
 #[derive(Clone, Copy)]

@@ -1,6 +1,5 @@
 -- Bits of words.
-use Rattle.std.proofs.Common.{◌≡◌, ◌≢◌, ◌==◌, ◌+◌, ◌*◌, ◌/◌, ◌%◌, ◌^◌, ◌<◌, ◌≤◌, ◌&&◌, ℕ, Bool, true, false, bit_and, bit_or, nat_lt, refl, sym, ap, ◌∙◌, inl, inr, arith, w64, below_more}
-use Rattle.cil_member_updates.proofs.Common.{cases_lt, eq-eqb, ne_eqb, le-ltb, shr_and_one, bit_at_and, bit_at_or, bit_at_set_same, bit_at-lt, bit_at-pow_same, bit_at-pow_other, bit_at-zero, and-false, bit_at, IsPresence, one_if, differ, AreBits, AreHeld, Cover}
+use Rattle.cil_member_updates.proofs.Common.{◌≡◌, ◌≢◌, ◌==◌, ◌+◌, ◌*◌, ◌/◌, ◌%◌, ◌^◌, ◌<◌, ◌≤◌, ◌&&◌, ℕ, Bool, true, false, bit_and, bit_or, nat_lt, refl, sym, ap, ◌∙◌, inl, inr, arith, w64, below_more, cases_lt, eq-eqb, ne_eqb, le-ltb, shr_and_one, bit_at_and, bit_at_or, bit_at_set_same, bit_at-lt, bit_at-pow_same, bit_at-pow_other, bit_at-zero, and-false, bit_at, IsPresence, one_if, differ, AreBits, AreHeld, Cover}
 
 pub cover-first : (test : ℕ → Bool) (word one other : ℕ) → Cover test word one → Cover test word (bit_or one other)
 cover-first test word one other covers b within none = covers b within (omega (arith, none, bit_at_or one other b))

@@ -1,6 +1,6 @@
 -- What a set statement gives anew it holds, and held it not in the old policy.
-use Rattle.std.proofs.Common.{◌≡◌, ◌<◌, ◌&&◌, ℕ, Bool, true, false, List, Some, bytes_eq, slice_get, refl, sym, ap, ◌∙◌, subst, arith, true≢false}
-use Rattle.cil_member_updates.proofs.Common.{Matched, meaning_in, Resolved, one_if, set_at, differ, across-some, Comes, IsHeld, IsMovedAt, holds, is_of, of_name, given_by, stayed, given}
+use Rattle.cil_member_updates.proofs.Common.{◌≡◌, ◌<◌, ◌&&◌, ℕ, Bool, true, false, List, Some, bytes_eq, slice_get, refl, sym, ap, ◌∙◌, subst, arith, Matched, meaning_in, Resolved, one_if, set_at, differ, across-some, Comes, IsHeld, IsMovedAt, holds, is_of, of_name, given_by, stayed, given}
+use Rattle.std.proofs.Common.{true≢false}
 
 module _ {A B : Type 0} (symbols : List (List ℕ)) (old : Resolved A) (new : Resolved B) (m : Matched) where
   pub comes-held : (j t : ℕ) → Comes symbols old new m j t → IsHeld symbols (meaning_in new) (set_at new j) t

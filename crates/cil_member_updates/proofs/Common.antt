@@ -33,6 +33,7 @@ pub use Rattle.cil_sums.proofs.SumLemmas.{across-none, across-some, alone-most, 
 pub use Rattle.cil_sums.proofs.WithinLemmas.{up_to-add, up_to-skip, up_to-some, within-both, within-by, within-either, within-first, within-map, within-next, within-none, within-weaker}
 pub use Rattle.cil_sums.specs.Rises.{RisesBy, RisesWithin, up_to}
 pub use Rattle.cil_sums.specs.Sums.{ArePlaces, across, alone, sum_below}
+pub use Rattle.std.proofs.Common.{Bool, IsTrue, List, None, Option, Some, [], add-one, ap, arith, below_more, bit_and, bit_or, bit_xor, bytes_eq, cond, count_by, false, get_or, get_or-set_other, get_or-set_same, inl, inr, length, map, min, nat_lt, of_calls, option_map, refl, replicate, rules, set, slice_get, slice_index, subst, suc, sym, take, true, w64, zero, zero-add, ℕ, ◌%◌, ◌&&◌, ◌*◌, ◌++◌, ◌+◌, ◌-◌, ◌/◌, ◌<◌, ◌==◌, ◌^◌, ◌||◌, ◌∙◌, ◌∷◌, ◌≡◌, ◌≢◌, ◌≤◌, ◌⊎◌}
 pub use Rattle.std.proofs.Math.Bool.{and-false, or-false, or-true}
 pub use Rattle.std.proofs.lemmas.Bool.{and_parts, cases_Bool, cases_eq, cases_lt, eq-eqb, eqb-true, le-ltb, lt-ltb, ltb-true, ne_eqb, or_parts, true≢false}
 pub use Rattle.std.proofs.lemmas.List.{length-append, length-map, length-set, take_all}

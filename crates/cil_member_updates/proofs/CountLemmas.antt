@@ -1,6 +1,6 @@
 -- How many set statements make a type a member.
-use Rattle.std.proofs.Common.{zero-add, ◌≡◌, ℕ, ◌+◌, Bool, true, false, cond, ◌||◌, List, [], ◌∷◌, Contains, count_by, nat_lt, refl, sym, ap, ◌∙◌, subst, true≢false, arith}
-use Rattle.cil_member_updates.proofs.Common.{list_any, lt-ltb, AreTheSame, Meaning, is_member, HasSoundSets, SetStatement, contains-middle, gives_member, gives_count}
+use Rattle.cil_member_updates.proofs.Common.{zero-add, ◌≡◌, ℕ, ◌+◌, Bool, true, false, cond, ◌||◌, List, [], ◌∷◌, count_by, nat_lt, refl, sym, ap, ◌∙◌, subst, arith, list_any, lt-ltb, AreTheSame, Meaning, is_member, HasSoundSets, SetStatement, contains-middle, gives_member, gives_count}
+use Rattle.std.proofs.Common.{Contains, true≢false}
 use Rattle.std.proofs.lemmas.List.Sums.{sum_by-cons}
 use Rattle.cil_specs.proofs.DependsLemmas.{any-contained}
 use Rattle.cil_specs.proofs.MemberLemmas.{member-fixed}

@@ -1,6 +1,6 @@
 -- Set statements are evaluated at dirty pairs alone, twice at most, and for each member gained at least once.
-use Rattle.std.proofs.Common.{◌≡◌, ◌≢◌, ◌⊎◌, ◌<◌, ◌≤◌, ◌&&◌, ℕ, Bool, true, false, List, [], ◌++◌, get_or, length, map, nat_lt, slice_get, bytes_eq, count_by, Option, None, Some, IsTrue, refl, sym, ap, ◌∙◌, subst, inl, inr, arith, true≢false}
-use Rattle.cil_member_updates.proofs.Common.{All, AllPairs, Contains, IsDistinct, cases_eq, cases_lt, lt-ltb, length-append, length-map, All-append, All-contains, All-map, Contains-get_or, get_or_from_slice_get, none-some, same_Some, slice_get-get_or, slice_get_read, bytes_eq-Decides, AreMatched, Matched, AreNumbersOf, meaning_in, sets_in, Resolved, one_if, no_set, set_at, AreTheSame, has_name, keeps_type, Meaning, is_member, keeps_attribute, HasSoundSets, IsSameSet, SetStatement, sum_below, across-none, across-some, sum-differs, sum-part, sum-zero, EvaluatesGone, EvaluatesNew, IsKept, MayGo, MayTurn, gives, holds, is_of, given_by, stayed, given}
+use Rattle.cil_member_updates.proofs.Common.{◌≡◌, ◌≢◌, ◌⊎◌, ◌<◌, ◌≤◌, ◌&&◌, ℕ, Bool, true, false, List, [], ◌++◌, get_or, length, map, nat_lt, slice_get, bytes_eq, count_by, Option, None, Some, IsTrue, refl, sym, ap, ◌∙◌, subst, inl, inr, arith, All, AllPairs, Contains, IsDistinct, cases_eq, cases_lt, lt-ltb, length-append, length-map, All-append, All-contains, All-map, Contains-get_or, get_or_from_slice_get, none-some, same_Some, slice_get-get_or, slice_get_read, bytes_eq-Decides, AreMatched, Matched, AreNumbersOf, meaning_in, sets_in, Resolved, one_if, no_set, set_at, AreTheSame, has_name, keeps_type, Meaning, is_member, keeps_attribute, HasSoundSets, IsSameSet, SetStatement, sum_below, across-none, across-some, sum-differs, sum-part, sum-zero, EvaluatesGone, EvaluatesNew, IsKept, MayGo, MayTurn, gives, holds, is_of, given_by, stayed, given}
+use Rattle.std.proofs.Common.{true≢false}
 use Rattle.cil_delta_specs.specs.Dirty.{AreGained, HasSet, IsDirtyPair}
 use Rattle.cil_delta_specs.specs.Work.{raised, EvaluatesFew}
 use Rattle.cil_resolve.specs.Apart.{StandApart}

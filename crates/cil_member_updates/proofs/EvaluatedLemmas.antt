@@ -1,6 +1,6 @@
 -- Where a set statement is evaluated: at bits of a word, at the symbols of words, and why.
-use Rattle.std.proofs.Common.{◌≡◌, ◌⊎◌, ◌==◌, ◌+◌, ◌*◌, ◌/◌, ◌%◌, ◌<◌, ◌&&◌, ◌||◌, ℕ, Bool, true, false, List, length, bit_and, nat_lt, refl, sym, ap, ◌∙◌, subst, inl, inr, arith, true≢false}
-use Rattle.cil_member_updates.proofs.Common.{bit_at, cases_eq, cases_lt, eq-eqb, eqb-true, ltb-true, lt-ltb, bit_at_and, bit_at-lt, bit_at-zero, slice_get_past, Meaning, SetStatement, differ, one_if, up_to, RisesBy, RisesWithin, up_to-some, within-both, within-by, within-either, within-map, within-none, within-weaker, AreBits, Cover, is_asked, InWord, holds}
+use Rattle.cil_member_updates.proofs.Common.{◌≡◌, ◌⊎◌, ◌==◌, ◌+◌, ◌*◌, ◌/◌, ◌%◌, ◌<◌, ◌&&◌, ◌||◌, ℕ, Bool, true, false, List, length, bit_and, nat_lt, refl, sym, ap, ◌∙◌, subst, inl, inr, arith, bit_at, cases_eq, cases_lt, eq-eqb, eqb-true, ltb-true, lt-ltb, bit_at_and, bit_at-lt, bit_at-zero, slice_get_past, Meaning, SetStatement, differ, one_if, up_to, RisesBy, RisesWithin, up_to-some, within-both, within-by, within-either, within-map, within-none, within-weaker, AreBits, Cover, is_asked, InWord, holds}
+use Rattle.std.proofs.Common.{true≢false}
 use Rattle.cil_member_updates.proofs.NameLemmas.{holds-past}
 
 pub both-true : (a b : Bool) → (a && b) ≡ true → (a ≡ true) × (b ≡ true)

@@ -1,8 +1,7 @@
 -- How many set statements give a member, statement by statement.
-use Rattle.std.proofs.Common.{◌≡◌, ◌+◌, ◌<◌, ◌≤◌, ◌&&◌, ℕ, zero, suc, Bool, false, cond, List, [], ◌∷◌, length, take, Some, IsTrue, bytes_eq, count_by, get_or, nat_lt, slice_get, sym, ap, ◌∙◌, arith, add-one}
+use Rattle.cil_member_updates.proofs.Common.{◌≡◌, ◌+◌, ◌<◌, ◌≤◌, ◌&&◌, ℕ, zero, suc, Bool, false, cond, List, [], ◌∷◌, length, take, Some, IsTrue, bytes_eq, count_by, get_or, nat_lt, slice_get, sym, ap, ◌∙◌, arith, add-one, or_parts, has_set, AreInOrder, AreTheSame, Meaning, HasSoundSets, SetStatement, mentions, sum_below, sum-none, sum-more, one_if, gives_member, holds, gives, Tell}
 use Rattle.std.proofs.Math.Seq.{take-length}
 use Rattle.std.proofs.lemmas.List.Sums.{sum_by_more}
-use Rattle.cil_member_updates.proofs.Common.{or_parts, has_set, AreInOrder, AreTheSame, Meaning, HasSoundSets, SetStatement, mentions, sum_below, sum-none, sum-more, one_if, gives_member, holds, gives, Tell}
 use Rattle.cil_member_updates.proofs.CountLemmas.{counted-member}
 use Rattle.cil_member_updates.proofs.NameLemmas.{is-of-named, holds-named}
 

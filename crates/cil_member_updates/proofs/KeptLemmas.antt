@@ -1,6 +1,5 @@
 -- The kept types by symbols, type by type.
-use Rattle.std.proofs.Common.{◌≡◌, ◌≢◌, ◌+◌, ◌*◌, ◌/◌, ◌%◌, ◌^◌, ◌<◌, ◌≤◌, ◌||◌, ℕ, zero, suc, Bool, true, false, List, [], length, take, replicate, set, Option, None, Some, bytes_eq, bit_or, get_or, slice_get, refl, sym, ap, ◌∙◌, subst, inl, inr, arith, w64, get_or-set_same, get_or-set_other}
-use Rattle.cil_member_updates.proofs.Common.{list_any, IsDistinct, bit_at, or-true, or-false, cases_eq, take_all, bit_at_set_same, bit_at_set_other, bit_at-zero, same_Some, slice_get-get_or, bytes_eq-Decides, Declared, Meaning, one_if, AreBits, of_name, keeps}
+use Rattle.cil_member_updates.proofs.Common.{◌≡◌, ◌≢◌, ◌+◌, ◌*◌, ◌/◌, ◌%◌, ◌^◌, ◌<◌, ◌≤◌, ◌||◌, ℕ, zero, suc, Bool, true, false, List, [], length, take, replicate, set, Option, None, Some, bytes_eq, bit_or, get_or, slice_get, refl, sym, ap, ◌∙◌, subst, inl, inr, arith, w64, get_or-set_same, get_or-set_other, list_any, IsDistinct, bit_at, or-true, or-false, cases_eq, take_all, bit_at_set_same, bit_at_set_other, bit_at-zero, same_Some, slice_get-get_or, bytes_eq-Decides, Declared, Meaning, one_if, AreBits, of_name, keeps}
 use Rattle.std.proofs.lemmas.List.Folds.{list_any_more}
 use Rattle.cil_member_updates.proofs.NameLemmas.{same-symbol, bytes-refl}
 

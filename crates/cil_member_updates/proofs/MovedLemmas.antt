@@ -1,6 +1,5 @@
 -- Counters moved word by word.
-use Rattle.std.proofs.Common.{◌≡◌, ◌==◌, ◌+◌, ◌*◌, ◌/◌, ◌%◌, ◌<◌, ◌≤◌, ◌&&◌, ℕ, Bool, true, false, refl, sym, ap, ◌∙◌, inl, inr, arith}
-use Rattle.cil_member_updates.proofs.Common.{cases_eq, cases_lt, eq-eqb, ne_eqb, bit_at-lt, bit_at, differ, hit, IsMoved, AreMoved, one_if, AreHeld, Cover}
+use Rattle.cil_member_updates.proofs.Common.{◌≡◌, ◌==◌, ◌+◌, ◌*◌, ◌/◌, ◌%◌, ◌<◌, ◌≤◌, ◌&&◌, ℕ, Bool, true, false, refl, sym, ap, ◌∙◌, inl, inr, arith, cases_eq, cases_lt, eq-eqb, ne_eqb, bit_at-lt, bit_at, differ, hit, IsMoved, AreMoved, one_if, AreHeld, Cover}
 use Rattle.cil_lines.proofs.StepLemmas.{hit-there}
 use Rattle.cil_recorded.specs.Log.{hit_at}
 use Rattle.cil_recorded.proofs.LogLemmas.{hit_in, hit_off, hit_on, hit_out}

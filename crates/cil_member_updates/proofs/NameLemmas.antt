@@ -1,6 +1,6 @@
 -- Names by their symbols.
-use Rattle.std.proofs.Common.{◌≡◌, ◌≢◌, ◌==◌, ◌+◌, ◌-◌, ◌*◌, ◌<◌, ◌&&◌, ℕ, zero, suc, Bool, true, false, List, [], ◌∷◌, length, Option, None, Some, Contains, IsTrue, below_more, bit_or, bytes_eq, min, nat_lt, slice_get, refl, sym, ap, ◌∙◌, subst, inl, inr, arith, true≢false}
-use Rattle.cil_member_updates.proofs.Common.{AllByRecursion, IsDistinct, bit_at, and-false, cases_Bool, cases_eq, cases_lt, eq-eqb, ne_eqb, lt-ltb, le-ltb, bit_at_or, none-some, same_Some, bytes_eq-Decides, Expr, leaves, Meaning, is_in, keeps_type, is_member, Element, a_type, an_attribute, SetStatement, differ, holds_with, mentions, is_the_attribute, contains-middle, IsPresence, one_if, AreBits, Cover, of_name, keeps, holds, is_of, element_holds, IsUnchanged, Tell}
+use Rattle.cil_member_updates.proofs.Common.{◌≡◌, ◌≢◌, ◌==◌, ◌+◌, ◌-◌, ◌*◌, ◌<◌, ◌&&◌, ℕ, zero, suc, Bool, true, false, List, [], ◌∷◌, length, Option, None, Some, IsTrue, below_more, bit_or, bytes_eq, min, nat_lt, slice_get, refl, sym, ap, ◌∙◌, subst, inl, inr, arith, AllByRecursion, IsDistinct, bit_at, and-false, cases_Bool, cases_eq, cases_lt, eq-eqb, ne_eqb, lt-ltb, le-ltb, bit_at_or, none-some, same_Some, bytes_eq-Decides, Expr, leaves, Meaning, is_in, keeps_type, is_member, Element, a_type, an_attribute, SetStatement, differ, holds_with, mentions, is_the_attribute, contains-middle, IsPresence, one_if, AreBits, Cover, of_name, keeps, holds, is_of, element_holds, IsUnchanged, Tell}
+use Rattle.std.proofs.Common.{Contains, true≢false}
 use Rattle.cil_specs.specs.Meaning as meanings
 use Rattle.cil_specs.proofs.DependsLemmas.{any-contained}
 use Rattle.cil_specs.proofs.OnceLemmas.{passes-among}

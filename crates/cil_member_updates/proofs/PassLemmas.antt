@@ -1,6 +1,5 @@
 -- Two passes over the set statements of two policies, at one attribute and type.
-use Rattle.std.proofs.Common.{◌≡◌, ◌+◌, ◌<◌, ◌≤◌, ℕ, List, Option, arith}
-use Rattle.cil_member_updates.proofs.Common.{sum_below, alone, across, ArePlaces, sum-more, sum-most, sum-part, sum-rest, sum-sides, alone-most}
+use Rattle.cil_member_updates.proofs.Common.{◌≡◌, ◌+◌, ◌<◌, ◌≤◌, ℕ, List, Option, arith, sum_below, alone, across, ArePlaces, sum-more, sum-most, sum-part, sum-rest, sum-sides, alone-most}
 
 module _ (f : ℕ → ℕ) (n : ℕ) (ahead : List (Option ℕ)) where
   -- what a set statement that goes gave is still counted

@@ -1,6 +1,6 @@
 -- Set statements at their places, and what a policy keeps of them.
-use Rattle.std.proofs.Common.{◌≡◌, ℕ, ◌<◌, Bool, true, false, ◌&&◌, ◌||◌, List, [], ◌∷◌, length, bytes_eq, Contains, IsTrue, slice_get, Some, refl, sym, ap, ◌∙◌, subst, true≢false}
-use Rattle.cil_member_updates.proofs.Common.{list_any, and_parts, slice_get-get_or, bytes_eq-Decides, named, Meaning, keeps_type, is_in, is_member, keeps_attribute, HasSoundSets, Element, an_attribute, SetStatement, holds_with, contains-first, contains-other, sets_in, Resolved, set_at, no_set}
+use Rattle.cil_member_updates.proofs.Common.{◌≡◌, ℕ, ◌<◌, Bool, true, false, ◌&&◌, ◌||◌, List, [], ◌∷◌, length, bytes_eq, IsTrue, slice_get, Some, refl, sym, ap, ◌∙◌, subst, list_any, and_parts, slice_get-get_or, bytes_eq-Decides, named, Meaning, keeps_type, is_in, is_member, keeps_attribute, HasSoundSets, Element, an_attribute, SetStatement, holds_with, contains-first, contains-other, sets_in, Resolved, set_at, no_set}
+use Rattle.std.proofs.Common.{Contains, true≢false}
 use Rattle.cil_specs.specs.Meaning.{holds}
 use Rattle.cil_specs.proofs.MemberLemmas.{member-fixed}
 

@@ -1,6 +1,5 @@
 -- What set statements gave that stayed, and what the new ones give.
-use Rattle.std.proofs.Common.{◌≡◌, ◌+◌, ◌<◌, ℕ, false, List, length, Option, None, Some, IsTrue, bytes_eq, count_by, get_or, slice_get, refl, sym, ap, ◌∙◌, subst, arith}
-use Rattle.cil_member_updates.proofs.Common.{slice_get_within, get_or_from_slice_get, AreInOrder, Meaning, SetStatement, IsSameSet, mentions, sum_below, across, ArePlaces, across-some, across-none, Matched, AreMatched, AreSameAt, one_if, gives}
+use Rattle.cil_member_updates.proofs.Common.{◌≡◌, ◌+◌, ◌<◌, ℕ, false, List, length, Option, None, Some, IsTrue, bytes_eq, count_by, get_or, slice_get, refl, sym, ap, ◌∙◌, subst, arith, slice_get_within, get_or_from_slice_get, AreInOrder, Meaning, SetStatement, IsSameSet, mentions, sum_below, across, ArePlaces, across-some, across-none, Matched, AreMatched, AreSameAt, one_if, gives}
 use Rattle.cil_member_updates.proofs.GivenLemmas.{none-behind, gives-other, count-sum}
 use Rattle.cil_member_updates.proofs.PassLemmas.{settled}
 

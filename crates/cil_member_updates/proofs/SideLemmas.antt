@@ -1,6 +1,5 @@
 -- A policy by symbols, and the counters of its members.
-use Rattle.std.proofs.Common.{◌≡◌, ◌+◌, ◌<◌, ◌≤◌, ℕ, Bool, List, length, Some, IsTrue, bytes_eq, get_or, nat_lt, slice_get, sym, ap, ◌∙◌, arith}
-use Rattle.cil_member_updates.proofs.Common.{AreInOrder, AreTheSame, HasSoundSets, SetStatement, IsSameSet, mentions, AreNumbersOf, meaning_in, name_in, sets_in, TellsMembers, Resolved, no_set, set_at, Matched, AreMatched, sum_below, gives, Tell, given_by, gone, stayed, given, AreCounts}
+use Rattle.cil_member_updates.proofs.Common.{◌≡◌, ◌+◌, ◌<◌, ◌≤◌, ℕ, Bool, List, length, Some, IsTrue, bytes_eq, get_or, nat_lt, slice_get, sym, ap, ◌∙◌, arith, AreInOrder, AreTheSame, HasSoundSets, SetStatement, IsSameSet, mentions, AreNumbersOf, meaning_in, name_in, sets_in, TellsMembers, Resolved, no_set, set_at, Matched, AreMatched, sum_below, gives, Tell, given_by, gone, stayed, given, AreCounts}
 use Rattle.cil_member_updates.proofs.GivenLemmas.{count-sum, counts-tell, gives-other, none-behind}
 use Rattle.cil_member_updates.proofs.PassLemmas.{gone-all}
 use Rattle.cil_member_updates.proofs.RenewLemmas.{places, same-attribute, settled-at}

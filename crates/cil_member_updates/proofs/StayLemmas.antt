@@ -1,6 +1,5 @@
 -- A set statement of two policies that holds the same in both.
-use Rattle.std.proofs.Common.{◌≡◌, ◌+◌, ◌*◌, ◌/◌, ◌<◌, ◌≤◌, ◌%◌, ◌&&◌, ℕ, Bool, true, false, List, Some, bytes_eq, slice_get, refl, sym, ap, ◌∙◌, arith, inl, inr}
-use Rattle.cil_member_updates.proofs.Common.{IsDistinct, true≢false, bit_at-zero, Meaning, an_attribute, SetStatement, differ, one_if, IsOutside, Cover, IsMovedAt, gives, holds, is_of, of_name, IsUnchanged, IsMoved}
+use Rattle.cil_member_updates.proofs.Common.{◌≡◌, ◌+◌, ◌*◌, ◌/◌, ◌<◌, ◌≤◌, ◌%◌, ◌&&◌, ℕ, Bool, true, false, List, Some, bytes_eq, slice_get, refl, sym, ap, ◌∙◌, arith, inl, inr, IsDistinct, true≢false, bit_at-zero, Meaning, an_attribute, SetStatement, differ, one_if, IsOutside, Cover, IsMovedAt, gives, holds, is_of, of_name, IsUnchanged, IsMoved}
 use Rattle.cil_member_rows.specs.declared.words.Words.{Words}
 use Rattle.cil_member_updates.proofs.NameLemmas.{unchanged-row}
 

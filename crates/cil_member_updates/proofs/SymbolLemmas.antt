@@ -1,6 +1,6 @@
 -- The symbols of a policy's names.
-use Rattle.std.proofs.Common.{◌≡◌, ◌<◌, ◌||◌, ℕ, suc, Bool, true, false, List, [], ◌∷◌, length, map, Option, Some, Contains, bytes_eq, get_or, option_map, slice_get, refl, sym, ap, ◌∙◌, subst, arith, true≢false}
-use Rattle.cil_member_updates.proofs.Common.{length-map, list_any, IsDistinct, same_Some, slice_get_within, slice_get-get_or, get_or_from_slice_get, bytes_eq-Decides, has_name, contains-mapped, AreNumbersOf}
+use Rattle.cil_member_updates.proofs.Common.{◌≡◌, ◌<◌, ◌||◌, ℕ, suc, Bool, true, false, List, [], ◌∷◌, length, map, Option, Some, bytes_eq, get_or, option_map, slice_get, refl, sym, ap, ◌∙◌, subst, arith, length-map, list_any, IsDistinct, same_Some, slice_get_within, slice_get-get_or, get_or_from_slice_get, bytes_eq-Decides, has_name, contains-mapped, AreNumbersOf}
+use Rattle.std.proofs.Common.{Contains, true≢false}
 use Rattle.cil_symbols.proofs.NumberLemmas.{number-at}
 use Rattle.cil_member_updates.proofs.NameLemmas.{same-symbol}
 

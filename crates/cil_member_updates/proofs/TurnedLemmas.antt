@@ -1,6 +1,6 @@
 -- A bit that is visited of a set statement of two policies is one where they may differ.
-use Rattle.std.proofs.Common.{◌≡◌, ◌≢◌, ◌+◌, ◌-◌, ◌*◌, ◌<◌, ◌||◌, ℕ, Bool, true, false, List, Contains, IsTrue, Some, bit_or, bit_xor, min, nat_lt, slice_get, refl, sym, ap, ◌∙◌, subst, inl, inr, arith}
-use Rattle.cil_member_updates.proofs.Common.{bit_at, cases_eq, cases_lt, le-ltb, lt-ltb, bit_at_or, bit_at_xor, bit_at-lt, bit_at-zero, leaves, keeps_type, Meaning, is_member, an_attribute, Element, SetStatement, differ, mentions, one_if, AreBits, AreUnsettledAt, HasTurned, IsTurnedAt, IsUnsettled, keeps, Tell}
+use Rattle.cil_member_updates.proofs.Common.{◌≡◌, ◌≢◌, ◌+◌, ◌-◌, ◌*◌, ◌<◌, ◌||◌, ℕ, Bool, true, false, List, IsTrue, Some, bit_or, bit_xor, min, nat_lt, slice_get, refl, sym, ap, ◌∙◌, subst, inl, inr, arith, bit_at, cases_eq, cases_lt, le-ltb, lt-ltb, bit_at_or, bit_at_xor, bit_at-lt, bit_at-zero, leaves, keeps_type, Meaning, is_member, an_attribute, Element, SetStatement, differ, mentions, one_if, AreBits, AreUnsettledAt, HasTurned, IsTurnedAt, IsUnsettled, keeps, Tell}
+use Rattle.std.proofs.Common.{Contains}
 use Rattle.cil_member_updates.proofs.EvaluatedLemmas.{either-true, first-true, second-true}
 use Rattle.cil_member_updates.proofs.NameLemmas.{keeps-name, keeps-named, there-mentioned}
 

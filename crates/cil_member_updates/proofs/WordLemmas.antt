@@ -1,6 +1,5 @@
 -- What a set statement gives at the types of a word, and the masks of it.
-use Rattle.std.proofs.Common.{◌≡◌, ◌==◌, ◌+◌, ◌/◌, ◌%◌, ◌≤◌, ◌&&◌, ℕ, Bool, List, length, Some, bytes_eq, slice_get, refl, sym, ap, ◌∙◌, inl, inr, arith}
-use Rattle.cil_member_updates.proofs.Common.{IsDistinct, bit_at, and-false, cases_eq, eq-eqb, ne_eqb, slice_get_past, hit, Meaning, SetStatement, differ, one_if, AreHeld, Cover, IsMoved, nothing, holds, is_of, gives}
+use Rattle.cil_member_updates.proofs.Common.{◌≡◌, ◌==◌, ◌+◌, ◌/◌, ◌%◌, ◌≤◌, ◌&&◌, ℕ, Bool, List, length, Some, bytes_eq, slice_get, refl, sym, ap, ◌∙◌, inl, inr, arith, IsDistinct, bit_at, and-false, cases_eq, eq-eqb, ne_eqb, slice_get_past, hit, Meaning, SetStatement, differ, one_if, AreHeld, Cover, IsMoved, nothing, holds, is_of, gives}
 use Rattle.cil_lines.proofs.StepLemmas.{hit-none}
 use Rattle.cil_recorded.specs.Log.{hit_at}
 use Rattle.cil_recorded.proofs.LogLemmas.{hit_in, hit_nothing}

@@ -1,16 +1,8 @@
 //! The types of a word that a set statement holds.
 
-ghost use Rattle.std.specs.Prelude.{◌≡◌, ◌+◌, ◌-◌, ◌*◌, ◌%◌, ◌<◌, ◌^◌, ℕ, IsTrue, length, min, slice_get, slice_index, Some, nat_lt};
-ghost use Rattle.cil_resolve.specs.Meter.{adjustments_in, evaluations_in};
-ghost use Rattle.cil_resolve.specs.Resolved.{meaning_in};
-ghost use Rattle.cil_resolve.specs.Sets.{sets_in};
+ghost use Rattle.cil_member_updates.specs.Common.{◌≡◌, ◌+◌, ◌-◌, ◌*◌, ◌%◌, ◌<◌, ◌^◌, ℕ, IsTrue, length, min, slice_get, slice_index, Some, nat_lt, adjustments_in, evaluations_in, meaning_in, sets_in, set_at, holds, keeps, Tell, counts_at, IsSide, AreHeld, is_asked};
 ghost use Rattle.cil_member_updates.specs.Counts.{one_if};
-ghost use Rattle.cil_member_updates.specs.Places.{set_at};
-ghost use Rattle.cil_member_updates.specs.Given.{holds, keeps, Tell};
-ghost use Rattle.cil_member_updates.specs.Policy.{counts_at, IsSide};
 ghost use Rattle.cil_sums.specs.Rises.{RisesBy};
-ghost use Rattle.cil_member_updates.specs.Bits.{AreHeld};
-ghost use Rattle.cil_member_updates.specs.Evaluated.{is_asked};
 
 use crate::side::Side;
 use crate::when::{When, is_member};

@@ -1,19 +1,10 @@
 //! The members of a policy made those of another one.
 
-ghost use Rattle.std.specs.Prelude.{◌≡◌, ◌<◌, ◌≤◌, ◌+◌, ℕ, length, slice_index, OnOk};
+ghost use Rattle.cil_member_updates.specs.Common.{◌≡◌, ◌<◌, ◌≤◌, ◌+◌, ℕ, length, slice_index, OnOk, adjustments_in, evaluations_in, meaning_in, sets_in, set_at, IsSameSet, count_before, count_now, rows_in, EvaluatesGone, EvaluatesGoneAt, EvaluatesNew, EvaluatesNewAt, Tell, given, AreCounts, IsSide};
 ghost use Rattle.cil_delta_specs.specs.Work.{EvaluatesFew};
 ghost use Rattle.cil_matching.specs.Matching.{AreMatched};
-ghost use Rattle.cil_resolve.specs.Meter.{adjustments_in, evaluations_in};
-ghost use Rattle.cil_resolve.specs.Resolved.{meaning_in};
-ghost use Rattle.cil_resolve.specs.Sets.{sets_in};
-ghost use Rattle.cil_member_updates.specs.Places.{set_at};
-ghost use Rattle.cil_specs.specs.Rule.{IsSameSet};
 ghost use Rattle.cil_sums.specs.Sums.{sum_below};
-ghost use Rattle.cil_member_rows.specs.Rows.{count_before, count_now, rows_in};
-ghost use Rattle.cil_member_updates.specs.Evaluated.{EvaluatesGone, EvaluatesGoneAt, EvaluatesNew, EvaluatesNewAt};
-ghost use Rattle.cil_member_updates.specs.Given.{Tell};
 ghost use Rattle.cil_member_updates.specs.Passes.{gone, given_by, stayed};
-ghost use Rattle.cil_member_updates.specs.Policy.{given, AreCounts, IsSide};
 
 use crate::kept::unlike_words;
 use crate::sets::{lower_set, move_set, raise_set};

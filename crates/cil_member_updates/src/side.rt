@@ -1,9 +1,6 @@
 //! A policy, by symbols.
 
-ghost use Rattle.std.specs.Prelude.{◌≡◌, ◌<◌, length, slice_get, Some};
-ghost use Rattle.cil_resolve.specs.Sets.{sets_in};
-ghost use Rattle.cil_member_updates.specs.Places.{set_at};
-ghost use Rattle.cil_member_updates.specs.Policy.{IsSide};
+ghost use Rattle.cil_member_updates.specs.Common.{◌≡◌, ◌<◌, length, slice_get, Some, sets_in, set_at, IsSide};
 
 use crate::kept::KeptTypes;
 use cil_resolve::Resolved;

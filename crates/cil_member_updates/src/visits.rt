@@ -1,20 +1,10 @@
 //! Where a set statement may hold a type, word by word.
 
-ghost use Rattle.std.specs.Prelude.{◌≡◌, ◌<◌, ◌==◌, ℕ, Contains, IsTrue, length, slice_index};
+ghost use Rattle.cil_member_updates.specs.Common.{◌≡◌, ◌<◌, ◌==◌, ℕ, Contains, IsTrue, length, slice_index, meaning_in, sets_in, set_at, IsSameSet, count_before, count_now, IsOutside, AreTurnedAt, AreUnsettledAt, IsTurnedAt, element_holds, holds, IsUnchanged, Tell, counts_at, AreUnchanged, CoverNames, IsSide, Cover};
 ghost use Rattle.cil_resolve.specs.Below.{is_element_below};
 ghost use Rattle.cil_resolve.specs.Numbers.{element_of};
-ghost use Rattle.cil_resolve.specs.Resolved.{meaning_in};
-ghost use Rattle.cil_resolve.specs.Sets.{sets_in};
-ghost use Rattle.cil_member_updates.specs.Places.{set_at};
 ghost use Rattle.cil_specs.specs.Expr.{leaves};
-ghost use Rattle.cil_specs.specs.Rule.{IsSameSet};
 ghost use Rattle.cil_specs.specs.Sets.{differ};
-ghost use Rattle.cil_member_rows.specs.Rows.{count_before, count_now};
-ghost use Rattle.cil_member_rows.specs.Words.{IsOutside};
-ghost use Rattle.cil_member_updates.specs.Evaluated.{AreTurnedAt, AreUnsettledAt, IsTurnedAt};
-ghost use Rattle.cil_member_updates.specs.Given.{element_holds, holds, IsUnchanged, Tell};
-ghost use Rattle.cil_member_updates.specs.Policy.{counts_at, AreUnchanged, CoverNames, IsSide};
-ghost use Rattle.cil_member_updates.specs.Bits.{Cover};
 
 use crate::side::Side;
 use crate::when::{When, members};

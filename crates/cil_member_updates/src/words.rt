@@ -1,16 +1,6 @@
 //! One set statement at the types of a word.
 
-ghost use Rattle.std.specs.Prelude.{◌≡◌, ◌+◌, ◌/◌, ◌<◌, ◌≤◌, ◌^◌, ℕ, length, OnOk};
-ghost use Rattle.cil_resolve.specs.Meter.{adjustments_in, evaluations_in};
-ghost use Rattle.cil_resolve.specs.Resolved.{meaning_in};
-ghost use Rattle.cil_resolve.specs.Sets.{sets_in};
-ghost use Rattle.cil_member_updates.specs.Places.{set_at};
-ghost use Rattle.cil_specs.specs.Rule.{IsSameSet};
-ghost use Rattle.cil_member_rows.specs.Rows.{count_before, count_now, rows_in};
-ghost use Rattle.cil_member_updates.specs.Evaluated.{EvaluatesWord, MovesWord};
-ghost use Rattle.cil_member_updates.specs.Given.{Tell};
-ghost use Rattle.cil_member_updates.specs.Moved.{IsMoved, nothing};
-ghost use Rattle.cil_member_updates.specs.Policy.{given, IsSide};
+ghost use Rattle.cil_member_updates.specs.Common.{◌≡◌, ◌+◌, ◌/◌, ◌<◌, ◌≤◌, ◌^◌, ℕ, length, OnOk, adjustments_in, evaluations_in, meaning_in, sets_in, set_at, IsSameSet, count_before, count_now, rows_in, EvaluatesWord, MovesWord, Tell, IsMoved, nothing, given, IsSide};
 
 use crate::masks::masked;
 use crate::side::{Side, row_of};

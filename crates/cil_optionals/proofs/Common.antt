@@ -31,6 +31,7 @@ pub use Rattle.cil_specs.specs.Lookup.{Table, classes, commons, declaration, dec
 pub use Rattle.cil_specs.specs.Names.{Word, components}
 pub use Rattle.cil_specs.specs.PolicyFault.{IsFaultOf, PolicyFault, is_lacking, is_unfound, missing_words, twice}
 pub use Rattle.cil_specs.specs.Statements.{Form, Statements, alias_actual, attribute_set, block, class, class_common, class_order, common, is_optional, itself, optional, rule, the_named, type_alias, type_attribute, type_name}
+pub use Rattle.std.proofs.Common.{All, Bool, Contains, Err, IfSome, IsTrue, List, None, Ok, OnErr, OnOk, Option, Result, Some, Vec, [], add-one, ap, append-nil, append_assoc, arith, bytes_eq, cond, count_by, false, filter, find, flat_map, get_or, if◌then◌else◌, inl, inr, is_some, leb, length, ltb, map, nat_lt, not, position, refl, replicate, rules, set, slice_get, subst, suc, sym, take, true, true≢false, zero, ℕ, ◌&&◌, ◌*◌, ◌++◌, ◌+◌, ◌-◌, ◌<◌, ◌==◌, ◌||◌, ◌∙◌, ◌∷◌, ◌≡◌, ◌≢◌, ◌≤◌, ◌⊎◌}
 pub use Rattle.std.proofs.lemmas.Bool.{and_parts, cases_eq, cases_lt, eq-eqb, eqb-true, leb-false, leb-true, lt-ltb, ltb-false, ltb-true, ne_eqb, not-false, not-true, or_cases, or_left, or_parts, or_right}
 pub use Rattle.std.proofs.lemmas.List.{get_or-replicate, get_or-set_other, get_or-set_same, get_or-take, length-append, length-map, length-replicate, length-set, length-take, nil_from_length, take_all, take_more}
 pub use Rattle.std.proofs.lemmas.List.Elements.{All-append, All-contains, All-pop, All-same, All-weaker, Contains-append_cases, Contains-append_left, Contains-append_right, Contains-get_or, Contains-push_cases}

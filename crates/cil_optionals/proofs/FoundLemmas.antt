@@ -1,6 +1,5 @@
 -- What a reference leads to in a restricted policy, by what it leads to in the whole.
-use Rattle.std.proofs.Common.{◌≡◌, ℕ, Bool, true, false, ◌||◌, cond, List, [], ◌∷◌, find, Option, Some, None, is_some, refl, sym, ap, ◌∙◌, true≢false, if◌then◌else◌}
-use Rattle.cil_optionals.proofs.Common.{option_or, option_and_then, none-some, same_Some, bytes_eq-Decides, Word, components, Form, block, optional, type_name, type_alias, type_attribute, common, class, Placed, Table, types, classes, commons, scopes, declared_in, is_word, same_namespace, word_text, declares, declaration, has_block, outward, nearest_block, inside, from_namespace, leads, is_global, holds_of, PolicyFault, twice, IsFaultOf, Optionals, is_within, restricted, AreApart, first_true, second_true, declared-once, declared-within, one-namespace, declared_table, declared_text, is_naming, is_provided, is_single, is_plain}
+use Rattle.cil_optionals.proofs.Common.{◌≡◌, ℕ, Bool, true, false, ◌||◌, cond, List, [], ◌∷◌, find, Option, Some, None, is_some, refl, sym, ap, ◌∙◌, true≢false, if◌then◌else◌, option_or, option_and_then, none-some, same_Some, bytes_eq-Decides, Word, components, Form, block, optional, type_name, type_alias, type_attribute, common, class, Placed, Table, types, classes, commons, scopes, declared_in, is_word, same_namespace, word_text, declares, declaration, has_block, outward, nearest_block, inside, from_namespace, leads, is_global, holds_of, PolicyFault, twice, IsFaultOf, Optionals, is_within, restricted, AreApart, first_true, second_true, declared-once, declared-within, one-namespace, declared_table, declared_text, is_naming, is_provided, is_single, is_plain}
 use Rattle.cil_specs.proofs.RestrictedLemmas.{has_block-restricted, nearest_block-restricted}
 
 -- the table in which a statement declares a word

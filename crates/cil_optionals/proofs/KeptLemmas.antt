@@ -1,6 +1,5 @@
 -- The marked optionals are those that a policy keeps.
-use Rattle.std.proofs.Common.{◌≡◌, inl, inr, ℕ, zero, suc, ◌+◌, ◌-◌, ◌<◌, ◌≤◌, ◌==◌, Bool, true, false, not, ◌&&◌, ◌||◌, nat_lt, List, [], ◌∷◌, ◌++◌, length, get_or, replicate, take, slice_get, position, Option, Some, None, is_some, bytes_eq, Contains, refl, sym, ap, ◌∙◌, subst, arith, true≢false, if◌then◌else◌}
-use Rattle.cil_optionals.proofs.Common.{list_all, list_any, option_or, cases_lt, lt-ltb, ltb-true, eqb-true, eq-eqb, position-Some, get_or-take, get_or-replicate, list_all-append, none-some, same_Some, slice_get_within, slice_get_cases, slice_get_read, get_or_from_slice_get, bytes_eq-Decides, is_optional, Placed, Table, declares, declaration, outward, holds_of, PolicyFault, twice, missing_words, IsFaultOf, Optionals, is_within, is_member, is_directly_in, has_innermost, is_optional_at, restricted, IsGood, AreKept, AreApart, first_true, second_true, both_true, rows-length, Row, any-position, is_met, are_met, is_need_below, meeting, IsInnermost, AreNested, mark_at, set_of, ShowsKept, declared_table, declared_text, is_naming, is_provided, AreOptionalsOf, AreNodesOf, further_out, IsDeclaration, IsProvidedBy, AreProviders, is_need_within, AreFoundWithin, AreOthers, Need}
+use Rattle.cil_optionals.proofs.Common.{◌≡◌, inl, inr, ℕ, zero, suc, ◌+◌, ◌-◌, ◌<◌, ◌≤◌, ◌==◌, Bool, true, false, not, ◌&&◌, ◌||◌, nat_lt, List, [], ◌∷◌, ◌++◌, length, get_or, replicate, take, slice_get, position, Option, Some, None, is_some, bytes_eq, Contains, refl, sym, ap, ◌∙◌, subst, arith, true≢false, if◌then◌else◌, list_all, list_any, option_or, cases_lt, lt-ltb, ltb-true, eqb-true, eq-eqb, position-Some, get_or-take, get_or-replicate, list_all-append, none-some, same_Some, slice_get_within, slice_get_cases, slice_get_read, get_or_from_slice_get, bytes_eq-Decides, is_optional, Placed, Table, declares, declaration, outward, holds_of, PolicyFault, twice, missing_words, IsFaultOf, Optionals, is_within, is_member, is_directly_in, has_innermost, is_optional_at, restricted, IsGood, AreKept, AreApart, first_true, second_true, both_true, rows-length, Row, any-position, is_met, are_met, is_need_below, meeting, IsInnermost, AreNested, mark_at, set_of, ShowsKept, declared_table, declared_text, is_naming, is_provided, AreOptionalsOf, AreNodesOf, further_out, IsDeclaration, IsProvidedBy, AreProviders, is_need_within, AreFoundWithin, AreOthers, Need}
 use Rattle.cil_bind.specs.Policy.{AreMarked}
 use Rattle.cil_bind.specs.Rows.{AreRows}
 use Rattle.cil_optionals.proofs.FoundLemmas.{IsNamed, declared-named, found-passes}

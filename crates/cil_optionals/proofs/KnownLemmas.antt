@@ -1,6 +1,5 @@
 -- Permissions of lists that classes are known to have.
-use Rattle.std.proofs.Common.{◌≡◌, ℕ, ◌&&◌, Bool, List, [], ◌∷◌, map, get_or, slice_get, Option, Some, refl, sym, ap, ◌∙◌, subst}
-use Rattle.cil_optionals.proofs.Common.{list_all, same_Some, get_or_from_slice_get, Word, Placed, texts, read, NumberedWord, NamedModule, Policy, Row, IsOf, IsReady}
+use Rattle.cil_optionals.proofs.Common.{◌≡◌, ℕ, ◌&&◌, Bool, List, [], ◌∷◌, map, get_or, slice_get, Option, Some, refl, sym, ap, ◌∙◌, subst, list_all, same_Some, get_or_from_slice_get, Word, Placed, texts, read, NumberedWord, NamedModule, Policy, Row, IsOf, IsReady}
 use Rattle.cil_parse.specs.declared.parsed.ParsedModule.{ParsedModule}
 use Rattle.cil_bind.specs.Scope.{IsFrom}
 use Rattle.cil_bind.proofs.FromLemmas.{from-at}

@@ -1,6 +1,5 @@
 -- What is listed and given the other way round.
-use Rattle.std.proofs.Common.{◌≡◌, ℕ, zero, suc, ◌<◌, ◌==◌, ◌&&◌, ◌||◌, Bool, true, false, List, [], ◌∷◌, ◌++◌, length, set, position, replicate, get_or, slice_get, Option, Some, None, is_some, Vec, Result, Ok, Err, OnOk, OnErr, bytes_eq, refl, sym, ap, ◌∙◌, true≢false, arith, inl, inr, if◌then◌else◌}
-use Rattle.cil_optionals.proofs.Common.{list_any, option_or, option_and_then, eqb-true, eq-eqb, ne_eqb, cases_eq, list_any-append, position-Some, none-some, same_Some, bytes_eq-Decides, first_true, second_true, has_name, with_name, at_if, position-append, any-position, lists, places_in, commons_at, listers_at, has_gift, given_at, IsInverse, AreAnswers, AreRecent, Permission}
+use Rattle.cil_optionals.proofs.Common.{◌≡◌, ℕ, zero, suc, ◌<◌, ◌==◌, ◌&&◌, ◌||◌, Bool, true, false, List, [], ◌∷◌, ◌++◌, length, set, position, replicate, get_or, slice_get, Option, Some, None, is_some, Vec, Result, Ok, Err, OnOk, OnErr, bytes_eq, refl, sym, ap, ◌∙◌, true≢false, arith, inl, inr, if◌then◌else◌, list_any, option_or, option_and_then, eqb-true, eq-eqb, ne_eqb, cases_eq, list_any-append, position-Some, none-some, same_Some, bytes_eq-Decides, first_true, second_true, has_name, with_name, at_if, position-append, any-position, lists, places_in, commons_at, listers_at, has_gift, given_at, IsInverse, AreAnswers, AreRecent, Permission}
 use Rattle.std.proofs.Math.Bool.{or-false}
 use Rattle.indexmap.specs.IndexSet.{insert_key}
 use Rattle.cil_optionals.specs.declared.listed.Gift.{Gift}

@@ -1,6 +1,5 @@
 -- What statements and optionals inside others need.
-use Rattle.std.proofs.Common.{◌≡◌, ◌≢◌, inl, inr, ℕ, zero, suc, ◌+◌, ◌<◌, ◌≤◌, ◌==◌, Bool, true, false, not, ◌&&◌, ◌||◌, nat_lt, cond, List, [], ◌∷◌, ◌++◌, map, filter, length, get_or, slice_get, Some, None, refl, sym, ap, ◌∙◌, subst, arith, true≢false}
-use Rattle.cil_optionals.proofs.Common.{list_all, list_any, cases_lt, lt-ltb, eqb-true, list_all-append, same_Some, slice_get_within, is_optional, Placed, references, named_permissions, is_unfound, is_lacking, missing_words, Optionals, is_within, restricted, AreApart, first_true, second_true, both_true, Row, is_met, are_met, meeting, IsInnermost, AreNested, is_need_of, are_found, are_there, AddsNeed, Asks, IsOf, is_need_within, AreOthersTo, AreOthers, Need, IsReady, Word, Policy, NamedModule}
+use Rattle.cil_optionals.proofs.Common.{◌≡◌, ◌≢◌, inl, inr, ℕ, zero, suc, ◌+◌, ◌<◌, ◌≤◌, ◌==◌, Bool, true, false, not, ◌&&◌, ◌||◌, nat_lt, cond, List, [], ◌∷◌, ◌++◌, map, filter, length, get_or, slice_get, Some, None, refl, sym, ap, ◌∙◌, subst, arith, true≢false, list_all, list_any, cases_lt, lt-ltb, eqb-true, list_all-append, same_Some, slice_get_within, is_optional, Placed, references, named_permissions, is_unfound, is_lacking, missing_words, Optionals, is_within, restricted, AreApart, first_true, second_true, both_true, Row, is_met, are_met, meeting, IsInnermost, AreNested, is_need_of, are_found, are_there, AddsNeed, Asks, IsOf, is_need_within, AreOthersTo, AreOthers, Need, IsReady, Word, Policy, NamedModule}
 use Rattle.cil_specs.proofs.KeptLemmas.{nil-append}
 use Rattle.cil_optionals.proofs.KeptLemmas.{place-of, contains-place}
 use Rattle.cil_optionals.proofs.ProviderLemmas.{row-within, HasRow, innermost-low}

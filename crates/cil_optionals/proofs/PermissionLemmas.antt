@@ -1,6 +1,5 @@
 -- The permissions of classes.
-use Rattle.std.proofs.Common.{◌≡◌, ℕ, zero, suc, ◌+◌, ◌<◌, ◌≤◌, ◌==◌, ◌&&◌, ◌||◌, not, Bool, true, false, List, [], ◌∷◌, ◌++◌, map, flat_map, length, take, position, get_or, slice_get, Option, Some, None, bytes_eq, refl, sym, ap, ◌∙◌, true≢false, add-one, arith, inl, inr, if◌then◌else◌}
-use Rattle.cil_optionals.proofs.Common.{list_all, list_any, none-some, same_Some, get_or_from_slice_get, slice_get-get_or, eqb-true, eq-eqb, ne_eqb, cases_eq, take_all, list_any-append, position-Some, bytes_eq-Decides, Word, Form, class_common, rule, itself, the_named, Placed, is_lacking, first_true, second_true, both_true, one-namespace, IsFirstOf, IsLead, names-next, spread, own-listed, none-listed, take-length, take-last, any-last, NumberedWord, are_there, lists, commons_at, gift, given_at, last_bound, is_rule, gives_common, lists_at, common_passes, gives_passing, permissions_in, IsUpTo, SeenPermissions, HavePermissions, Permission}
+use Rattle.cil_optionals.proofs.Common.{◌≡◌, ℕ, zero, suc, ◌+◌, ◌<◌, ◌≤◌, ◌==◌, ◌&&◌, ◌||◌, not, Bool, true, false, List, [], ◌∷◌, ◌++◌, map, flat_map, length, take, position, get_or, slice_get, Option, Some, None, bytes_eq, refl, sym, ap, ◌∙◌, true≢false, add-one, arith, inl, inr, if◌then◌else◌, list_all, list_any, none-some, same_Some, get_or_from_slice_get, slice_get-get_or, eqb-true, eq-eqb, ne_eqb, cases_eq, take_all, list_any-append, position-Some, bytes_eq-Decides, Word, Form, class_common, rule, itself, the_named, Placed, is_lacking, first_true, second_true, both_true, one-namespace, IsFirstOf, IsLead, names-next, spread, own-listed, none-listed, take-length, take-last, any-last, NumberedWord, are_there, lists, commons_at, gift, given_at, last_bound, is_rule, gives_common, lists_at, common_passes, gives_passing, permissions_in, IsUpTo, SeenPermissions, HavePermissions, Permission}
 use Rattle.std.proofs.Math.Bool.{or-false}
 use Rattle.indexmap.specs.IndexSet.{insert_key}
 use Rattle.cil_specs.specs.Lookup.{Table, classes, commons, declared_in, declares, same_namespace, is_word, is_same, word_text, holds_of, leads, references, named_permissions, texts, own_permissions, has_name, listed_by, gives_common as gives_common_to, common_permissions, permissions_of}

@@ -1,3 +1,4 @@
+pub mod Common
 pub mod Needs
 pub mod Nested
 pub mod Nodes

@@ -1,14 +1,9 @@
 //! The optionals that a policy keeps.
 
-ghost use Rattle.std.specs.Prelude.{◌≡◌, ◌+◌, ℕ, List, true, false, not, length, replicate, slice_index_or, IfOk};
-ghost use Rattle.std.specs.List.{list_all};
-ghost use Rattle.cil_specs.specs.Joined.{Placed};
-ghost use Rattle.cil_specs.specs.Kept.{AreApart};
+ghost use Rattle.cil_optionals.specs.Common.{◌≡◌, ◌+◌, ℕ, List, true, false, not, length, replicate, slice_index_or, IfOk, list_all, Placed, AreApart, AreNeeds, IsReady};
 ghost use Rattle.cil_bind.specs.Policy.{IsBoundTo};
 ghost use Rattle.cil_bind.specs.Nested.{AreNested};
 ghost use Rattle.cil_optionals.specs.Nested.{ShowsKept};
-ghost use Rattle.cil_optionals.specs.Others.{AreNeeds};
-ghost use Rattle.cil_optionals.specs.Providers.{IsReady};
 
 use crate::greatest::{Need, greatest};
 use crate::others::others;

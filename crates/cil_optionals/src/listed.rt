@@ -1,21 +1,11 @@
 //! What classes and commons list, and the commons that are given to classes.
 
-ghost use Rattle.std.specs.Prelude.{◌≡◌, ◌<◌, ◌+◌, ◌&&◌, ◌||◌, ◌==◌, ◌++◌, ◌∷◌, ℕ, [], List, Some, map, length, bytes_eq, position, slice_get, IfOk, OnOk};
+ghost use Rattle.cil_optionals.specs.Common.{◌≡◌, ◌<◌, ◌+◌, ◌&&◌, ◌||◌, ◌==◌, ◌++◌, ◌∷◌, ℕ, [], List, Some, map, length, bytes_eq, position, slice_get, IfOk, OnOk, list_any, Word, Placed, has_name, texts, NamedModule, read, texts_of, IsOf, HavePermissions, IsReady};
 ghost use Rattle.std.specs.Cmp.Rules.{hashing};
 ghost use Rattle.std.specs.Hash as fed;
-ghost use Rattle.std.specs.List.{list_any};
 ghost use Rattle.std.proofs.Common.{rules};
-ghost use Rattle.cil_specs.specs.Names.{Word};
-ghost use Rattle.cil_specs.specs.Joined.{Placed};
-ghost use Rattle.cil_specs.specs.Lookup.{has_name, texts};
 ghost use Rattle.cil_bind.specs.Listing.{lists_own as lists_own_kind};
-ghost use Rattle.cil_bind.specs.declared.joined.NamedModule.{NamedModule};
-ghost use Rattle.cil_parse.specs.Builder.{read};
-ghost use Rattle.cil_parse.specs.Parsed.{texts_of};
-ghost use Rattle.cil_optionals.specs.Asks.{IsOf};
 ghost use Rattle.cil_optionals.specs.Given.{lists as lists_permission, commons_at, has_gift, listers_at, permissions_in, gift as gift_in, given_at, gives_common as gives_common_kind, IsUpTo, IsInverse};
-ghost use Rattle.cil_optionals.specs.Permissions.{HavePermissions};
-ghost use Rattle.cil_optionals.specs.Providers.{IsReady};
 
 use cil_bind::{Joined, Policy};
 use cil_names::{Names, Seed};

@@ -1,15 +1,8 @@
 //! What the statements in optionals need, and the optionals inside others.
 
-ghost use Rattle.std.specs.Prelude.{◌≡◌, ◌≢◌, ◌<◌, ◌+◌, ◌&&◌, ℕ, List, Some, length, slice_get, IfOk, OnOk};
-ghost use Rattle.cil_specs.specs.Joined.{Placed};
-ghost use Rattle.cil_specs.specs.Kept.{restricted};
+ghost use Rattle.cil_optionals.specs.Common.{◌≡◌, ◌≢◌, ◌<◌, ◌+◌, ◌&&◌, ℕ, List, Some, length, slice_get, IfOk, OnOk, Placed, restricted, NamedModule, are_found, are_there, optional_at, Asks, AreOthers, AreOthersTo, HavePermissions, IsReady};
 ghost use Rattle.cil_specs.specs.Lookup.{references as references_of, named_permissions};
-ghost use Rattle.cil_bind.specs.declared.joined.NamedModule.{NamedModule};
-ghost use Rattle.cil_optionals.specs.Asks.{are_found, are_there, optional_at, Asks};
 ghost use Rattle.cil_optionals.specs.Given.{permissions_in, IsInverse, IsUpTo};
-ghost use Rattle.cil_optionals.specs.Others.{AreOthers, AreOthersTo};
-ghost use Rattle.cil_optionals.specs.Permissions.{HavePermissions};
-ghost use Rattle.cil_optionals.specs.Providers.{IsReady};
 
 use crate::greatest::Need;
 use crate::listed::Listed;

@@ -1,16 +1,8 @@
 //! What the references of statements in optionals need.
 
-ghost use Rattle.std.specs.Prelude.{◌≡◌, ◌<◌, ◌+◌, ℕ, List, Bool, Some, [], length, slice_get, slice_index_or, IfOk, IfSome, IsTrue, OnOk, Option, if◌then◌else◌};
-ghost use Rattle.cil_specs.specs.Joined.{Placed};
-ghost use Rattle.cil_specs.specs.Kept.{Optionals, is_within, restricted};
+ghost use Rattle.cil_optionals.specs.Common.{◌≡◌, ◌<◌, ◌+◌, ℕ, List, Bool, Some, [], length, slice_get, slice_index_or, IfOk, IfSome, IsTrue, OnOk, Option, if◌then◌else◌, Placed, Optionals, is_within, restricted, IsLead, NamedModule, texts_of, are_found, optional_at, AddsNeed, Asks, IsOf, LeadsOutside, has_node, IsReady};
 ghost use Rattle.cil_specs.specs.Lookup.{Table as TableOf, holds_of, references as references_of, is_global as is_global_text};
-ghost use Rattle.cil_bind.specs.Lookup.{IsLead};
-ghost use Rattle.cil_bind.specs.declared.joined.NamedModule.{NamedModule};
-ghost use Rattle.cil_parse.specs.Parsed.{texts_of};
-ghost use Rattle.cil_optionals.specs.Asks.{are_found, optional_at, AddsNeed, Asks, IsOf, LeadsOutside};
-ghost use Rattle.cil_optionals.specs.Needs.{has_node};
 ghost use Rattle.cil_optionals.specs.Nodes.{is_provided, is_plain as is_plain_text, is_single as are_single, AreNodesOf};
-ghost use Rattle.cil_optionals.specs.Providers.{IsReady};
 
 use crate::greatest::Need;
 use cil_bind::Policy;

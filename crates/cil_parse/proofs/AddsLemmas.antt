@@ -1,6 +1,5 @@
 -- Names that come to a lexicon.
-use Rattle.std.proofs.Common.{◌≡◌, ℕ, List, [], ◌∷◌, ◌++◌, map, Some, slice_get, refl, sym, ap, subst, ◌∙◌, append_assoc, append-nil}
-use Rattle.cil_parse.proofs.Common.{components, texts_in, names_in, AreNumbersOf, AreSplit, AddsNames, SplitsText, IsLexicon, Lexicon}
+use Rattle.cil_parse.proofs.Common.{◌≡◌, ℕ, List, [], ◌∷◌, ◌++◌, map, Some, slice_get, refl, sym, ap, subst, ◌∙◌, append_assoc, append-nil, components, texts_in, names_in, AreNumbersOf, AreSplit, AddsNames, SplitsText, IsLexicon, Lexicon}
 use Rattle.cil_parse.proofs.LexiconLemmas.{lists-keep, lists-append}
 
 pub adds-none : {A : Type 0} (l : Lexicon A) → AddsNames l l []

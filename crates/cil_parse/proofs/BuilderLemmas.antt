@@ -1,6 +1,5 @@
 -- Words and nodes that come to what was gone over.
-use Rattle.std.proofs.Common.{◌≡◌, ℕ, suc, ◌+◌, ◌<◌, List, [], ◌∷◌, ◌++◌, map, length, get_or, drop, take, Option, Some, None, slice_get, refl, sym, ap, subst, ◌∙◌, append_assoc, append-nil, add-one}
-use Rattle.cil_parse.proofs.Common.{option_map, map-append, take_more, Word, with_name, leaves, place_of, word_of, expr_of, texts_in, Keeps, IsLexicon, expr_nodes, words_in, read, row_of, IsAt, Adds, AddsExpr, Builder, NumberedWord}
+use Rattle.cil_parse.proofs.Common.{◌≡◌, ℕ, suc, ◌+◌, ◌<◌, List, [], ◌∷◌, ◌++◌, map, length, get_or, drop, take, Option, Some, None, slice_get, refl, sym, ap, subst, ◌∙◌, append_assoc, append-nil, add-one, option_map, map-append, take_more, Word, with_name, leaves, place_of, word_of, expr_of, texts_in, Keeps, IsLexicon, expr_nodes, words_in, read, row_of, IsAt, Adds, AddsExpr, Builder, NumberedWord}
 use Rattle.std.proofs.Math.Seq.{drop-cons}
 use Rattle.cil_text.specs.Expr.{exprs_of}
 use Rattle.cil_text.specs.declared.statement.Expr as code

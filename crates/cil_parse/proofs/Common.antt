@@ -22,6 +22,7 @@ pub use Rattle.cil_text.specs.Form.{at_of, form_of, has_body}
 pub use Rattle.cil_text.specs.Image.{FaultIs, expr_of, place_of, row_statements, statement_then, statements_of, target_of, trees_of, word_of}
 pub use Rattle.cil_text.specs.Walk.{IsFirstAmong, IsInFront, IsNext}
 pub use Rattle.cil_text.specs.declared.statement.Statement.{Block', Class, ClassCommon, ClassOrder, Common, Optional', Rule, Statement, TypeAlias, TypeAliasActual, TypeAttribute, TypeAttributeSet, TypeName}
+pub use Rattle.std.proofs.Common.{Bool, Bor, IsTrue, List, None, OnOk, Option, Some, Vec, [], add-one, ap, append-nil, append_assoc, arith, bytes_eq, cond, drop, false, get_or, if◌then◌else◌, inl, inr, length, length-append, map, map-id, nat_lt, not, position, refl, slice_get, subst, suc, sym, take, true, true≢false, zero, ℕ, ◌++◌, ◌+◌, ◌-◌, ◌<◌, ◌==◌, ◌∙◌, ◌∷◌, ◌≡◌, ◌≤◌, ◌⊎◌}
 pub use Rattle.std.proofs.lemmas.List.{drop-map, drop_all, get_or-map, length-map, map-append, take_all, take_more, take_rest}
 pub use Rattle.std.proofs.lemmas.Option.{cond_some, get_or_from_slice_get, same_Some, slice_get-get_or, slice_get-map, slice_get_within}
 pub use Rattle.std.specs.List.{onto_first, position_or_len, slice_split}

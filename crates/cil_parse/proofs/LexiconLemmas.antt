@@ -1,6 +1,5 @@
 -- Numbers of names that stay, and those that come.
-use Rattle.std.proofs.Common.{◌≡◌, ℕ, zero, suc, Bool, true, false, not, true≢false, List, [], ◌∷◌, ◌++◌, map, Bor, Option, Some, slice_get, bytes_eq, refl, sym, ap, subst, ◌∙◌, if◌then◌else◌}
-use Rattle.cil_parse.proofs.Common.{map-append, has_name, with_name, seen, Keeps, AreNumbersOf}
+use Rattle.cil_parse.proofs.Common.{◌≡◌, ℕ, zero, suc, Bool, true, false, not, true≢false, List, [], ◌∷◌, ◌++◌, map, Bor, Option, Some, slice_get, bytes_eq, refl, sym, ap, subst, ◌∙◌, if◌then◌else◌, map-append, has_name, with_name, seen, Keeps, AreNumbersOf}
 use Rattle.indexmap.specs.IndexSet.{insert_key}
 use Rattle.cil_names.proofs.TextLemmas.{stored-text, with_name-texts}
 

@@ -1,6 +1,5 @@
 -- What a parsed module shows.
-use Rattle.std.proofs.Common.{◌≡◌, ℕ, ◌<◌, List, [], map, length, get_or, Some, slice_get, sym, ap, ◌∙◌, arith, map-id}
-use Rattle.cil_parse.proofs.Common.{option_map, length-map, same_Some, slice_get-map, slice_get-get_or, components, Statements, place_of, texts_in, AreNumbersOf, AreSplit, words_in, nodes_in, kind_of, FlatStatement, flat, count, read, row_of, row_for, IsAt, IsShown, Builder, StatementView, Row}
+use Rattle.cil_parse.proofs.Common.{◌≡◌, ℕ, ◌<◌, List, [], map, length, get_or, Some, slice_get, sym, ap, ◌∙◌, arith, map-id, option_map, length-map, same_Some, slice_get-map, slice_get-get_or, components, Statements, place_of, texts_in, AreNumbersOf, AreSplit, words_in, nodes_in, kind_of, FlatStatement, flat, count, read, row_of, row_for, IsAt, IsShown, Builder, StatementView, Row}
 use Rattle.cil_parse.specs.Parsed.{texts_of, statement_count, Spells, IsOwned}
 use Rattle.cil_parse.specs.declared.parsed.ParsedModule.{ParsedModule}
 use Rattle.cil_parse.proofs.FlatLemmas.{length-flat}

@@ -1,6 +1,5 @@
 -- Splitting a text at its dots.
-use Rattle.std.proofs.Common.{◌≡◌, ◌⊎◌, inl, inr, ℕ, ◌+◌, ◌-◌, ◌<◌, ◌≤◌, ◌==◌, Bool, true, false, not, cond, List, [], ◌∷◌, length, take, drop, Some, None, position, nat_lt, refl, sym, ap, ◌∙◌, arith}
-use Rattle.cil_parse.proofs.Common.{slice_split, onto_first, position_or_len, take_rest, cond_some}
+use Rattle.cil_parse.proofs.Common.{◌≡◌, ◌⊎◌, inl, inr, ℕ, ◌+◌, ◌-◌, ◌<◌, ◌≤◌, ◌==◌, Bool, true, false, not, cond, List, [], ◌∷◌, length, take, drop, Some, None, position, nat_lt, refl, sym, ap, ◌∙◌, arith, slice_split, onto_first, position_or_len, take_rest, cond_some}
 use Rattle.std.proofs.lemmas.Bool.{cases_lt}
 use Rattle.std.proofs.lemmas.Bool.Decides.{Decides-ltb}
 use Rattle.std.proofs.lemmas.List.Splits.{slice_split_first}

@@ -1,9 +1,8 @@
 -- Statements that are kept as soon as they are made from their trees.
-use Rattle.std.proofs.Common.{◌≡◌, ◌<◌, List, [], ◌∷◌, ◌++◌, length, sym, subst, arith, length-append, false, IsTrue}
+use Rattle.cil_parse.proofs.Common.{◌≡◌, ◌<◌, List, [], ◌∷◌, ◌++◌, length, sym, subst, arith, length-append, false, IsTrue, statements_of, IsInFront, IsFirstAmong, Statement, Places, Builder, Around}
 use Rattle.std.proofs.Math.Seq.{take-append_seam, take-append-add, get_or-append_seam}
 use Rattle.cil_specs.specs.TextFault.{TextFault}
 use Rattle.cil_specs.specs.Trees.{Trees, none, are_lists}
-use Rattle.cil_parse.proofs.Common.{statements_of, IsInFront, IsFirstAmong, Statement, Places, Builder, Around}
 use Rattle.cil_text.proofs.WalkLemmas.{AreFound, found_start, found_more, found_end}
 use Rattle.cil_parse.specs.FromTrees.{PlacesTrees}
 use Rattle.cil_parse.proofs.PlaceLemmas.{places-none, places-next}

@@ -1,6 +1,5 @@
 -- What a statement declares and names, by its kind and its words.
-use Rattle.std.proofs.Common.{◌≡◌, ℕ, zero, suc, ◌<◌, List, [], ◌∷◌, map, length, get_or, arith, Option, Some, slice_get, refl, sym, ap, subst, ◌∙◌}
-use Rattle.cil_parse.proofs.Common.{option_map, option_and_then, same_Some, slice_get-map, Word, leaves, types, classes, declared_in, references, itself, the_named, Form, block, optional, type_name, type_alias, alias_actual, type_attribute, attribute_set, common, class, class_common, class_order, rule, kind_of, words_in, FlatStatement, read, IsShown, NumberedWord, StatementView}
+use Rattle.cil_parse.proofs.Common.{◌≡◌, ℕ, zero, suc, ◌<◌, List, [], ◌∷◌, map, length, get_or, arith, Option, Some, slice_get, refl, sym, ap, subst, ◌∙◌, option_map, option_and_then, same_Some, slice_get-map, Word, leaves, types, classes, declared_in, references, itself, the_named, Form, block, optional, type_name, type_alias, alias_actual, type_attribute, attribute_set, common, class, class_common, class_order, rule, kind_of, words_in, FlatStatement, read, IsShown, NumberedWord, StatementView}
 use Rattle.cil_specs.specs.Lookup as lookup
 use Rattle.cil_parse.specs.Kinds.{table_of, declaring, reference_table}
 use Rattle.cil_parse.specs.declared.table.Table.{Table}

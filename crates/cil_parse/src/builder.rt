@@ -1,18 +1,12 @@
 //! Going over the statements of a module.
 
-ghost use Rattle.std.specs.Prelude.{◌≡◌, ◌∷◌, ◌++◌, [], List, map, false, IsTrue, IfOk, IfErr, OnOk};
+ghost use Rattle.cil_parse.specs.Common.{◌≡◌, ◌∷◌, ◌++◌, [], List, map, false, IsTrue, IfOk, IfErr, OnOk, target_words, rule, IsFirstShapeFault, place_of, word_of, target_of, rule_kind_of, expr_of, statements_of, trees_of, FaultIs, forest_of, expr_nodes, kind_of, IsAt, Adds, AddsExpr, AddsForm, Closes, Puts, Places, top};
 ghost use Rattle.cil_specs.specs.Expr.{leaves};
 ghost use Rattle.cil_specs.specs.Names.{Word as SpecWord};
-ghost use Rattle.cil_specs.specs.Statements.{target_words, rule};
 ghost use Rattle.cil_specs.specs.Trees.{are_lists};
-ghost use Rattle.cil_specs.specs.Shape.{IsFirstShapeFault};
-ghost use Rattle.cil_text.specs.Image.{place_of, word_of, target_of, rule_kind_of, expr_of, statements_of, trees_of, FaultIs};
 ghost use Rattle.cil_text.specs.Form.{form_of, at_of};
 ghost use Rattle.cil_text.specs.Expr.{exprs_of};
-ghost use Rattle.cil_text.specs.Forest.{forest_of};
 ghost use Rattle.cil_text.specs.Walk.{IsFirstAmong};
-ghost use Rattle.cil_parse.specs.Forms.{expr_nodes, kind_of};
-ghost use Rattle.cil_parse.specs.Builder.{IsAt, Adds, AddsExpr, AddsForm, Closes, Puts, Places, top};
 ghost use Rattle.cil_parse.specs.FromTrees.{PlacesTrees, IsAtTrees};
 
 use crate::lexicon::Lexicon;

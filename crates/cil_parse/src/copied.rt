@@ -1,7 +1,6 @@
 //! Copies of lists.
 
-ghost use Rattle.std.specs.Prelude.{◌≡◌, [], map, IfOk};
-ghost use Rattle.cil_parse.specs.Lexicon.{seen};
+ghost use Rattle.cil_parse.specs.Common.{◌≡◌, [], map, IfOk, seen};
 
 use crate::lists::Lists;
 use cil_names::Name;

@@ -1,7 +1,6 @@
 //! From a text to its parsed module.
 
-ghost use Rattle.std.specs.Prelude.{◌≤◌, length, IfOk, IfErr};
-ghost use Rattle.cil_text.specs.Image.{FaultIs};
+ghost use Rattle.cil_parse.specs.Common.{◌≤◌, length, IfOk, IfErr, FaultIs};
 ghost use Rattle.cil_parse.specs.Parsed.{IsParsed};
 ghost use Rattle.cil_specs.specs.ModuleText.{IsTextFault};
 

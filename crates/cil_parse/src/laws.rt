@@ -1,9 +1,7 @@
 //! Laws of the statements of a module one behind the other.
 
-ghost use Rattle.std.specs.Prelude.{ℕ, [], List};
-ghost use Rattle.cil_specs.specs.Statements.{Statements};
+ghost use Rattle.cil_parse.specs.Common.{ℕ, [], List, Statements, flat};
 ghost use Rattle.cil_specs.specs.Joined.{placed};
-ghost use Rattle.cil_parse.specs.Flat.{flat};
 ghost use Rattle.cil_parse.specs.Around.{ArePlacedAs};
 
 /// The statements that a parsed module shows are those of its joined policy, with the namespaces and the optionals around each.

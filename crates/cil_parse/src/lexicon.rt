@@ -1,10 +1,8 @@
 //! The words of a module by numbers, while it is gone over.
 
-ghost use Rattle.std.specs.Prelude.{◌≡◌, ◌∷◌, ◌<◌, ◌==◌, [], Some, slice_get, length, IfOk, OnOk, IfSome, IfNone};
+ghost use Rattle.cil_parse.specs.Common.{◌≡◌, ◌∷◌, ◌<◌, ◌==◌, [], Some, slice_get, length, IfOk, OnOk, IfSome, IfNone, with_name, texts_in, AddsNames, SplitsText, IsLexicon};
 ghost use Rattle.std.specs.List.{slice_split};
 ghost use Rattle.cil_text.specs.Name.{without_dot};
-ghost use Rattle.cil_specs.specs.Lookup.{with_name};
-ghost use Rattle.cil_parse.specs.Lexicon.{texts_in, AddsNames, SplitsText, IsLexicon};
 
 use crate::lists::Lists;
 use cil_names::{Names, Seed, in_32_bits};

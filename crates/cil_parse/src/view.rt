@@ -1,12 +1,8 @@
 //! Statements of parsed modules as they are seen.
 
-ghost use Rattle.std.specs.Prelude.{◌≡◌, ℕ, List, map, slice_get, Some, None, Option, IfSome, IfNone};
+ghost use Rattle.cil_parse.specs.Common.{◌≡◌, ℕ, List, map, slice_get, Some, None, Option, IfSome, IfNone, declared_in, references, read, FlatStatement, permissions_in};
 ghost use Rattle.cil_specs.specs.Names.{Word};
 ghost use Rattle.cil_specs.specs.Lookup as lookup;
-ghost use Rattle.cil_specs.specs.Lookup.{declared_in, references};
-ghost use Rattle.cil_parse.specs.Builder.{read};
-ghost use Rattle.cil_parse.specs.Flat.{FlatStatement};
-ghost use Rattle.cil_parse.specs.Forms.{permissions_in};
 ghost use Rattle.cil_parse.specs.Kinds.{table_of, declaring, reference_table};
 ghost use Rattle.cil_parse.specs.View.{IsShown};
 

@@ -1,6 +1,5 @@
 -- What answers an edit and a batch.
-use Rattle.std.proofs.Common.{◌≡◌, ◌++◌, List, codes, decimal, Option, Some, Result, Ok, Err, IfOk, IfErr, refl, ap, sym, ◌∙◌, subst}
-use Rattle.cil_program.proofs.Common.{Changes, Store, a_batch, an_edit, changed_by, refused, Step, makes, commits, Answer, answer_of, a_line, Batch, HeldEdits, all_held, IsHeld, makes_all, state_of, by_the_edit, by_holding, by_the_batch, edit_of, refusal_of, counts_line, Does, AnswersBatch, Makes}
+use Rattle.cil_program.proofs.Common.{◌≡◌, ◌++◌, List, codes, decimal, Option, Some, Result, Ok, Err, IfOk, IfErr, refl, ap, sym, ◌∙◌, subst, Changes, Store, a_batch, an_edit, changed_by, refused, Step, makes, commits, Answer, answer_of, a_line, Batch, HeldEdits, all_held, IsHeld, makes_all, state_of, by_the_edit, by_holding, by_the_batch, edit_of, refusal_of, counts_line, Does, AnswersBatch, Makes}
 use Rattle.cil_counters.specs.ChangeCounts.{AreCountsOf, CountsSome}
 use Rattle.cil_symbol_changes.specs.declared.counted_changes.ChangeCounts.{ChangeCounts}
 use Rattle.cil_store_specs.specs.Next as spec

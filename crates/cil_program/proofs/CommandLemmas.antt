@@ -1,6 +1,5 @@
 -- The words of the lines that are no command's.
-use Rattle.std.proofs.Common.{◌≡◌, ℕ, true, List, [], ◌∷◌, ◌++◌, length, get_or, codes, decimal, refl, ap, ◌∙◌, subst, arith}
-use Rattle.cil_program.proofs.Common.{list_all, join_with_byte, install, remove, Command, makes, words_of, line_of, IsGoodName, IsShortNumber, HasGoodWords, is_no_space, number_of, text_of, command-of, first-is, other_words, same-words, plain-no-space, shown-plain, digits-plain}
+use Rattle.cil_program.proofs.Common.{◌≡◌, ℕ, true, List, [], ◌∷◌, ◌++◌, length, get_or, codes, decimal, refl, ap, ◌∙◌, subst, arith, list_all, join_with_byte, install, remove, Command, makes, words_of, line_of, IsGoodName, IsShortNumber, HasGoodWords, is_no_space, number_of, text_of, command-of, first-is, other_words, same-words, plain-no-space, shown-plain, digits-plain}
 
 -- what stands on the line of an install behind its first word
 pub record IsInstallRest (rest : List ℕ) : Type 0 where

@@ -1,6 +1,5 @@
 -- Beginnings of texts that sinks take.
-use Rattle.std.proofs.Common.{ℕ, List, [], length, Option, Result, Ok, Err, OnErr, sym, subst, arith}
-use Rattle.cil_program.proofs.Common.{take_all, Gains, GainsFront, gains-none}
+use Rattle.cil_program.proofs.Common.{ℕ, List, [], length, Option, Result, Ok, Err, OnErr, sym, subst, arith, take_all, Gains, GainsFront, gains-none}
 
 -- nothing begins nothing
 pub front-none : (old : Option (List ℕ)) → GainsFront old old []

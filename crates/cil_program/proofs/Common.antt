@@ -30,6 +30,7 @@ pub use Rattle.cil_stream.specs.Device.{Account, Gains, GainsFront, Gives, HasEn
 pub use Rattle.cil_stream.specs.declared.source.SourceFault.{SourceFault}
 pub use Rattle.clap.specs.Simple.{App, app_of, app_of_fields, is_simple, new_app, new_rule, on_top, subcommand_of, with_rule, with_subcommand}
 pub use Rattle.clap.specs.Walk.{Row, Rule, Text, rows_of, rule_of}
+pub use Rattle.std.proofs.Common.{All, Bool, Err, IfErr, IfOk, IsErr, IsErrAnd, IsTrue, List, None, Ok, OnErr, OnOk, Option, Result, Some, [], ap, append-nil, append_assoc, ap₂, arith, codes, count_by, decimal, drop, false, get_or, if◌then◌else◌, inl, inr, is_ok, length, length-append, length-drop, length-take, map, min, nat_le, nat_lt, not, option_map, refl, replicate, rules, subst, suc, sym, take, true, true≢false, unwrap_or, vec_len, zero, ℕ, ◌++◌, ◌+◌, ◌-◌, ◌<◌, ◌==◌, ◌^◌, ◌||◌, ◌∙◌, ◌∷◌, ◌≡◌, ◌≢◌, ◌≤◌, ◌⊎◌}
 pub use Rattle.std.proofs.lemmas.List.{append_cancel_left, drop-drop, drop-take, drop_more, get_or-drop, length-map, length-replicate, length-take-le, map-append, take-append-drop, take-append-le, take_all, take_more}
 pub use Rattle.std.proofs.lemmas.List.Folds.{flat_map-map, list_all-append, list_any-append}
 pub use Rattle.std.proofs.lemmas.Result.{IfErr-weaker, IfOk-weaker, err_from_is_err_and}

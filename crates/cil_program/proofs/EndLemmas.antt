@@ -1,6 +1,5 @@
 -- Where the text of an install is short.
-use Rattle.std.proofs.Common.{◌≡◌, ℕ, Bool, true, List, [], ◌∷◌, ◌++◌, length, drop, get_or, replicate, inl, inr, IsTrue, ap, sym, ◌∙◌, append_assoc, length-append, arith}
-use Rattle.cil_program.proofs.Common.{length-replicate, list_all, install, Command, makes, words_of, line_of, behind, HasGoodWords, IsNoCommand, line-stays, lines-same, number_of, number-decimal, text_of, text-length, command-is, kind_of_word, command_by, IsShort, AreGoodWords, install_line}
+use Rattle.cil_program.proofs.Common.{◌≡◌, ℕ, Bool, true, List, [], ◌∷◌, ◌++◌, length, drop, get_or, replicate, inl, inr, IsTrue, ap, sym, ◌∙◌, append_assoc, length-append, arith, length-replicate, list_all, install, Command, makes, words_of, line_of, behind, HasGoodWords, IsNoCommand, line-stays, lines-same, number_of, number-decimal, text_of, text-length, command-is, kind_of_word, command_by, IsShort, AreGoodWords, install_line}
 use Rattle.cil_store_specs.proofs.WordLemmas.{stays}
 use Rattle.cil_store_specs.proofs.LineLemmas.{same-lines, has-feed, command-line}
 

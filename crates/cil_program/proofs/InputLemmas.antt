@@ -1,6 +1,5 @@
 -- Bytes that are read one piece after another.
-use Rattle.std.proofs.Common.{IsTrue, Result, Ok, Err, IfOk, inl, inr, false, true, Bool, ◌≡◌, ◌≢◌, ℕ, ◌+◌, ◌-◌, ◌<◌, ◌≤◌, ◌^◌, min, nat_le, not, true≢false, List, [], ◌∷◌, ◌++◌, length, take, drop, OnErr, append-nil, length-take, length-drop, count_by, refl, ap, sym, ◌∙◌, subst, append_assoc, length-append, arith}
-use Rattle.cil_program.proofs.Common.{list_all, take_all, take-append-le, take-append-drop, length-take-le, list_all-append, SourceFault, Account, Gives, HasEnded, has_ended, gains-both, gains-none, both_true, Held, Takes, Fits, HasRead, HasStopped, IsOther, IsWholeText, IsShort, stays}
+use Rattle.cil_program.proofs.Common.{IsTrue, Result, Ok, Err, IfOk, inl, inr, false, true, Bool, ◌≡◌, ◌≢◌, ℕ, ◌+◌, ◌-◌, ◌<◌, ◌≤◌, ◌^◌, min, nat_le, not, true≢false, List, [], ◌∷◌, ◌++◌, length, take, drop, OnErr, append-nil, length-take, length-drop, count_by, refl, ap, sym, ◌∙◌, subst, append_assoc, length-append, arith, list_all, take_all, take-append-le, take-append-drop, length-take-le, list_all-append, SourceFault, Account, Gives, HasEnded, has_ended, gains-both, gains-none, both_true, Held, Takes, Fits, HasRead, HasStopped, IsOther, IsWholeText, IsShort, stays}
 use Rattle.std.proofs.lemmas.List.Sums.{sum_by-append, count_by-le-length}
 use Rattle.std.proofs.lemmas.Bool.{eqb-true, le-leb, leb-true}
 use Rattle.std.proofs.lemmas.Bool.Decides.{nat_tests}

@@ -1,6 +1,5 @@
 -- What sessions keep, and what they leave.
-use Rattle.std.proofs.Common.{◌≡◌, ◌⊎◌, ℕ, ◌+◌, Bool, true, false, List, [], ◌∷◌, ◌++◌, length, codes, Option, Some, None, IsTrue, refl, ap, sym, ◌∙◌, subst}
-use Rattle.cil_program.proofs.Common.{AllByRecursion, both_true, Store, IsStore, empty, modules_text, Edit, by_store, at_place, for_memory, batch_word, is_too_long, IsMeaningOf, Call, a_batch, an_edit, ask_rows, ask_violations, ask_dropped, Reply, changed_by, refused, listed, printed, violated, dropped_optionals, is_answered, out_of_memory, Step, Run, Command, makes, begins, commits, aborts, asks_rules, asks_violations, asks_dropped, asks_modules, asks_dump, refusal_line, end_line, dump_commands, dump_text, Answer, answer_of, a_line, a_refusal, HeldEdits, all_held, over_the_limits, without_memory, Batch, State, state_of, name_of, held_as, IsHeld, holds, passes_the_limits, has_no_memory, after_the_limits, after_no_memory, IsCommitted, makes_all, was_too_long, had_no_memory, question_of, Answers, by_the_edit, by_holding, by_opening, is_open, by_the_batch, by_closing, none_to_commit, none_to_abort, by_engine, by_modules, by_dump, lines_of, AnswersAll, answers_text, IsSession, all_accepted, some_refused, last_end, one-script}
+use Rattle.cil_program.proofs.Common.{◌≡◌, ◌⊎◌, ℕ, ◌+◌, Bool, true, false, List, [], ◌∷◌, ◌++◌, length, codes, Option, Some, None, IsTrue, refl, ap, sym, ◌∙◌, subst, AllByRecursion, both_true, Store, IsStore, empty, modules_text, Edit, by_store, at_place, for_memory, batch_word, is_too_long, IsMeaningOf, Call, a_batch, an_edit, ask_rows, ask_violations, ask_dropped, Reply, changed_by, refused, listed, printed, violated, dropped_optionals, is_answered, out_of_memory, Step, Run, Command, makes, begins, commits, aborts, asks_rules, asks_violations, asks_dropped, asks_modules, asks_dump, refusal_line, end_line, dump_commands, dump_text, Answer, answer_of, a_line, a_refusal, HeldEdits, all_held, over_the_limits, without_memory, Batch, State, state_of, name_of, held_as, IsHeld, holds, passes_the_limits, has_no_memory, after_the_limits, after_no_memory, IsCommitted, makes_all, was_too_long, had_no_memory, question_of, Answers, by_the_edit, by_holding, by_opening, is_open, by_the_batch, by_closing, none_to_commit, none_to_abort, by_engine, by_modules, by_dump, lines_of, AnswersAll, answers_text, IsSession, all_accepted, some_refused, last_end, one-script}
 use Rattle.cil_specs.specs.Meaning.{Meaning, meaning_of}
 use Rattle.cil_store_specs.specs.Limits.{IsWithinLimits, HasGoodTexts}
 use Rattle.cil_store_specs.specs.Session.{Status, status_of}

@@ -1,6 +1,6 @@
 -- The lines of reports, one after another.
-use Rattle.std.proofs.Common.{◌≡◌, ℕ, zero, suc, ◌+◌, ◌<◌, List, [], ◌∷◌, ◌++◌, length, map, flat_map, codes, take, Option, Some, None, Result, Ok, Err, IsErr, ◌≤◌, sym, ap, ◌∙◌, subst, length-append, arith}
-use Rattle.cil_program.proofs.Common.{slice_get, length-map, flat_map-map, HasFailed, Gains, GainsFront, Store, install_of, disable, makes, commits, command_bytes, end_line, dump_edits, dump_commands, dump_text, gains-both, gains-then_front, front-longer, gains-pieces_more, gains-pieces_front, failed-later, Writes, edit_command, install_command, disable_command}
+use Rattle.cil_program.proofs.Common.{◌≡◌, ℕ, zero, suc, ◌+◌, ◌<◌, List, [], ◌∷◌, ◌++◌, length, map, codes, take, Option, Some, None, Result, Ok, Err, IsErr, ◌≤◌, sym, ap, ◌∙◌, subst, length-append, arith, slice_get, length-map, flat_map-map, HasFailed, Gains, GainsFront, Store, install_of, disable, makes, commits, command_bytes, end_line, dump_edits, dump_commands, dump_text, gains-both, gains-then_front, front-longer, gains-pieces_more, gains-pieces_front, failed-later, Writes, edit_command, install_command, disable_command}
+use Rattle.std.proofs.Common.{flat_map}
 use Rattle.std.proofs.lemmas.Grind.{flat_map-append}
 use Rattle.std.proofs.lemmas.Option.{slice_get_within, get_or_from_slice_get}
 use Rattle.cil_stream.specs.declared.sink.SinkFault.{SinkFault}

@@ -1,6 +1,6 @@
 -- A session, one turn after another.
-use Rattle.std.proofs.Common.{◌≡◌, ◌≢◌, ℕ, ◌+◌, ◌-◌, ◌^◌, ◌<◌, ◌≤◌, ◌||◌, Bool, true, false, List, [], ◌∷◌, ◌++◌, length, take, drop, Some, flat_map, count_by, IsTrue, inl, inr, ◌==◌, refl, ap, sym, ◌∙◌, subst, append_assoc, append-nil, length-append, if◌then◌else◌, arith}
-use Rattle.cil_program.proofs.Common.{list_any, AllByRecursion, list_any-append, append_cancel_left, take-append-drop, Account, Gains, GainsFront, Gives, IsSound, IsLeft, has_ended, Store, Answer, state_of, Answers, lines_of, AnswersAll, Command, line_of, behind, command_bytes, IsCommand, Commands, End, ends, stops, whole, without_end, last_line, IsSession, last_end, all_accepted, some_refused, BeginsWith, whole_ones, all_of_it, all_whole, but_for_the_last, IsCutByWrite, gains-both, gains-none, Fits, Moment, Progress, Standing, Leaves, LeavesByRead, LeavesByWrite, status_of, Advances, outcome_of, after_answer, HasAnswered, HasBegun, IsTurn, IsTurnCut, Read, Write, Status}
+use Rattle.cil_program.proofs.Common.{◌≡◌, ◌≢◌, ℕ, ◌+◌, ◌-◌, ◌^◌, ◌<◌, ◌≤◌, ◌||◌, Bool, true, false, List, [], ◌∷◌, ◌++◌, length, take, drop, Some, count_by, IsTrue, inl, inr, ◌==◌, refl, ap, sym, ◌∙◌, subst, append_assoc, append-nil, length-append, if◌then◌else◌, arith, list_any, AllByRecursion, list_any-append, append_cancel_left, take-append-drop, Account, Gains, GainsFront, Gives, IsSound, IsLeft, has_ended, Store, Answer, state_of, Answers, lines_of, AnswersAll, Command, line_of, behind, command_bytes, IsCommand, Commands, End, ends, stops, whole, without_end, last_line, IsSession, last_end, all_accepted, some_refused, BeginsWith, whole_ones, all_of_it, all_whole, but_for_the_last, IsCutByWrite, gains-both, gains-none, Fits, Moment, Progress, Standing, Leaves, LeavesByRead, LeavesByWrite, status_of, Advances, outcome_of, after_answer, HasAnswered, HasBegun, IsTurn, IsTurnCut, Read, Write, Status}
+use Rattle.std.proofs.Common.{flat_map}
 use Rattle.std.proofs.lemmas.Grind.{flat_map-append}
 use Rattle.std.specs.Option.{option_map}
 use Rattle.cil_store_specs.specs.Session as spec

@@ -1,6 +1,5 @@
 -- A line of a script, and a turn of a session.
-use Rattle.std.proofs.Common.{◌≡◌, ◌≢◌, ℕ, ◌+◌, ◌≤◌, Bool, true, false, List, [], ◌∷◌, ◌++◌, length, IsTrue, IfErr, IsErr, IsErrAnd, Option, Result, Ok, Err, inl, inr, refl, ap, sym, ◌∙◌, subst, append_assoc, append-nil, length-append, true≢false, arith}
-use Rattle.cil_program.proofs.Common.{list_all, list_all-append, HasEnded, has_ended, install, remove, enable, disable, Answer, Answers, Command, makes, begins, commits, aborts, asks_rules, asks_violations, asks_dropped, asks_modules, asks_dump, line_of, behind, HasGoodWords, IsCommand, MayLackItsEnd, IsNoCommand, BeginsNoCommand, both_true, Fits, EndsLine, stays, Writes, Moment, Progress, Advances, outcome_of, HasAnswered, HasBegun, Tries, HasTold, HasToldSome, Does, AreGoodWords, install_line, IsInstallOutcome, IsInstallCut, IsWhole, IsBad, IsOutcome, IsLineCut, IsTurn, IsTurnCut, LineFeed, LastByte, SessionFault, Read, Write}
+use Rattle.cil_program.proofs.Common.{◌≡◌, ◌≢◌, ℕ, ◌+◌, ◌≤◌, Bool, true, false, List, [], ◌∷◌, ◌++◌, length, IsTrue, IfErr, IsErr, IsErrAnd, Option, Result, Ok, Err, inl, inr, refl, ap, sym, ◌∙◌, subst, append_assoc, append-nil, length-append, true≢false, arith, list_all, list_all-append, HasEnded, has_ended, install, remove, enable, disable, Answer, Answers, Command, makes, begins, commits, aborts, asks_rules, asks_violations, asks_dropped, asks_modules, asks_dump, line_of, behind, HasGoodWords, IsCommand, MayLackItsEnd, IsNoCommand, BeginsNoCommand, both_true, Fits, EndsLine, stays, Writes, Moment, Progress, Advances, outcome_of, HasAnswered, HasBegun, Tries, HasTold, HasToldSome, Does, AreGoodWords, install_line, IsInstallOutcome, IsInstallCut, IsWhole, IsBad, IsOutcome, IsLineCut, IsTurn, IsTurnCut, LineFeed, LastByte, SessionFault, Read, Write}
 use Rattle.cil_stream.specs.declared.sink.SinkFault.{SinkFault}
 use Rattle.cil_store_specs.proofs.LineLemmas.{no-line-command, no-last-command, no-long-command}
 use Rattle.cil_program.specs.Session.{IsReadOf}

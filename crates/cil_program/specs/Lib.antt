@@ -1,3 +1,4 @@
+pub mod Common
 pub mod Input
 pub mod Command
 pub mod HeldEdit

@@ -1,13 +1,6 @@
 //! The command line: what its words ask for, and the exit status.
 
-ghost use Rattle.std.specs.Prelude.{◌≡◌, ◌≢◌, ◌⊎◌, ◌≤◌, ℕ, true, List, Result, Some, codes, map, IfOk, OnErr, OnOk};
-ghost use Rattle.clap.specs.Words.{Row, found_of, kind_of, rows_of, subcommand_of, takes};
-ghost use Rattle.clap.specs.declared.error.kind.ErrorKind.TheVariants.{OutOfMemory};
-ghost use Rattle.cil_stream.specs.Device.{Gains, GainsFront, HasFailed};
-ghost use Rattle.cil_store_specs.specs.Next.{for_memory};
-ghost use Rattle.cil_store_specs.specs.Script.{refusal_line};
-ghost use Rattle.cil_program.specs.CommandLine.{AsksSession, AnswersSession, CompilesFiles, LacksMemory, exit_status_of, unreadable_line, untold};
-ghost use Rattle.cil_program.specs.Program.{AnswersCompile, IsToBeWritten, program_app};
+ghost use Rattle.cil_program.specs.Common.{◌≡◌, ◌≢◌, ◌⊎◌, ◌≤◌, ℕ, true, List, Result, Some, codes, map, IfOk, OnErr, OnOk, Row, found_of, kind_of, rows_of, subcommand_of, takes, OutOfMemory, Gains, GainsFront, HasFailed, for_memory, refusal_line, AsksSession, AnswersSession, CompilesFiles, LacksMemory, exit_status_of, unreadable_line, untold, AnswersCompile, IsToBeWritten, program_app};
 ghost use Rattle.cil_program.specs.declared.command_line.compile.Report.{Report};
 ghost use Rattle.cil_program.specs.declared.script.session.SessionFault.{SessionFault};
 ghost use Rattle.cil_program.specs.declared.script.session.Status.{Status};

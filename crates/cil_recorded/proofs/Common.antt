@@ -8,6 +8,7 @@ pub use Rattle.cil_recorded.specs.Recorded.{HasCount, IsSound, count_before, cou
 unfoldable pub use Rattle.cil_recorded.specs.Recorded.{moved}
 pub use Rattle.cil_recorded.specs.declared.step.Step.{Step}
 pub use Rattle.cil_recorded.specs.declared.turn.Turn.{Turn}
+pub use Rattle.std.proofs.Common.{Bool, Err, IfOk, List, MatchBool, Ok, Result, [], ap, arith, bit_and, bit_xor, cond, count_ones, drop, drop-cons, eq-eqb, eqb-true, false, get_or, if◌then◌else◌, inl, inr, le_of_eq, length, min, pow-suc, refl, reverse, rules, set, subst, suc, sym, take, take_all, true, true≢false, vec_len, w64, zero, ℕ, ◌%◌, ◌*◌, ◌++◌, ◌+◌, ◌-◌, ◌/◌, ◌<◌, ◌==◌, ◌^◌, ◌||◌, ◌∙◌, ◌∷◌, ◌≡◌, ◌≢◌, ◌≤◌, ◌⊎◌}
 pub use Rattle.std.proofs.lemmas.Bool.{cases_eq, le-ltb, ne_eqb}
 pub use Rattle.std.proofs.lemmas.List.{append-nil, get_or-reverse, get_or-set_other, get_or_default, length-reverse, reverse-append, take_more, with_items_is}
 pub use Rattle.std.proofs.lemmas.List.Sums.{sum_by-cons, sum_by_more, sum_by_push}

@@ -1,6 +1,5 @@
 -- Steps that have ended, and the lines that stay.
-use Rattle.std.proofs.Common.{◌≡◌, ◌≢◌, ◌⊎◌, ℕ, zero, suc, ◌+◌, ◌*◌, ◌/◌, ◌%◌, ◌<◌, ◌^◌, arith, bit_and, w64, ◌==◌, List, [], ◌∷◌, ◌++◌, Bool, true, false, ◌||◌, cond, get_or, set, refl, sym, ap, ◌∙◌, true≢false, eq-eqb, eqb-true, inl, inr}
-use Rattle.cil_recorded.proofs.Common.{cases_eq, ne_eqb, bit_at, bit_not, bit_at_and, bit_at_not, bit_at-lt, IsPresence, IsSingle, append-nil, Step, falls, has_line, hit_at}
+use Rattle.cil_recorded.proofs.Common.{◌≡◌, ◌≢◌, ◌⊎◌, ℕ, zero, suc, ◌+◌, ◌*◌, ◌/◌, ◌%◌, ◌<◌, ◌^◌, arith, bit_and, w64, ◌==◌, List, [], ◌∷◌, ◌++◌, Bool, true, false, ◌||◌, cond, get_or, set, refl, sym, ap, ◌∙◌, true≢false, eq-eqb, eqb-true, inl, inr, cases_eq, ne_eqb, bit_at, bit_not, bit_at_and, bit_at_not, bit_at-lt, IsPresence, IsSingle, append-nil, Step, falls, has_line, hit_at}
 use Rattle.std.proofs.lemmas.Nat.{and_le_l}
 use Rattle.std.proofs.lemmas.List.Folds.{list_any-append}
 use Rattle.cil_lines.proofs.LineLemmas.{some_bit}

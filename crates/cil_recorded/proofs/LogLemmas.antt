@@ -1,6 +1,5 @@
 -- What a step does to the counters that its log leads back to.
-use Rattle.std.proofs.Common.{zero, suc, ◌≡◌, ◌≢◌, ℕ, ◌+◌, ◌-◌, ◌*◌, ◌/◌, ◌%◌, ◌^◌, ◌<◌, ◌≤◌, List, [], ◌∷◌, ◌++◌, length, set, reverse, Bool, true, false, MatchBool, if◌then◌else◌, min, count_ones, bit_and, refl, sym, ap, subst, ◌∙◌, arith, eq-eqb, inl, inr, le_of_eq, pow-suc, w64}
-use Rattle.cil_recorded.proofs.Common.{cases_eq, ne_eqb, le-ltb, reverse-append, get_or-set_other, sum_by_push, bit_at_and, bit_at_not, bit_at-lt, bit_at_lowest, bit_at-suc, bit_at, bit_not, Counters, count_of, hit, IsPresence, IsSingle, Step, came_by, hit_at, taken_back, undone, went_by, CanUndo, count_in, limit_in, IsSound, sum_below, moved}
+use Rattle.cil_recorded.proofs.Common.{zero, suc, ◌≡◌, ◌≢◌, ℕ, ◌+◌, ◌-◌, ◌*◌, ◌/◌, ◌%◌, ◌^◌, ◌<◌, ◌≤◌, List, [], ◌∷◌, ◌++◌, length, set, reverse, Bool, true, false, MatchBool, if◌then◌else◌, min, count_ones, bit_and, refl, sym, ap, subst, ◌∙◌, arith, eq-eqb, inl, inr, le_of_eq, pow-suc, w64, cases_eq, ne_eqb, le-ltb, reverse-append, get_or-set_other, sum_by_push, bit_at_and, bit_at_not, bit_at-lt, bit_at_lowest, bit_at-suc, bit_at, bit_not, Counters, count_of, hit, IsPresence, IsSingle, Step, came_by, hit_at, taken_back, undone, went_by, CanUndo, count_in, limit_in, IsSound, sum_below, moved}
 use Rattle.std.proofs.lemmas.Grind.{get_or-set_at}
 use Rattle.std.proofs.Math.ListN.{get_or-eq_default}
 use Rattle.std.specs.Int.Count.{ones, ones_step}

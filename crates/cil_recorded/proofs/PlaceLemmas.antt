@@ -1,6 +1,5 @@
 -- Counters of a word that no step is of are as they were.
-use Rattle.std.proofs.Common.{suc, ◌≡◌, ℕ, ◌+◌, ◌-◌, ◌/◌, ◌<◌, ◌≤◌, List, [], ◌∷◌, length, get_or, reverse, Bool, true, false, if◌then◌else◌, refl, sym, ap, ◌∙◌, arith, inl, inr}
-use Rattle.cil_recorded.proofs.Common.{cases_eq, get_or-reverse, length-reverse, Step, hit_at, taken_back, undone}
+use Rattle.cil_recorded.proofs.Common.{suc, ◌≡◌, ℕ, ◌+◌, ◌-◌, ◌/◌, ◌<◌, ◌≤◌, List, [], ◌∷◌, length, get_or, reverse, Bool, true, false, if◌then◌else◌, refl, sym, ap, ◌∙◌, arith, inl, inr, cases_eq, get_or-reverse, length-reverse, Step, hit_at, taken_back, undone}
 use Rattle.cil_recorded.proofs.LogLemmas.{hit_off, hit_out}
 
 abbrev no_step : Step

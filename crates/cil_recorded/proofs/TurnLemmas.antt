@@ -1,6 +1,5 @@
 -- Turns and changes in the order of their words.
-use Rattle.std.proofs.Common.{◌≡◌, ◌≢◌, ℕ, Bool, true, false, if◌then◌else◌, ◌+◌, ◌-◌, ◌*◌, ◌/◌, ◌%◌, ◌^◌, ◌<◌, ◌≤◌, List, [], ◌∷◌, ◌++◌, bit_xor, bit_and, min, refl, sym, arith, inl, inr, Result, Ok, Err, IfOk}
-use Rattle.cil_recorded.proofs.Common.{cases_eq, sum_by-cons, bit_at_xor, bit_at_and, bit_at-lt, Turn, Ascends, alone_at, appeared_at, balance_at, gone_at, key_of, low_at, turn_key, came_by, came_in, hit_at, turned_by, turned_in, went_by, went_in, IsTurned, Step}
+use Rattle.cil_recorded.proofs.Common.{◌≡◌, ◌≢◌, ℕ, Bool, true, false, if◌then◌else◌, ◌+◌, ◌-◌, ◌*◌, ◌/◌, ◌%◌, ◌^◌, ◌<◌, ◌≤◌, List, [], ◌∷◌, ◌++◌, bit_xor, bit_and, min, refl, sym, arith, inl, inr, Result, Ok, Err, IfOk, cases_eq, sum_by-cons, bit_at_xor, bit_at_and, bit_at-lt, Turn, Ascends, alone_at, appeared_at, balance_at, gone_at, key_of, low_at, turn_key, came_by, came_in, hit_at, turned_by, turned_in, went_by, went_in, IsTurned, Step}
 use Rattle.cil_recorded.proofs.LogLemmas.{hit_on, hit_off, hit_out}
 use Rattle.cil_recorded.specs.declared.recorded_lines.changes.Change.{Change}
 

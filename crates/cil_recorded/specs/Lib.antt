@@ -1,3 +1,4 @@
+pub mod Common
 pub mod Log
 pub mod Recorded
 pub mod Differences

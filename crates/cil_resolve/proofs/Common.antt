@@ -56,6 +56,7 @@ pub use Rattle.cil_specs.specs.Rule.{Declared, IsSameSet, Rule, SetContent, SetS
 pub use Rattle.cil_specs.specs.Sets.{DependsOn, HasNoCircle, IsNextOf, element_holds, holds_with, is_the_attribute, mentions}
 pub use Rattle.cil_specs.specs.Statements.{Form, RuleKind, Target, alias_actual, allow, attribute_set, auditallow, block, class, class_common, class_order, common, dontaudit, is_optional, itself, neverallow, optional, rule, target_words, the_named, type_alias, type_attribute, type_name}
 pub use Rattle.cil_text.specs.Image.{place_of, rule_kind_of}
+pub use Rattle.std.proofs.Common.{All, Bool, Contains, Err, IfOk, IsTrue, List, None, Ok, Option, Result, Some, Vec, [], ap, append-nil, append_assoc, arith, bytes_eq, cond, eq-eqb, false, filter, flat_map, fold, get_or, if◌then◌else◌, inl, inr, is_some, length, length-take-le, map, nat_lt, not, of_calls, option_map, position, refl, rules, set, slice_index_or, subst, suc, sym, take, true, true≢false, zero, ℕ, ◌&&◌, ◌++◌, ◌+◌, ◌<◌, ◌==◌, ◌^◌, ◌||◌, ◌↔◌, ◌∙◌, ◌∷◌, ◌≡◌, ◌≢◌, ◌≤◌, ◌⊎◌}
 pub use Rattle.std.proofs.Math.Bool.{or-false, or-true}
 pub use Rattle.std.proofs.lemmas.Bool.{and_parts, cases_eq, cases_lt, cases_order, eqb-true, lt-ltb, ltb-true}
 pub use Rattle.std.proofs.lemmas.Cmp.{nat_eq_equiv, nat_list_cmp_total, tied_itself}

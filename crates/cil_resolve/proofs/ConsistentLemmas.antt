@@ -1,6 +1,5 @@
 -- The rules of a policy without faults name what it declares.
-use Rattle.std.proofs.Common.{◌≡◌, true, false, ◌&&◌, ◌||◌, List, [], ◌∷◌, ◌++◌, map, Contains, Option, Some, None, is_some, bytes_eq, refl, sym, ap, ◌∙◌, subst, true≢false, if◌then◌else◌}
-use Rattle.cil_resolve.proofs.Common.{list_all, list_any, find, option_and_then, Word, Placed, RuleKind, Form, block, optional, type_name, type_alias, alias_actual, type_attribute, attribute_set, common, class, class_common, class_order, rule, Target, itself, the_named, target_words, types, classes, declared_in, declared_name, leads, references, named_permissions, has_name, texts, distinct, permissions_of, gives_actual, actual_statement, actual_in, actual_of, is_type, is_alias, is_attribute, element_words, kinds_asked, declared_as, class_as, is_class, types_of, attributes_of, classes_of, rules_of, rule_of, element_or_none, element_at, class_name, name_or_none, contains-first, contains-other, contains-map, contains-middle, both_true, bytes_eq-refl, IsFaultless, has-fold, is_declared, is_element_of, is_aim_of, is_class_with, is_rule_of, are_rules_of}
+use Rattle.cil_resolve.proofs.Common.{◌≡◌, true, false, ◌&&◌, ◌||◌, List, [], ◌∷◌, ◌++◌, map, Contains, Option, Some, None, is_some, bytes_eq, refl, sym, ap, ◌∙◌, subst, true≢false, if◌then◌else◌, list_all, list_any, find, option_and_then, Word, Placed, RuleKind, Form, block, optional, type_name, type_alias, alias_actual, type_attribute, attribute_set, common, class, class_common, class_order, rule, Target, itself, the_named, target_words, types, classes, declared_in, declared_name, leads, references, named_permissions, has_name, texts, distinct, permissions_of, gives_actual, actual_statement, actual_in, actual_of, is_type, is_alias, is_attribute, element_words, kinds_asked, declared_as, class_as, is_class, types_of, attributes_of, classes_of, rules_of, rule_of, element_or_none, element_at, class_name, name_or_none, contains-first, contains-other, contains-map, contains-middle, both_true, bytes_eq-refl, IsFaultless, has-fold, is_declared, is_element_of, is_aim_of, is_class_with, is_rule_of, are_rules_of}
 use Rattle.cil_specs.specs.Rule.{element_of, resolved_target_of}
 use Rattle.cil_resolve.proofs.ElementLemmas.{IsTypeKind, is_a_type, is_an_alias, is_an_attribute, type-kind, find-holds, gives-form}
 use Rattle.cil_resolve.proofs.FaultlessLemmas.{word-found, permission-found, kind-found, alias-set}

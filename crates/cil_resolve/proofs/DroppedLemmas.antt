@@ -1,6 +1,6 @@
 -- Optionals of a bound policy.
-use Rattle.std.proofs.Common.{◌≡◌, ℕ, true, false, not, ◌&&◌, if◌then◌else◌, ◌∷◌, ◌<◌, List, [], length, map, get_or, slice_get, Some, refl, sym, ap, ◌∙◌, subst}
-use Rattle.cil_resolve.proofs.Common.{same_Some, slice_get-get_or, Word, Form, block, optional, type_name, type_alias, alias_actual, type_attribute, attribute_set, common, class, class_common, class_order, rule, is_optional, Placed, scopes, full_name, declared_as, Optionals, IsBoundTo, NamedModule, Row, row-at, from-at, dropped_if, name_in}
+use Rattle.cil_resolve.proofs.Common.{◌≡◌, ℕ, true, false, not, ◌&&◌, if◌then◌else◌, ◌∷◌, ◌<◌, List, [], length, map, get_or, Some, refl, sym, ap, ◌∙◌, subst, same_Some, slice_get-get_or, Word, Form, block, optional, type_name, type_alias, alias_actual, type_attribute, attribute_set, common, class, class_common, class_order, rule, is_optional, Placed, scopes, full_name, declared_as, Optionals, IsBoundTo, NamedModule, Row, row-at, from-at, dropped_if, name_in}
+use Rattle.std.proofs.Common.{slice_get}
 use Rattle.cil_bind.specs.Scope.{IsFrom}
 use Rattle.cil_bind.specs.declared.policy.Policy.{Policy}
 use Rattle.cil_resolve.proofs.FullNamesLemmas.{space_name_of, name-here}

@@ -1,6 +1,6 @@
 -- The evaluation of set statements by the numbers of names.
-use Rattle.std.proofs.Common.{◌≡◌, ◌==◌, ℕ, ◌<◌, Bool, true, false, ◌&&◌, nat_lt, List, map, length, slice_get, Contains, Option, Some, None, option_map, bytes_eq, refl, sym, ap, ◌∙◌}
-use Rattle.cil_resolve.proofs.Common.{list_all, list_any, ltb-true, bytes_eq-Decides, Expr, leaves, map_leaves, SetStatement, element_holds, holds_with, mentions, is_the_attribute, Meaning, keeps_type, is_in, holds, is_member, none-some, same_Some, slice_get-map, first_true, second_true, any-contained, leaves-mapped, in-known, contains-map, expr_in, Element, «Type», Attribute, is_element_below, is_set_below, element_of, set_of, meaning_in, sets_at, NumberedSet}
+use Rattle.cil_resolve.proofs.Common.{◌≡◌, ◌==◌, ℕ, ◌<◌, Bool, true, false, ◌&&◌, nat_lt, List, map, length, Contains, Option, Some, None, option_map, bytes_eq, refl, sym, ap, ◌∙◌, list_all, list_any, ltb-true, bytes_eq-Decides, Expr, leaves, map_leaves, SetStatement, element_holds, holds_with, mentions, is_the_attribute, Meaning, keeps_type, is_in, holds, is_member, none-some, same_Some, slice_get-map, first_true, second_true, any-contained, leaves-mapped, in-known, contains-map, expr_in, Element, «Type», Attribute, is_element_below, is_set_below, element_of, set_of, meaning_in, sets_at, NumberedSet}
+use Rattle.std.proofs.Common.{slice_get}
 use Rattle.cil_specs.specs.Rule as spec
 use Rattle.cil_specs.proofs.ExistsLemmas.{of-all}
 use Rattle.cil_expression.specs.Holds.{holds_by, Answers}

@@ -1,6 +1,5 @@
 -- Statements that are rules, by their kinds.
-use Rattle.std.proofs.Common.{◌≡◌, List, refl}
-use Rattle.cil_resolve.proofs.Common.{Word, RuleKind, itself, the_named, Form, block, optional, type_name, type_alias, alias_actual, type_attribute, attribute_set, common, class, class_common, class_order, rule, kind_of}
+use Rattle.cil_resolve.proofs.Common.{◌≡◌, List, refl, Word, RuleKind, itself, the_named, Form, block, optional, type_name, type_alias, alias_actual, type_attribute, attribute_set, common, class, class_common, class_order, rule, kind_of}
 use Rattle.cil_text.specs.declared.statement.RuleKind as code
 use Rattle.cil_parse.specs.declared.row.StatementKind.TheVariants as kinds
 

@@ -1,6 +1,5 @@
 -- What is known of the numbers of permissions, as lists come.
-use Rattle.std.proofs.Common.{◌≡◌, ◌⊎◌, inl, inr, ℕ, zero, suc, List, [], ◌∷◌, ◌++◌, get_or, Option, Some, None, sym, subst}
-use Rattle.cil_resolve.proofs.Common.{Placed, known_at, list_at, HaveNumbers, KnowNumbers}
+use Rattle.cil_resolve.proofs.Common.{◌≡◌, ◌⊎◌, inl, inr, ℕ, zero, suc, List, [], ◌∷◌, ◌++◌, get_or, Option, Some, None, sym, subst, Placed, known_at, list_at, HaveNumbers, KnowNumbers}
 use Rattle.cil_resolve.specs.declared.known_permissions.KnownPermissions.{KnownPermissions}
 use Rattle.cil_resolve.specs.declared.lowering.Lowering.{Lowering}
 

@@ -1,6 +1,5 @@
 -- Where look-ups of names lead.
-use Rattle.std.proofs.Common.{◌≡◌, ◌∙◌, ℕ, Bool, true, false, List, [], ◌∷◌, Contains, Option, Some, None, is_some, refl, if◌then◌else◌}
-use Rattle.cil_resolve.proofs.Common.{option_or, option_and_then, none-some, Word, components, Placed, Table, declared_in, declares, declaration, is_word, same_namespace, has_block, outward, nearest_block, inside, from_namespace, is_global, leads, first_true}
+use Rattle.cil_resolve.proofs.Common.{◌≡◌, ◌∙◌, ℕ, Bool, true, false, List, [], ◌∷◌, Contains, Option, Some, None, is_some, refl, if◌then◌else◌, option_or, option_and_then, none-some, Word, components, Placed, Table, declared_in, declares, declaration, is_word, same_namespace, has_block, outward, nearest_block, inside, from_namespace, is_global, leads, first_true}
 use Rattle.cil_resolve.proofs.ElementLemmas.{find-holds}
 use Rattle.cil_resolve.proofs.ListLemmas.{find-there}
 

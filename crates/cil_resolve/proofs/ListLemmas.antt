@@ -1,6 +1,5 @@
 -- Tests of the elements of lists.
-use Rattle.std.proofs.Common.{◌≡◌, ◌∙◌, Bool, true, false, ◌||◌, List, [], ◌∷◌, ◌++◌, flat_map, Contains, Some, cond, refl, ap, subst}
-use Rattle.cil_resolve.proofs.Common.{list_all, list_any, find, or-true, flat_map-append, list_any-append, list_all-append, none-some, same_Some, around, contains-first, contains-other, both_true}
+use Rattle.cil_resolve.proofs.Common.{◌≡◌, ◌∙◌, Bool, true, false, ◌||◌, List, [], ◌∷◌, ◌++◌, flat_map, Contains, Some, cond, refl, ap, subst, list_all, list_any, find, or-true, flat_map-append, list_any-append, list_all-append, none-some, same_Some, around, contains-first, contains-other, both_true}
 
 -- what passes a test in the list of one element passes it in the list of all
 pub any-of-flat : {X Y : Type 0} (p : Y → Bool) (f : X → List Y) (xs : List X) (x : X) → Contains xs x → list_any p (f x) ≡ true → list_any p (flat_map f xs) ≡ true

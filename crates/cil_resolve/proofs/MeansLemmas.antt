@@ -1,6 +1,5 @@
 -- What a policy means is consistent.
-use Rattle.std.proofs.Common.{◌≡◌, ◌∙◌, ℕ, true, List, [], ◌∷◌, Contains, refl, sym, ap, subst, if◌then◌else◌}
-use Rattle.cil_resolve.proofs.Common.{Word, Placed, PolicyFault, twice, missing, missing_words, is_outside, IsFaultOf, Optionals, restricted, AreKept, AreApart, judged, Compiles, Meaning, Means, around, contains-first, IsFaultless, is_consistent}
+use Rattle.cil_resolve.proofs.Common.{◌≡◌, ◌∙◌, ℕ, true, List, [], ◌∷◌, Contains, refl, sym, ap, subst, if◌then◌else◌, Word, Placed, PolicyFault, twice, missing, missing_words, is_outside, IsFaultOf, Optionals, restricted, AreKept, AreApart, judged, Compiles, Meaning, Means, around, contains-first, IsFaultless, is_consistent}
 use Rattle.cil_resolve.proofs.ConsistentLemmas.{rules-declared}
 use Rattle.cil_resolve.proofs.JudgedLemmas.{fault-of-within, kept-inside}
 

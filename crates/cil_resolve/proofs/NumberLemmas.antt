@@ -1,6 +1,6 @@
 -- Names, and their numbers.
-use Rattle.std.proofs.Common.{◌≡◌, ◌⊎◌, inl, inr, set, append_assoc, ℕ, ◌+◌, ◌<◌, ◌==◌, zero, suc, Bool, true, false, ◌||◌, nat_lt, List, [], ◌∷◌, ◌++◌, length, get_or, take, map, flat_map, fold, slice_get, Contains, Option, Some, bytes_eq, refl, sym, ap, ◌∙◌, subst, true≢false, arith, eqb-true, eq-eqb, if◌then◌else◌}
-use Rattle.cil_resolve.proofs.Common.{list_all, list_any, AllByRecursion, IsDistinct, or-false, or-true, cases_order, get_or_append_left, get_or_push, get_or-set_same, get_or-set_other, bytes_eq-refl, bytes_eq-true, distinct-place, lt-ltb, none-some, same_Some, slice_get_within, get_or_from_slice_get, list_any-append, fold-append, bytes_eq-Decides, Word, Placed, has_name, with_name, distinct, texts, own_permissions, both_true, first_true, second_true, kind_of, lists_own, none-listed, has-distinct, is_numbered, is_numbered_kind, full_name_of, names_with, names_of, AreNamesOf, listed_names, number_in, AreNumbersIn, HavePermissionsOf}
+use Rattle.cil_resolve.proofs.Common.{◌≡◌, ◌⊎◌, inl, inr, set, append_assoc, ℕ, ◌+◌, ◌<◌, ◌==◌, zero, suc, Bool, true, false, ◌||◌, nat_lt, List, [], ◌∷◌, ◌++◌, length, get_or, take, map, flat_map, fold, Contains, Option, Some, bytes_eq, refl, sym, ap, ◌∙◌, subst, true≢false, arith, eq-eqb, if◌then◌else◌, list_all, list_any, AllByRecursion, IsDistinct, or-false, or-true, cases_order, get_or_append_left, get_or_push, get_or-set_same, get_or-set_other, bytes_eq-refl, bytes_eq-true, distinct-place, lt-ltb, none-some, same_Some, slice_get_within, get_or_from_slice_get, list_any-append, fold-append, bytes_eq-Decides, Word, Placed, has_name, with_name, distinct, texts, own_permissions, both_true, first_true, second_true, kind_of, lists_own, none-listed, has-distinct, is_numbered, is_numbered_kind, full_name_of, names_with, names_of, AreNamesOf, listed_names, number_in, AreNumbersIn, HavePermissionsOf}
+use Rattle.std.proofs.Common.{slice_get, eqb-true}
 use Rattle.std.proofs.lemmas.List.Quantifiers.{position-Some}
 use Rattle.cil_resolve.proofs.FullNamesLemmas.{kind-numbered}
 use Rattle.cil_resolve.proofs.ListLemmas.{any-of-flat}

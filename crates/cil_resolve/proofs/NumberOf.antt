@@ -1,6 +1,5 @@
 -- The number of a name among names in the order of their bytes.
-use Rattle.std.proofs.Common.{◌≡◌, ℕ, zero, suc, ◌<◌, ◌≤◌, Bool, true, false, ◌||◌, nat_lt, List, [], ◌∷◌, map, length, get_or, slice_index_or, bytes_eq, arith, Option, Some, None, refl, sym, ap, ◌∙◌, subst, true≢false}
-use Rattle.cil_resolve.proofs.Common.{prefix_len, list_all, list_any, slice_get, IsPartitionedBy, IsPartitionPoint, MatchOption, is_lt, Equal, and_parts, ltb-true, lt-ltb, nat_list_cmp_total, tied_itself, same_Some, slice_get_past, slice_get_read, bytes_eq-Decides, has_name, name_cmp, names_rise, is_name_below, declared_of}
+use Rattle.cil_resolve.proofs.Common.{◌≡◌, ℕ, zero, suc, ◌<◌, ◌≤◌, Bool, true, false, ◌||◌, nat_lt, List, [], ◌∷◌, map, length, get_or, slice_index_or, bytes_eq, arith, Option, Some, None, refl, sym, ap, ◌∙◌, subst, true≢false, prefix_len, list_all, list_any, slice_get, IsPartitionedBy, IsPartitionPoint, MatchOption, is_lt, Equal, and_parts, ltb-true, lt-ltb, nat_list_cmp_total, tied_itself, same_Some, slice_get_past, slice_get_read, bytes_eq-Decides, has_name, name_cmp, names_rise, is_name_below, declared_of}
 use Rattle.std.proofs.lemmas.Map.Lookups.{exact_bytes}
 use Rattle.cil_specs.proofs.ReportLemmas.{sorted_from_names_rise}
 use Rattle.cil_resolve.specs.declared.numbered.NumberedName.{NumberedName}

@@ -1,6 +1,5 @@
 -- Expressions of one name, by their nodes.
-use Rattle.std.proofs.Common.{◌≡◌, ◌∙◌, List, ℕ, true, [], ◌∷◌, length, IsTrue, refl, sym, ap, subst}
-use Rattle.cil_resolve.proofs.Common.{list_all, Word, Expr, WordExpr, named, nothing, elements, leaves, map_leaves, both_true, expr_nodes, expr_in, Element, expr-is, written-nodes, is_element_below, IsElement, IsExpression, element_of}
+use Rattle.cil_resolve.proofs.Common.{◌≡◌, ◌∙◌, List, ℕ, true, [], ◌∷◌, length, IsTrue, refl, sym, ap, subst, list_all, Word, Expr, WordExpr, named, nothing, elements, leaves, map_leaves, both_true, expr_nodes, expr_in, Element, expr-is, written-nodes, is_element_below, IsElement, IsExpression, element_of}
 use Rattle.cil_specs.specs.Rule as spec
 use Rattle.cil_parse.specs.declared.row.SetNode.{SetNode}
 use Rattle.cil_parse.specs.declared.row.SetNode.TheVariants as nodes

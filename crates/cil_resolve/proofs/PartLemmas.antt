@@ -1,6 +1,5 @@
 -- The types, attributes, classes, set statements and rules of a policy, statement by statement.
-use Rattle.std.proofs.Common.{◌≡◌, ℕ, Bool, true, false, ◌&&◌, nat_lt, List, [], ◌∷◌, ◌++◌, length, map, flat_map, Some, refl, sym, ap, ◌∙◌, true≢false, append-nil, if◌then◌else◌}
-use Rattle.cil_resolve.proofs.Common.{list_all, lt-ltb, map-append, list_all-append, flat_map-append, Word, Placed, Form, block, optional, type_name, type_alias, alias_actual, type_attribute, attribute_set, common, class, class_common, class_order, rule, types, classes, declared_in, distinct, permissions_of, declared_as, class_as, is_class, is_type, is_attribute, itself, the_named, kind_of, kind-form, both_true, is_name_below, numbered_id, full_name_of, IsDeclared, IsClass, type_if, attribute_if, class_if, set_if, rule_if, AreNumbersIn, declared_of}
+use Rattle.cil_resolve.proofs.Common.{◌≡◌, ℕ, Bool, true, false, ◌&&◌, nat_lt, List, [], ◌∷◌, ◌++◌, length, map, flat_map, Some, refl, sym, ap, ◌∙◌, true≢false, append-nil, if◌then◌else◌, list_all, lt-ltb, map-append, list_all-append, flat_map-append, Word, Placed, Form, block, optional, type_name, type_alias, alias_actual, type_attribute, attribute_set, common, class, class_common, class_order, rule, types, classes, declared_in, distinct, permissions_of, declared_as, class_as, is_class, is_type, is_attribute, itself, the_named, kind_of, kind-form, both_true, is_name_below, numbered_id, full_name_of, IsDeclared, IsClass, type_if, attribute_if, class_if, set_if, rule_if, AreNumbersIn, declared_of}
 use Rattle.cil_specs.specs.Rule as spec
 use Rattle.cil_parse.specs.declared.row.StatementKind.{StatementKind}
 use Rattle.cil_parse.specs.declared.row.StatementKind.TheVariants as kinds

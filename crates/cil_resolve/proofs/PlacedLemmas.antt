@@ -1,6 +1,6 @@
 -- What a policy declares, and its rules, stand in its modules.
-use Rattle.std.proofs.Common.{◌≡◌, ◌∙◌, inl, inr, arith, ℕ, zero, suc, Bool, true, false, ◌&&◌, ◌||◌, List, [], ◌∷◌, Contains, Some, slice_get, bytes_eq, refl, ap, if◌then◌else◌}
-use Rattle.cil_resolve.proofs.Common.{list_all, or-true, none-some, same_Some, Form, rule, Placed, types, has_name, is_type, is_attribute, declared_as, class_as, is_class, types_of, attributes_of, classes_of, rules_of, rule_of, contains-cases, both_true, NamedModule, Row, bytes_eq-refl, are_placed_in}
+use Rattle.cil_resolve.proofs.Common.{◌≡◌, ◌∙◌, inl, inr, arith, ℕ, zero, suc, Bool, true, false, ◌&&◌, ◌||◌, List, [], ◌∷◌, Contains, Some, bytes_eq, refl, ap, if◌then◌else◌, list_all, or-true, none-some, same_Some, Form, rule, Placed, types, has_name, is_type, is_attribute, declared_as, class_as, is_class, types_of, attributes_of, classes_of, rules_of, rule_of, contains-cases, both_true, NamedModule, Row, bytes_eq-refl, are_placed_in}
+use Rattle.std.proofs.Common.{slice_get}
 use Rattle.cil_bind.specs.Scope.{AreFrom}
 use Rattle.cil_resolve.specs.Modules.{names_of}
 use Rattle.cil_resolve.proofs.ListLemmas.{all-of-flat}

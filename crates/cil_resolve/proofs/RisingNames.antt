@@ -1,6 +1,6 @@
 -- Names that rise, by their numbers.
-use Rattle.std.proofs.Common.{◌≡◌, ◌==◌, ℕ, ◌<◌, ◌⊎◌, inl, inr, true, true≢false, List, [], length, get_or, Less, Equal, bytes_eq, is_lt, IsTrue, sym, ap, ◌∙◌, eq-eqb}
-use Rattle.cil_resolve.proofs.Common.{IsStrictlySortedBy, cases_order, eqb-true, tied_itself, bytes_eq-Decides, name_cmp, names_rise, same-bool}
+use Rattle.cil_resolve.proofs.Common.{◌≡◌, ◌==◌, ℕ, ◌<◌, ◌⊎◌, inl, inr, true, true≢false, List, [], length, get_or, bytes_eq, IsTrue, sym, ap, ◌∙◌, eq-eqb, IsStrictlySortedBy, cases_order, eqb-true, tied_itself, bytes_eq-Decides, name_cmp, names_rise, same-bool}
+use Rattle.std.proofs.Common.{Less, Equal, is_lt}
 use Rattle.std.proofs.lemmas.Map.Keys.{Less-from_sorted}
 use Rattle.cil_specs.proofs.ReportLemmas.{name_total, sorted_from_names_rise}
 

@@ -1,6 +1,6 @@
 -- Rules by numbers.
-use Rattle.std.proofs.Common.{◌≡◌, ℕ, Bool, true, false, ◌&&◌, ◌||◌, nat_lt, List, [], ◌∷◌, length, get_or, map, flat_map, slice_get, Contains, Option, Some, None, is_some, bytes_eq, refl, sym, ap, ◌∙◌, subst, true≢false, if◌then◌else◌}
-use Rattle.cil_resolve.proofs.Common.{list_all, lt-ltb, none-some, slice_get-get_or, Word, Placed, RuleKind, allow, auditallow, dontaudit, neverallow, Target, Form, block, optional, type_name, type_alias, alias_actual, type_attribute, attribute_set, common, class, class_common, class_order, rule, unwrap_or, list_any-append, contains-first, contains-other, contains-map, rule_kind, IsLead, IsFaultless, lead-of, bound-at, Table, commons, classes, has_name, texts, own_permissions, listed_by, leads, references, named_permissions, gives_common, common_permissions, permissions_of, class_name, both_true, place_of, rule_kind_of, is_element_below, is_target_below, is_rule_below, IsElement, AreRules, number_in, AreNumbersIn, listed_names, resolved_target_of}
+use Rattle.cil_resolve.proofs.Common.{◌≡◌, ℕ, Bool, true, false, ◌&&◌, ◌||◌, nat_lt, List, [], ◌∷◌, length, get_or, map, flat_map, Contains, Option, Some, None, is_some, bytes_eq, refl, sym, ap, ◌∙◌, subst, true≢false, if◌then◌else◌, list_all, lt-ltb, none-some, slice_get-get_or, Word, Placed, RuleKind, allow, auditallow, dontaudit, neverallow, Target, Form, block, optional, type_name, type_alias, alias_actual, type_attribute, attribute_set, common, class, class_common, class_order, rule, unwrap_or, list_any-append, contains-first, contains-other, contains-map, rule_kind, IsLead, IsFaultless, lead-of, bound-at, Table, commons, classes, has_name, texts, own_permissions, listed_by, leads, references, named_permissions, gives_common, common_permissions, permissions_of, class_name, both_true, place_of, rule_kind_of, is_element_below, is_target_below, is_rule_below, IsElement, AreRules, number_in, AreNumbersIn, listed_names, resolved_target_of}
+use Rattle.std.proofs.Common.{slice_get}
 use Rattle.cil_bind.specs.Binding.{AreBound}
 use Rattle.cil_resolve.proofs.FaultlessLemmas.{permission-found}
 use Rattle.cil_resolve.proofs.LoweringLemmas.{found-at}

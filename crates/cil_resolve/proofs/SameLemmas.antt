@@ -1,6 +1,5 @@
 -- Set statements that are the same.
-use Rattle.std.proofs.Common.{◌≡◌, ◌==◌, Bool, true, false, true≢false, ◌&&◌, List, [], ◌∷◌, map, bytes_eq, refl, sym, ap, ◌∙◌, eq-eqb}
-use Rattle.cil_resolve.proofs.Common.{eqb-true, bytes_eq-Decides, Expr, every, named, opposite, both, either, one_of, nothing, elements, leaves, map_leaves, a_type, an_attribute, SetStatement, SetContent, IsSameSet, leaves-mapped, first_true, second_true, both_true, nodes-mapped, same_element, same_set}
+use Rattle.cil_resolve.proofs.Common.{◌≡◌, ◌==◌, Bool, true, false, true≢false, ◌&&◌, List, [], ◌∷◌, map, bytes_eq, refl, sym, ap, ◌∙◌, eq-eqb, eqb-true, bytes_eq-Decides, Expr, every, named, opposite, both, either, one_of, nothing, elements, leaves, map_leaves, a_type, an_attribute, SetStatement, SetContent, IsSameSet, leaves-mapped, first_true, second_true, both_true, nodes-mapped, same_element, same_set}
 use Rattle.cil_specs.specs.Rule.{Element}
 use Rattle.cil_expression.specs.Same.{all_same, same_node, are_same}
 use Rattle.cil_expression.proofs.SameExprLemmas.{same-mapped, mapped-same}

@@ -1,6 +1,6 @@
 -- Set statements by numbers.
-use Rattle.std.proofs.Common.{◌≡◌, ℕ, ◌+◌, suc, true, ◌&&◌, nat_lt, List, [], ◌∷◌, ◌++◌, length, get_or, map, slice_get, Contains, IsTrue, Some, refl, sym, ap, ◌∙◌, subst, arith}
-use Rattle.cil_resolve.proofs.Common.{list_all, lt-ltb, map-append, length-map, list_all-append, Word, WordExpr, leaves, map_leaves, Placed, types, leads, references, element_words, attribute_set, name_or_none, both_true, leaves-mapped, place_of, expr_nodes, words_in, set-reference, is_element_below, is_set_below, expr_in, expr-is, nodes-mapped, written-spelt, filled, IsElement, AreElements, IsExpression, AreSets, number_in, element_of, Element, NumberedSet}
+use Rattle.cil_resolve.proofs.Common.{◌≡◌, ℕ, ◌+◌, suc, true, ◌&&◌, nat_lt, List, [], ◌∷◌, ◌++◌, length, get_or, map, Contains, IsTrue, Some, refl, sym, ap, ◌∙◌, subst, arith, list_all, lt-ltb, map-append, length-map, list_all-append, Word, WordExpr, leaves, map_leaves, Placed, types, leads, references, element_words, attribute_set, name_or_none, both_true, leaves-mapped, place_of, expr_nodes, words_in, set-reference, is_element_below, is_set_below, expr_in, expr-is, nodes-mapped, written-spelt, filled, IsElement, AreElements, IsExpression, AreSets, number_in, element_of, Element, NumberedSet}
+use Rattle.std.proofs.Common.{slice_get}
 use Rattle.cil_specs.specs.Rule as spec
 use Rattle.cil_expression.specs.Spelling.{expr_of, IsSpelt}
 use Rattle.cil_expression.specs.declared.expression.SetExpression.{SetExpression}

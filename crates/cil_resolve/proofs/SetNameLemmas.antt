@@ -1,6 +1,6 @@
 -- The order of set statements, by names.
-use Rattle.std.proofs.Common.{◌≡◌, ◌≢◌, ◌∙◌, inl, inr, ℕ, zero, suc, ◌<◌, ◌≤◌, Bool, true, false, List, [], ◌∷◌, length, map, get_or, Option, Some, None, slice_get, Contains, bytes_eq, refl, sym, ap, subst, true≢false, eqb-true, arith}
-use Rattle.cil_resolve.proofs.Common.{cons_option, list_any, Contains-from_any, get_or_from_slice_get, slice_get-get_or, slice_get_within, bytes_eq-Decides, leaves, an_attribute, SetStatement, is_the_attribute, mentions, HasNoCircle, IsNextOf, any-contained, contains-cases, contains-first, contains-map, contains-mapped, contains-middle, contains-other, passes-among, Element, «Type», Attribute, NumberedSet, element_of, set_of, names_in, sets_at, AreNamed, AreStraight, DependsThrough, IsNext, IsSetOrder, leaves-mapped, expr_in}
+use Rattle.cil_resolve.proofs.Common.{◌≡◌, ◌≢◌, ◌∙◌, inl, inr, ℕ, zero, suc, ◌<◌, ◌≤◌, Bool, true, false, List, [], ◌∷◌, length, map, get_or, Option, Some, None, Contains, bytes_eq, refl, sym, ap, subst, true≢false, arith, cons_option, list_any, Contains-from_any, get_or_from_slice_get, slice_get-get_or, slice_get_within, bytes_eq-Decides, leaves, an_attribute, SetStatement, is_the_attribute, mentions, HasNoCircle, IsNextOf, any-contained, contains-cases, contains-first, contains-map, contains-mapped, contains-middle, contains-other, passes-among, Element, «Type», Attribute, NumberedSet, element_of, set_of, names_in, sets_at, AreNamed, AreStraight, DependsThrough, IsNext, IsSetOrder, leaves-mapped, expr_in}
+use Rattle.std.proofs.Common.{slice_get, eqb-true}
 use Rattle.cil_specs.specs.Dependence.{has_set, AreInOrder, AreTheSame}
 use Rattle.cil_specs.specs.Rule as spec
 use Rattle.cil_specs.specs.Sets as sets_by_names

@@ -1,6 +1,6 @@
 -- The graph of set statements, and their order.
-use Rattle.std.proofs.Common.{◌≡◌, ◌≢◌, ◌↔◌, ◌⊎◌, ◌∙◌, inl, inr, ℕ, zero, suc, ◌+◌, ◌<◌, ◌≤◌, true, List, [], ◌∷◌, ◌++◌, length, take, map, get_or, nat_lt, Option, Some, None, Result, Ok, Err, IfOk, slice_get, Vec, All, AllPairs, Contains, refl, sym, ap, subst, ltb-true, arith}
-use Rattle.cil_resolve.proofs.Common.{list_all, AllByRecursion, cases_eq, cases_lt, nat_eq_equiv, get_or_default, get_or-map, length-map, take_all, take_more, Contains-append_left, Contains-push, Contains-push_cases, list_any-from_Contains, get_or_from_slice_get, slice_get_within, cons_option, option_and_then, contains-cases, none-there, leaves, expr_in, first_true, second_true, IsEdge, AreNodes, LeadsThrough, Element, «Type», Attribute, NumberedSet, is_set_below, is_element_below, names_in, attributes_in, AreStraight, DependsThrough, IsNext, IsSetOrder, Mentions, StandTogether, sets_at}
+use Rattle.cil_resolve.proofs.Common.{◌≡◌, ◌≢◌, ◌↔◌, ◌⊎◌, ◌∙◌, inl, inr, ℕ, zero, suc, ◌+◌, ◌<◌, ◌≤◌, true, List, [], ◌∷◌, ◌++◌, length, take, map, get_or, nat_lt, Option, Some, None, Result, Ok, Err, IfOk, Vec, All, Contains, refl, sym, ap, subst, arith, list_all, AllByRecursion, cases_eq, cases_lt, nat_eq_equiv, get_or_default, get_or-map, length-map, take_all, take_more, Contains-append_left, Contains-push, Contains-push_cases, list_any-from_Contains, get_or_from_slice_get, slice_get_within, cons_option, option_and_then, contains-cases, none-there, leaves, expr_in, first_true, second_true, IsEdge, AreNodes, LeadsThrough, Element, «Type», Attribute, NumberedSet, is_set_below, is_element_below, names_in, attributes_in, AreStraight, DependsThrough, IsNext, IsSetOrder, Mentions, StandTogether, sets_at}
+use Rattle.std.proofs.Common.{slice_get, AllPairs, ltb-true}
 use Rattle.cil_dependence.specs.Dependence.{IsOrder, IsCircular}
 use Rattle.cil_dependence.specs.Items.{AreEachOnce, ComesBefore}
 

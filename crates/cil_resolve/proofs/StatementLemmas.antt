@@ -1,6 +1,6 @@
 -- Statements of a policy at their places.
-use Rattle.std.proofs.Common.{◌≡◌, ℕ, ◌+◌, ◌<◌, zero, suc, List, [], ◌∷◌, ◌++◌, length, get_or, take, map, flat_map, slice_get, Contains, Some, sym, ap, ◌∙◌, subst, arith, append-nil}
-use Rattle.cil_resolve.proofs.Common.{none-some, same_Some, slice_get-get_or, slice_get_within, get_or_from_slice_get, take_more, map-append, get_or-map, flat_map-append, Placed, contains-first, contains-other, Row, row-at, IsOf, is-long, row-there, modules_of}
+use Rattle.cil_resolve.proofs.Common.{◌≡◌, ℕ, ◌+◌, ◌<◌, zero, suc, List, [], ◌∷◌, ◌++◌, length, get_or, take, map, flat_map, Contains, Some, sym, ap, ◌∙◌, subst, arith, append-nil, none-some, same_Some, slice_get-get_or, slice_get_within, get_or_from_slice_get, take_more, map-append, get_or-map, flat_map-append, Placed, contains-first, contains-other, Row, row-at, IsOf, is-long, row-there, modules_of}
+use Rattle.std.proofs.Common.{slice_get}
 use Rattle.cil_bind.specs.Rows.{IsRow}
 use Rattle.cil_check.specs.declared.bound.BoundPolicy.{BoundPolicy}
 

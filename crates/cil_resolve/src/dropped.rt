@@ -1,17 +1,7 @@
 //! The optionals that drop.
 
-ghost use Rattle.std.specs.Prelude.{◌≡◌, ◌<◌, ◌++◌, ℕ, List, [], Some, map, length, slice_get, IfOk, OnOk, IsTrue};
-ghost use Rattle.cil_specs.specs.Joined.{Placed};
-ghost use Rattle.cil_specs.specs.Kept.{Optionals, dropped_of};
-ghost use Rattle.cil_specs.specs.Lookup.{scopes};
-ghost use Rattle.cil_specs.specs.Rule.{declared_as};
-ghost use Rattle.cil_specs.specs.Statements.{is_optional};
-ghost use Rattle.cil_bind.specs.Lookup.{named};
-ghost use Rattle.cil_bind.specs.Policy.{IsBoundTo};
+ghost use Rattle.cil_resolve.specs.Common.{◌≡◌, ◌<◌, ◌++◌, ℕ, List, [], Some, map, length, slice_get, IfOk, OnOk, IsTrue, Placed, Optionals, dropped_of, scopes, declared_as, is_optional, named, IsBoundTo, space_text, modules_of, dropped_with};
 ghost use Rattle.cil_resolve.specs.Dropped.{mark_of, dropped_if, HaveMarks};
-ghost use Rattle.cil_resolve.specs.FullNames.{space_text};
-ghost use Rattle.cil_resolve.specs.Lowering.{modules_of};
-ghost use Rattle.cil_resolve.specs.Numbers.{dropped_with};
 
 use crate::full_names::{full_name, space_names};
 use crate::numbered::DroppedOptional;

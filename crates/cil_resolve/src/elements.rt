@@ -1,16 +1,8 @@
 //! What names of rules stand for.
 
-ghost use Rattle.std.specs.Prelude.{◌≡◌, ◌<◌, ℕ, List, Some, slice_get, slice_index_or, length, is_some, IfOk, IsTrue};
-ghost use Rattle.cil_specs.specs.Names.{Word};
-ghost use Rattle.cil_specs.specs.Joined.{Placed};
+ghost use Rattle.cil_resolve.specs.Common.{◌≡◌, ◌<◌, ℕ, List, Some, slice_get, slice_index_or, length, is_some, IfOk, IsTrue, Word, Placed, IsLead, IsFirstOf, IsOf, IsNoted, IsFaultless, IsElement, HaveElements, is_set, HavePlaces};
 ghost use Rattle.cil_specs.specs.Lookup.{Table, types, leads, references, actual_statement, actual_of as actual_led};
 ghost use Rattle.cil_specs.specs.Rule.{element_at as element_led};
-ghost use Rattle.cil_bind.specs.Lookup.{IsLead, IsFirstOf};
-ghost use Rattle.cil_check.specs.Bound.{IsOf};
-ghost use Rattle.cil_check.specs.Checker.{IsNoted};
-ghost use Rattle.cil_check.specs.Ordered.{IsFaultless};
-ghost use Rattle.cil_resolve.specs.Lowering.{IsElement, HaveElements, is_set};
-ghost use Rattle.cil_resolve.specs.Numbering.{HavePlaces};
 ghost use Rattle.cil_expression.specs.declared.expression.Element.TheVariants.{«Type»};
 
 use crate::words::number_at;

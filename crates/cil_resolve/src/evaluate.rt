@@ -1,16 +1,6 @@
 //! Evaluation of set statements at types.
 
-ghost use Rattle.std.specs.Prelude.{◌≡◌, ◌<◌, ◌+◌, ◌-◌, ◌^◌, IfSome, false, min, map, length, slice_get, Some, None, IsTrue, [], option_map};
-ghost use Rattle.std.specs.List.{list_all};
-ghost use Rattle.cil_specs.specs.Expr.{leaves};
-ghost use Rattle.cil_specs.specs.Rule.{SetStatement};
-ghost use Rattle.cil_specs.specs.Meaning.{keeps_type, is_in};
-ghost use Rattle.cil_expression.specs.Holds.{holds_by};
-ghost use Rattle.cil_resolve.specs.Below.{is_element_below};
-ghost use Rattle.cil_resolve.specs.Meter.{evaluations_in, adjustments_in};
-ghost use Rattle.cil_resolve.specs.Numbers.{element_of};
-ghost use Rattle.cil_resolve.specs.Resolved.{meaning_in};
-ghost use Rattle.cil_resolve.specs.Sets.{name_in, sets_in, IsAnswer, TellsMembers};
+ghost use Rattle.cil_resolve.specs.Common.{◌≡◌, ◌<◌, ◌+◌, ◌-◌, ◌^◌, IfSome, false, min, map, length, slice_get, Some, None, IsTrue, [], option_map, list_all, leaves, SetStatement, keeps_type, is_in, holds_by, is_element_below, evaluations_in, adjustments_in, element_of, meaning_in, name_in, sets_in, IsAnswer, TellsMembers};
 
 use crate::meter::Meter;
 use crate::resolved::Resolved;

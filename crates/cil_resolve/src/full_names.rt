@@ -1,12 +1,8 @@
 //! The full names of what a policy declares.
 
-ghost use Rattle.std.specs.Prelude.{◌≡◌, ◌<◌, ◌++◌, ◌∷◌, ℕ, List, [], map, take, length, slice_get, slice_index_or, Some, IfOk, OnOk};
-ghost use Rattle.cil_specs.specs.Names.{Word};
-ghost use Rattle.cil_specs.specs.Joined.{Placed};
-ghost use Rattle.cil_bind.specs.Lookup.{named, namespace_at};
+ghost use Rattle.cil_resolve.specs.Common.{◌≡◌, ◌<◌, ◌++◌, ◌∷◌, ℕ, List, [], map, take, length, slice_get, slice_index_or, Some, IfOk, OnOk, Word, Placed, named, namespace_at, IsOf, IsSeen, Reads, space_text, numbered_id, is_numbered_kind, full_name_of};
 ghost use Rattle.cil_bind.specs.Rows.{AreNumbered};
-ghost use Rattle.cil_check.specs.Bound.{IsOf, IsSeen, Reads};
-ghost use Rattle.cil_resolve.specs.FullNames.{space_text, name_in, numbered_id, is_numbered_kind, full_name_of};
+ghost use Rattle.cil_resolve.specs.FullNames.{name_in};
 
 use crate::text::Text;
 use crate::words::text_of;

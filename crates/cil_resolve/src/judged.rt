@@ -1,12 +1,7 @@
 //! What a policy keeps.
 
-ghost use Rattle.std.specs.Prelude.{◌≡◌, List, IfOk, IfErr};
+ghost use Rattle.cil_resolve.specs.Common.{◌≡◌, List, IfOk, IfErr, IsFirstFault, PolicyFaultIs, IsFoundFault, fault_of, AreJudged, IsJudged, IsWhole, AreParsedFrom};
 ghost use Rattle.cil_specs.specs.Joined.{Module, Placed, joined as joined_policy};
-ghost use Rattle.cil_specs.specs.Kept.{IsFirstFault};
-ghost use Rattle.cil_check.specs.Image.{PolicyFaultIs, IsFoundFault};
-ghost use Rattle.cil_bind.specs.Policy.{fault_of};
-ghost use Rattle.cil_resolve.specs.Judged.{AreJudged, IsJudged, IsWhole};
-ghost use Rattle.cil_resolve.specs.Modules.{AreParsedFrom};
 
 use crate::dropped::dropped_optionals;
 use crate::numbered::DroppedOptional;

@@ -1,22 +1,9 @@
 //! Laws of the definitions. They have no code.
 
-ghost use Rattle.std.specs.Prelude.{◌≡◌, ◌<◌, ◌≤◌, ◌^◌, ℕ, false, List, AllPairs, Contains, IsTrue, is_some, length};
-ghost use Rattle.std.specs.List.Sorted.{IsStrictlySortedBy};
+ghost use Rattle.cil_resolve.specs.Common.{◌≡◌, ◌<◌, ◌≤◌, ◌^◌, ℕ, false, List, AllPairs, Contains, IsTrue, is_some, length, IsStrictlySortedBy, Expr, leaves, Placed, Table, has_name, leads, Optionals, restricted, IsWithin, IsGood, AreKept, AreApart, Meaning, Means, keeps_type, is_in, holds, is_member, keeps_attribute, HasSoundSets, Element, rule_cmp, holds_by, StandApart, meaning_in, sets_in};
 ghost use Rattle.cil_specs.specs.Dependence.{AreInOrder, AreTheSame};
-ghost use Rattle.cil_specs.specs.Expr.{Expr, leaves};
-ghost use Rattle.cil_specs.specs.Joined.{Placed};
-ghost use Rattle.cil_specs.specs.Lookup.{Table, has_name, leads};
-ghost use Rattle.cil_specs.specs.Kept.{Optionals, restricted, IsWithin, IsGood, AreKept, AreApart};
-ghost use Rattle.cil_specs.specs.Meaning.{Meaning, Means, keeps_type, is_in, holds};
-ghost use Rattle.cil_specs.specs.Members.{is_member, keeps_attribute, HasSoundSets};
-ghost use Rattle.cil_specs.specs.Rule.{Element};
 ghost use Rattle.cil_specs.specs.Sets.{holds_with, mentions};
-ghost use Rattle.cil_specs.specs.Violations.{rule_cmp};
-ghost use Rattle.cil_expression.specs.Holds.{holds_by};
-ghost use Rattle.cil_resolve.specs.Apart.{StandApart};
 ghost use Rattle.cil_resolve.specs.Consistent.{is_consistent};
-ghost use Rattle.cil_resolve.specs.Resolved.{meaning_in};
-ghost use Rattle.cil_resolve.specs.Sets.{sets_in};
 
 use crate::resolved::Resolved;
 use std::alloc::Allocator;

@@ -1,13 +1,6 @@
 //! What a policy without faults resolves to.
 
-ghost use Rattle.std.specs.Prelude.{◌≡◌, List, map, slice_index_or, IfOk};
-ghost use Rattle.cil_specs.specs.Joined.{Placed};
-ghost use Rattle.cil_specs.specs.Meaning.{meaning_of};
-ghost use Rattle.cil_check.specs.Checker.{IsNoted};
-ghost use Rattle.cil_check.specs.Ordered.{IsFaultless};
-ghost use Rattle.cil_resolve.specs.Lowering.{modules_of};
-ghost use Rattle.cil_resolve.specs.Numbers.{dropped_with};
-ghost use Rattle.cil_resolve.specs.Resolved.{meaning_in};
+ghost use Rattle.cil_resolve.specs.Common.{◌≡◌, List, map, slice_index_or, IfOk, Placed, meaning_of, IsNoted, IsFaultless, modules_of, dropped_with, meaning_in};
 
 use crate::elements::elements;
 use crate::lowering::Lowering;

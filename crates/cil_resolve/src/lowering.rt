@@ -1,25 +1,10 @@
 //! A policy without faults by the numbers of its names.
 
-ghost use Rattle.std.specs.Prelude.{◌≡◌, ◌<◌, ◌++◌, ◌∷◌, ℕ, List, [], Some, fold, map, length, slice_get, slice_index_or, Contains, IsTrue, IfOk, OnOk};
-ghost use Rattle.std.specs.List.{list_all};
-ghost use Rattle.std.specs.Option.{option_to_list};
-ghost use Rattle.cil_specs.specs.Names.{Word};
-ghost use Rattle.cil_specs.specs.Expr.{WordExpr, leaves, map_leaves};
-ghost use Rattle.cil_specs.specs.Statements.{attribute_set};
-ghost use Rattle.cil_specs.specs.Joined.{Placed};
-ghost use Rattle.cil_specs.specs.Lookup.{types, classes, commons, leads, references, texts, has_name, with_name, own_permissions, distinct, permissions_of};
+ghost use Rattle.cil_resolve.specs.Common.{◌≡◌, ◌<◌, ◌++◌, ◌∷◌, ℕ, List, [], Some, fold, map, length, slice_get, slice_index_or, Contains, IsTrue, IfOk, OnOk, list_all, option_to_list, Word, WordExpr, leaves, map_leaves, attribute_set, Placed, types, classes, commons, leads, references, texts, has_name, with_name, own_permissions, distinct, permissions_of, read, texts_of, IsLead, IsOneName, is_numbered, IsElement, IsLowering, IsIn, IsDeclared, IsClass, AreElements, IsSet, IsExpression, AreSets, AreRules, ArePartsOf, common_of, modules_of, set_if, rule_if, KnowNumbers, list_at, AreNumbersIn, listed_names, number_in};
 ghost use Rattle.cil_specs.specs.PolicyFault.{element_words};
 ghost use Rattle.cil_specs.specs.Rule.{element_of as element_led, class_name, is_class, name_or_none};
-ghost use Rattle.cil_parse.specs.Builder.{read};
 ghost use Rattle.cil_parse.specs.Forms.{kind_of, permissions_in};
-ghost use Rattle.cil_parse.specs.Parsed.{texts_of};
-ghost use Rattle.cil_bind.specs.Lookup.{IsLead};
-ghost use Rattle.cil_bind.specs.Written.{IsOneName};
 ghost use Rattle.cil_check.specs.Permissions.{lists_own};
-ghost use Rattle.cil_resolve.specs.FullNames.{is_numbered};
-ghost use Rattle.cil_resolve.specs.Lowering.{IsElement, IsLowering, IsIn, IsDeclared, IsClass, AreElements, IsSet, IsExpression, AreSets, AreRules, ArePartsOf, common_of, modules_of, set_if, rule_if};
-ghost use Rattle.cil_resolve.specs.KnownPermissions.{KnowNumbers, list_at};
-ghost use Rattle.cil_resolve.specs.Numbering.{AreNumbersIn, listed_names, number_in};
 
 use crate::elements::{element_in, lead_at};
 use crate::known_permissions::{KnownPermissions, ListPlace};

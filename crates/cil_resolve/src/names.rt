@@ -1,8 +1,6 @@
 //! The names of a policy in their order.
 
-ghost use Rattle.std.specs.Prelude.{◌≡◌, IsTrue, Some, IfOk};
-ghost use Rattle.cil_specs.specs.Lookup.{has_name};
-ghost use Rattle.cil_resolve.specs.Numbering.{number_in};
+ghost use Rattle.cil_resolve.specs.Common.{◌≡◌, IsTrue, Some, IfOk, has_name, number_in};
 
 use crate::text::Text;
 use cil_names::Names;

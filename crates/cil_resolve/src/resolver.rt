@@ -1,16 +1,8 @@
 //! Resolves a joined policy.
 
-ghost use Rattle.std.specs.Prelude.{◌≡◌, List, IfOk, IfErr};
+ghost use Rattle.cil_resolve.specs.Common.{◌≡◌, List, IfOk, IfErr, Optionals, IsFirstFault, Means, IsNoted, PolicyFaultIs, IsFaultIn, IsFaultless, IsInOrder, AreParsedFrom, meaning_in};
 ghost use Rattle.cil_specs.specs.Joined.{Module, Placed, joined as joined_policy};
-ghost use Rattle.cil_specs.specs.Kept.{Optionals, IsFirstFault};
-ghost use Rattle.cil_specs.specs.Meaning.{Means};
 ghost use Rattle.cil_bind.specs.Ordered.{IsLeast};
-ghost use Rattle.cil_check.specs.Checker.{IsNoted};
-ghost use Rattle.cil_check.specs.Image.{PolicyFaultIs};
-ghost use Rattle.cil_check.specs.Ordered.{IsFaultIn, IsFaultless};
-ghost use Rattle.cil_resolve.specs.Judged.{IsInOrder};
-ghost use Rattle.cil_resolve.specs.Modules.{AreParsedFrom};
-ghost use Rattle.cil_resolve.specs.Resolved.{meaning_in};
 
 use crate::judged::Judged;
 use crate::lowered::lowered;

@@ -1,10 +1,7 @@
 //! Set statements that are the same as resolved.
 
-ghost use Rattle.std.specs.Prelude.{◌≡◌, ◌↔◌, Some, None, false, IsTrue, slice_get};
-ghost use Rattle.cil_specs.specs.Rule.{SetStatement, IsSameSet};
-ghost use Rattle.cil_resolve.specs.Numbers.{element_of, set_of};
+ghost use Rattle.cil_resolve.specs.Common.{◌≡◌, ◌↔◌, Some, None, false, IsTrue, slice_get, SetStatement, IsSameSet, element_of, set_of, sets_in};
 ghost use Rattle.cil_resolve.specs.Same.{same_element, same_set};
-ghost use Rattle.cil_resolve.specs.Sets.{sets_in};
 
 use crate::numbered::NumberedSet;
 use crate::resolved::Resolved;

@@ -1,9 +1,6 @@
 //! Words of statements.
 
-ghost use Rattle.std.specs.Prelude.{◌≡◌, ℕ, List, Some, slice_index_or};
-ghost use Rattle.cil_specs.specs.Names.{Word};
-ghost use Rattle.cil_parse.specs.Builder.{read};
-ghost use Rattle.cil_parse.specs.Parsed.{texts_of};
+ghost use Rattle.cil_resolve.specs.Common.{◌≡◌, ℕ, List, Some, slice_index_or, Word, read, texts_of};
 ghost use Rattle.cil_check.specs.Permissions.{lists_own as is_listing};
 
 use cil_check::Seen;

@@ -13,6 +13,7 @@ pub use Rattle.cil_rule_shifts.specs.declared.reach.Reach.{Reach}
 pub use Rattle.cil_rule_shifts.specs.declared.targets.Targets.{Targets}
 pub use Rattle.cil_sums.proofs.RiseLemmas.{rises-bits, rises-map, rises-more, rises-none, rises-same, same-from_counts}
 pub use Rattle.cil_sums.specs.Rises.{RisesBy}
+pub use Rattle.std.proofs.Common.{Bool, IfSome, List, MatchOption, None, Option, Some, Vec, [], add-zero, ap, arith, bit_and, bit_xor, cond, count_ones, div-add-mod', div-le_self, false, get_or, inl, inr, le_of_eq, length, max, min, mod-lt, nat_eq, nat_lt, not, pow_pos, refl, slice_index_or, subst, suc, sym, take, true, true≢false, vec_len, w64, zero, zero-add, ℕ, ◌%◌, ◌&&◌, ◌*◌, ◌++◌, ◌+◌, ◌-◌, ◌/◌, ◌<◌, ◌==◌, ◌^◌, ◌||◌, ◌∙◌, ◌∷◌, ◌≡◌, ◌≢◌, ◌≤◌}
 pub use Rattle.std.proofs.lemmas.Bool.{cases_eq, cases_lt, eq-eqb, eqb-true, le-ltb, leb-false, leb-true, lt-ltb, ltb-true, ne_eqb}
 pub use Rattle.std.proofs.lemmas.Nat.Bits.{bit_at-pow_other, bit_at-pow_same, bit_at-trailing_zeros, bit_at-zero, bit_at_above, bit_at_and, bit_at_cat_high, bit_at_or, bit_at_xor}
 pub use Rattle.std.specs.Int.{bit_at, bit_not, trailing_zeros}

@@ -1,6 +1,5 @@
 -- How many counters move, word by word, permission by permission and source by source.
-use Rattle.std.proofs.Common.{◌≡◌, ℕ, ◌+◌, ◌*◌, ◌/◌, ◌%◌, ◌^◌, ◌<◌, ◌==◌, ◌&&◌, ◌||◌, ◌-◌, Bool, true, false, nat_lt, List, length, take, get_or, max, min, bit_xor, count_ones, refl, sym, ap, ◌∙◌, inl, inr, arith, true≢false}
-use Rattle.cil_rule_shifts.proofs.Common.{bit_at, IsStrictlyIncreasing, cases_eq, cases_lt, eq-eqb, le-ltb, ne_eqb, eqb-true, bit_at_above, bit_at_xor, hit, hit-here, hit-there, is_key, SymbolKey, differs, has_either, has_word, moves_for, moves_in, moves_of, moves_where, turns, AreSame, AreTurned, gives, has_head, has_source, is_line, one_if, reaches, takes, IsNext, NoneFrom, RuleHead, Reach, Targets, RisesBy, rises-bits, rises-map, rises-more, rises-none, rises-same, same-from_counts}
+use Rattle.cil_rule_shifts.proofs.Common.{◌≡◌, ℕ, ◌+◌, ◌*◌, ◌/◌, ◌%◌, ◌^◌, ◌<◌, ◌==◌, ◌&&◌, ◌||◌, ◌-◌, Bool, true, false, nat_lt, List, length, take, get_or, max, min, bit_xor, count_ones, refl, sym, ap, ◌∙◌, inl, inr, arith, true≢false, bit_at, IsStrictlyIncreasing, cases_eq, cases_lt, eq-eqb, le-ltb, ne_eqb, eqb-true, bit_at_above, bit_at_xor, hit, hit-here, hit-there, is_key, SymbolKey, differs, has_either, has_word, moves_for, moves_in, moves_of, moves_where, turns, AreSame, AreTurned, gives, has_head, has_source, is_line, one_if, reaches, takes, IsNext, NoneFrom, RuleHead, Reach, Targets, RisesBy, rises-bits, rises-map, rises-more, rises-none, rises-same, same-from_counts}
 use Rattle.std.proofs.lemmas.Nat.{xor_lt}
 use Rattle.cil_keyed_lines.proofs.KeyedLemmas.{key_itself, one_key}
 use Rattle.cil_rule_shifts.proofs.ReachLemmas.{no-first, no-second}

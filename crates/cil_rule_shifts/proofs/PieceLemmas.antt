@@ -1,7 +1,6 @@
 -- The targets of a source word by word, and the counters that rise by them.
-use Rattle.std.proofs.Common.{◌≡◌, ℕ, zero, suc, ◌+◌, ◌-◌, ◌/◌, ◌^◌, ◌<◌, ◌≤◌, ◌==◌, ◌&&◌, ◌||◌, ◌++◌, Bool, true, false, cond, nat_lt, List, [], ◌∷◌, length, take, get_or, min, count_ones, refl, sym, ap, ◌∙◌, subst, inl, inr, arith, true≢false}
+use Rattle.cil_rule_shifts.proofs.Common.{◌≡◌, ℕ, zero, suc, ◌+◌, ◌-◌, ◌/◌, ◌^◌, ◌<◌, ◌≤◌, ◌==◌, ◌&&◌, ◌||◌, ◌++◌, Bool, true, false, cond, nat_lt, List, [], ◌∷◌, length, take, get_or, min, count_ones, refl, sym, ap, ◌∙◌, subst, inl, inr, arith, true≢false, IsStrictlyIncreasing, cases_lt, le-ltb, hit, is_key, SymbolKey, has_either, has_target, hits_of, put_for, put_in, AreApart, gives, has_source, is_line, one_if, takes, AreShort, IsNext, IsNextWord, NoneFrom, NoneFromWord, RuleHead, Reach, Targets, RisesBy, rises-more, rises-none, rises-same, same-from_counts}
 use Rattle.std.specs.List.{All}
-use Rattle.cil_rule_shifts.proofs.Common.{IsStrictlyIncreasing, cases_lt, le-ltb, hit, is_key, SymbolKey, has_either, has_target, hits_of, put_for, put_in, AreApart, gives, has_source, is_line, one_if, takes, AreShort, IsNext, IsNextWord, NoneFrom, NoneFromWord, RuleHead, Reach, Targets, RisesBy, rises-more, rises-none, rises-same, same-from_counts}
 use Rattle.std.proofs.Math.Bool.{and-false}
 use Rattle.std.proofs.lemmas.List.{take_more}
 use Rattle.std.proofs.lemmas.List.Elements.{All-append}

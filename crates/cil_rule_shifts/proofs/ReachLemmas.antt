@@ -1,7 +1,6 @@
 -- What rules reach, word by word and source by source.
-use Rattle.std.proofs.Common.{◌≡◌, ◌≢◌, ℕ, ◌+◌, ◌-◌, ◌*◌, ◌/◌, ◌%◌, ◌^◌, ◌<◌, ◌≤◌, ◌==◌, ◌&&◌, ◌||◌, Bool, true, false, nat_lt, Option, None, Some, MatchOption, w64, refl, sym, ap, ◌∙◌, subst, inl, inr, arith, true≢false, min, div-add-mod', div-le_self, mod-lt, pow_pos}
+use Rattle.cil_rule_shifts.proofs.Common.{◌≡◌, ◌≢◌, ℕ, ◌+◌, ◌-◌, ◌*◌, ◌/◌, ◌%◌, ◌^◌, ◌<◌, ◌≤◌, ◌==◌, ◌&&◌, ◌||◌, Bool, true, false, nat_lt, Option, None, Some, MatchOption, w64, refl, sym, ap, ◌∙◌, subst, inl, inr, arith, true≢false, min, div-add-mod', div-le_self, mod-lt, pow_pos, bit_at, trailing_zeros, cases_eq, cases_lt, eq-eqb, ne_eqb, lt-ltb, leb-true, leb-false, bit_at-pow_same, bit_at-pow_other, bit_at_cat_high, bit_at-trailing_zeros, bit_at_above, bit_at-zero, Counters, count_of, hit, IsPresence, NonePresent, IsNextPresent, hit-here, hit-there, hit-none, one_if, is_present, takes, IsMask, IsNext, NoneFrom, IsNextWord, NoneFromWord, Targets}
 use Rattle.std.specs.Bool.{then_some}
-use Rattle.cil_rule_shifts.proofs.Common.{bit_at, trailing_zeros, cases_eq, cases_lt, eq-eqb, ne_eqb, lt-ltb, leb-true, leb-false, bit_at-pow_same, bit_at-pow_other, bit_at_cat_high, bit_at-trailing_zeros, bit_at_above, bit_at-zero, Counters, count_of, hit, IsPresence, NonePresent, IsNextPresent, hit-here, hit-there, hit-none, one_if, is_present, takes, IsMask, IsNext, NoneFrom, IsNextWord, NoneFromWord, Targets}
 use Rattle.std.proofs.Math.Dec.{leb}
 use Rattle.cil_rule_shifts.specs.declared.targets.Targets.TheVariants.{Nothing, Itself, These}
 

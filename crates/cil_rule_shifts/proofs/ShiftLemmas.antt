@@ -1,6 +1,5 @@
 -- Counters moved word by word, permission by permission and source by source.
-use Rattle.std.proofs.Common.{◌≡◌, ℕ, zero, suc, ◌+◌, ◌-◌, ◌^◌, ◌/◌, ◌%◌, ◌<◌, ◌≤◌, ◌==◌, ◌&&◌, ◌||◌, Bool, true, false, cond, nat_lt, nat_eq, List, [], ◌∷◌, length, take, get_or, refl, sym, ap, ◌∙◌, subst, inl, inr, arith, le_of_eq, true≢false, bit_and, add-zero, zero-add}
-use Rattle.cil_rule_shifts.proofs.Common.{IsStrictlyIncreasing, cases_eq, cases_lt, eq-eqb, ne_eqb, eqb-true, lt-ltb, le-ltb, bit_at_and, hit, hit-here, hit-there, hit_of, is_key, is_kind, SymbolKey, differs, has_either, has_word, gives, has_head, has_permission, has_source, is_line, one_if, takes, IsNext, IsShort, RuleHead, Reach, Targets}
+use Rattle.cil_rule_shifts.proofs.Common.{◌≡◌, ℕ, zero, suc, ◌+◌, ◌-◌, ◌^◌, ◌/◌, ◌%◌, ◌<◌, ◌≤◌, ◌==◌, ◌&&◌, ◌||◌, Bool, true, false, cond, nat_lt, nat_eq, List, [], ◌∷◌, length, take, get_or, refl, sym, ap, ◌∙◌, subst, inl, inr, arith, le_of_eq, true≢false, bit_and, add-zero, zero-add, IsStrictlyIncreasing, cases_eq, cases_lt, eq-eqb, ne_eqb, eqb-true, lt-ltb, le-ltb, bit_at_and, hit, hit-here, hit-there, hit_of, is_key, is_kind, SymbolKey, differs, has_either, has_word, gives, has_head, has_permission, has_source, is_line, one_if, takes, IsNext, IsShort, RuleHead, Reach, Targets}
 use Rattle.std.proofs.lemmas.List.Folds.{list_any_at, list_any_more}
 use Rattle.std.specs.List.{list_any}
 use Rattle.std.proofs.lemmas.List.Kept.{AllPairs-from_increasing}

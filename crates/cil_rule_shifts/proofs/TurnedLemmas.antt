@@ -1,6 +1,5 @@
 -- The words in which targets differ, listed one by one.
-use Rattle.std.proofs.Common.{◌≡◌, ℕ, ◌/◌, ◌^◌, ◌<◌, ◌||◌, Bool, false, Option, None, Some, IfSome, Vec, List, [], ◌∷◌, length, get_or, refl, ap, ◌∙◌, inl, inr, arith}
-use Rattle.cil_rule_shifts.proofs.Common.{IsStrictlyIncreasing, cases_lt, differs, has_word, AreSame, AreTurned, AreTurnedForAll, HasNone, IsNextWord, Targets}
+use Rattle.cil_rule_shifts.proofs.Common.{◌≡◌, ℕ, ◌/◌, ◌^◌, ◌<◌, ◌||◌, Bool, false, Option, None, Some, IfSome, Vec, List, [], ◌∷◌, length, get_or, refl, ap, ◌∙◌, inl, inr, arith, IsStrictlyIncreasing, cases_lt, differs, has_word, AreSame, AreTurned, AreTurnedForAll, HasNone, IsNextWord, Targets}
 use Rattle.cil_rule_shifts.proofs.MoveLemmas.{differs-none}
 use Rattle.cil_rule_shifts.proofs.ReachLemmas.{no-first, no-second}
 

@@ -1,3 +1,4 @@
+pub mod Common
 pub mod Reach
 pub mod Moves
 pub mod Pieces

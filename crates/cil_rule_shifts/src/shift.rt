@@ -1,11 +1,6 @@
 //! The counters of keyed lines, moved from what a rule gave to what it gives.
 
-ghost use Rattle.std.specs.Prelude.{◌≡◌, ◌+◌, ◌≤◌, ◌<◌, ◌^◌, ◌/◌, ◌&&◌, ◌||◌, ◌==◌, ℕ, false, true, IfOk, IfSome, OnOk};
-ghost use Rattle.std.specs.List.Sorted.{IsStrictlyIncreasing};
-ghost use Rattle.cil_keyed_lines.specs.Keyed.{count_before, count_now, is_key, RiseAtMost};
-ghost use Rattle.cil_rule_shifts.specs.Moves.{moves_for, moves_in, moves_of, moves_where, AreTurned, AreTurnedForAll};
-ghost use Rattle.cil_rule_shifts.specs.Reach.{gives, is_line, one_if, reaches, takes, AreShort, IsShort};
-ghost use Rattle.cil_sums.specs.Rises.{RisesBy};
+ghost use Rattle.cil_rule_shifts.specs.Common.{◌≡◌, ◌+◌, ◌≤◌, ◌<◌, ◌^◌, ◌/◌, ◌&&◌, ◌||◌, ◌==◌, ℕ, false, true, IfOk, IfSome, OnOk, IsStrictlyIncreasing, count_before, count_now, is_key, RiseAtMost, moves_for, moves_in, moves_of, moves_where, AreTurned, AreTurnedForAll, gives, is_line, one_if, reaches, takes, AreShort, IsShort, RisesBy};
 
 use crate::head::RuleHead;
 use crate::reach::{Reach, next_source};

@@ -1,8 +1,6 @@
 //! The words in which the targets that sources had differ from those that they have.
 
-ghost use Rattle.std.specs.Prelude.{◌≡◌, ◌==◌, ℕ, true, false, IfOk, IfSome};
-ghost use Rattle.cil_rule_shifts.specs.Moves.{AreTurned, AreTurnedForAll, HasNone};
-ghost use Rattle.cil_rule_shifts.specs.Reach.{takes, AreShort};
+ghost use Rattle.cil_rule_shifts.specs.Common.{◌≡◌, ◌==◌, ℕ, true, false, IfOk, IfSome, AreTurned, AreTurnedForAll, HasNone, takes, AreShort};
 
 use crate::targets::Targets;
 use crate::words::next_word;

@@ -1,6 +1,5 @@
 -- The numbers of names among those of two lists.
-use Rattle.std.proofs.Common.{◌≡◌, ℕ, ◌<◌, List, [], length, get_or, sym, ap, ◌∙◌, arith}
-use Rattle.cil_rules.proofs.Common.{length-map, get_or-map, name_at}
+use Rattle.cil_rules.proofs.Common.{◌≡◌, ℕ, ◌<◌, List, [], length, get_or, sym, ap, ◌∙◌, arith, length-map, get_or-map, name_at}
 use Rattle.cil_rules.specs.Ranks.{ArePlaces}
 
 module _ (names some : List (List ℕ)) (numbers : List ℕ) (places : ArePlaces names numbers some) where

@@ -11,6 +11,7 @@ pub use Rattle.cil_specs.specs.Rule.{Atom, kind_index}
 pub use Rattle.cil_stream.proofs.Gaining.{front-longer, gains-both, gains-none, gains-pieces_front, gains-pieces_more, gains-then_front, on_err}
 pub use Rattle.cil_stream.specs.Device.{Gains, GainsFront}
 pub use Rattle.cil_text.specs.Image.{rule_kind_of}
+pub use Rattle.std.proofs.Common.{Bool, Err, IfOk, List, Ok, OnErr, OnOk, Option, Result, [], ap, append-nil, append_assoc, arith, bytes_eq, codes, cond, drop, false, get_or, inl, inr, length, map, nat_lt, one-add, refl, rules, subst, sym, take, true, ℕ, ◌&&◌, ◌++◌, ◌+◌, ◌-◌, ◌<◌, ◌==◌, ◌∙◌, ◌∷◌, ◌≡◌, ◌≢◌, ◌≤◌, ◌⊎◌}
 pub use Rattle.std.proofs.lemmas.Bool.{and_from, and_parts, both_ways, cases_order, eqb-true, ltb-true, true≢false}
 pub use Rattle.std.proofs.lemmas.Cmp.{nat_cmp_total, on_total, then_total, tied_itself}
 pub use Rattle.std.proofs.lemmas.List.{drop-append-le, drop_at, get_or-map, get_or_append_left, get_or_push, get_or_read, length-append, length-drop, length-map, length_push, map_push, take-append-le, take_all, take_at, take_more}

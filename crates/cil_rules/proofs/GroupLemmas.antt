@@ -1,6 +1,5 @@
 -- The first row of numbered accesses, and those after it.
-use Rattle.std.proofs.Common.{◌≡◌, ℕ, ◌+◌, ◌≤◌, List, [], ◌∷◌, ◌++◌, length, map, take, drop, Bool, true, false, cond, refl, sym, ap, ◌∙◌, subst, one-add, arith}
-use Rattle.cil_rules.proofs.Common.{IsTrue, All, AllByRecursion, filter, prefix_len, eq_by_cmp, is_eq, nat_cmp, ordering_then, Ordering, nat_cmp_total, on_total, then_total, tied_itself, take_at, drop_at, length-append, All-from_recursion, recursion_from_All, kind_index, names_rise, Row, row_cmp, is_listed, equal-is, rule_kind_of, AccessNumbers, IsWithin, name_at, atom_at, row_with, put_first, groups_of, rows_of, row_at}
+use Rattle.cil_rules.proofs.Common.{◌≡◌, ℕ, ◌+◌, ◌≤◌, List, [], ◌∷◌, ◌++◌, length, map, take, drop, Bool, true, false, cond, refl, sym, ap, ◌∙◌, subst, one-add, arith, IsTrue, All, AllByRecursion, filter, prefix_len, eq_by_cmp, is_eq, nat_cmp, ordering_then, Ordering, nat_cmp_total, on_total, then_total, tied_itself, take_at, drop_at, length-append, All-from_recursion, recursion_from_All, kind_index, names_rise, Row, row_cmp, is_listed, equal-is, rule_kind_of, AccessNumbers, IsWithin, name_at, atom_at, row_with, put_first, groups_of, rows_of, row_at}
 use Rattle.std.specs.Cmp.{IsTotalOrder}
 use Rattle.cil_specs.specs.Rule as spec
 use Rattle.cil_accesses.specs.Rows.{row_cmp as row_numbers_cmp, in_row}

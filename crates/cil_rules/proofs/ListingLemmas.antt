@@ -1,6 +1,5 @@
 -- The text of a row, written in pieces.
-use Rattle.std.proofs.Common.{◌≡◌, ◌<◌, ℕ, Bool, true, false, cond, refl, List, [], ◌∷◌, ◌++◌, length, map, codes, Option, Result, Ok, Err, IfOk, OnOk, OnErr, sym, ap, ◌∙◌, subst, append_assoc}
-use Rattle.cil_rules.proofs.Common.{IsTrue, All, AllByRecursion, filter, flat_map, both_ways, All-from_recursion, recursion_from_All, on_err_weaker, AreAtoms, Row, AreRows, row_line, Gains, GainsFront, gains-both, gains-then_front, front-longer, rule_kind_of, AccessNumbers, IsWithin, name_at, rows_of, row_head, row_at, name_text, permission_text, chunk_text}
+use Rattle.cil_rules.proofs.Common.{◌≡◌, ◌<◌, ℕ, Bool, true, false, cond, refl, List, [], ◌∷◌, ◌++◌, length, map, codes, Option, Result, Ok, Err, IfOk, OnOk, OnErr, sym, ap, ◌∙◌, subst, append_assoc, IsTrue, All, AllByRecursion, filter, flat_map, both_ways, All-from_recursion, recursion_from_All, on_err_weaker, AreAtoms, Row, AreRows, row_line, Gains, GainsFront, gains-both, gains-then_front, front-longer, rule_kind_of, AccessNumbers, IsWithin, name_at, rows_of, row_head, row_at, name_text, permission_text, chunk_text}
 use Rattle.std.proofs.lemmas.List.Folds.{flat_map-map}
 use Rattle.cil_specs.specs.Rule as spec
 use Rattle.cil_accesses.specs.declared.chunk.Chunk.{Chunk}

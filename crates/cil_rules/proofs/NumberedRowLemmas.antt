@@ -1,7 +1,6 @@
 -- Rows by numbers, as they are built.
-use Rattle.std.proofs.Common.{◌≡◌, ℕ, ◌+◌, ◌-◌, true, false, cond, get_or, sym, append_assoc, append-nil, ◌<◌, ◌≤◌, List, [], ◌∷◌, ◌++◌, length, map, take, drop, refl, ap, ◌∙◌, arith}
+use Rattle.cil_rules.proofs.Common.{◌≡◌, ℕ, ◌+◌, ◌-◌, true, false, cond, get_or, sym, append_assoc, append-nil, ◌<◌, ◌≤◌, List, [], ◌∷◌, ◌++◌, length, map, take, drop, refl, ap, ◌∙◌, arith, All, AllByRecursion, filter, length-append, length-drop, map_push, drop-append-le, take-append-le, drop_at, take_all, All-push, All-weaker, All-append, All-map, recursion_from_All, filter_more, AccessNumbers, IsWithin, name_at, row_at, numbered_row, row_by, IsNumberedRow, AreNumberedRows}
 use Rattle.std.specs.Prelude.{slice_range}
-use Rattle.cil_rules.proofs.Common.{All, AllByRecursion, filter, length-append, length-drop, map_push, drop-append-le, take-append-le, drop_at, take_all, All-push, All-weaker, All-append, All-map, recursion_from_All, filter_more, AccessNumbers, IsWithin, name_at, row_at, numbered_row, row_by, IsNumberedRow, AreNumberedRows}
 use Rattle.cil_text.specs.declared.statement.RuleKind.TheVariants.{Allow}
 use Rattle.cil_accesses.specs.declared.chunk.Chunk.{Chunk}
 use Rattle.cil_accesses.specs.View.{access_at, at_bit, has_bit}

@@ -1,6 +1,5 @@
 -- Names that are merged from two ascending lists.
-use Rattle.std.proofs.Common.{◌≡◌, ◌⊎◌, inl, inr, ℕ, ◌<◌, ◌≤◌, List, [], ◌∷◌, ◌++◌, length, map, take, refl, sym, ap, ◌∙◌, subst, arith}
-use Rattle.cil_rules.proofs.Common.{IsTrue, AllByRecursion, IsStrictlySortedBy, ordering_reverse, Ordering, Less, Equal, Greater, take_more, take_all, length_push, get_or_append_left, get_or_push, map_push, cases_order, All-push, All-weaker, recursion_from_All, name_cmp, names_rise, name_total, sorted_from_names_rise, names_rise-from_sorted, name_at}
+use Rattle.cil_rules.proofs.Common.{◌≡◌, ◌⊎◌, inl, inr, ℕ, ◌<◌, ◌≤◌, List, [], ◌∷◌, ◌++◌, length, map, take, refl, sym, ap, ◌∙◌, subst, arith, IsTrue, AllByRecursion, IsStrictlySortedBy, ordering_reverse, Ordering, Less, Equal, Greater, take_more, take_all, length_push, get_or_append_left, get_or_push, map_push, cases_order, All-push, All-weaker, recursion_from_All, name_cmp, names_rise, name_total, sorted_from_names_rise, names_rise-from_sorted, name_at}
 use Rattle.std.proofs.lemmas.Map.Keys.{Less-from_sorted}
 use Rattle.std.proofs.lemmas.Map.Lookups.{exact_bytes}
 use Rattle.cil_rules.specs.Ranks.{ArePlaces, IsMerged, IsNext}

@@ -1,6 +1,5 @@
 -- The rows of ascending accesses are those of the listing.
-use Rattle.std.proofs.Common.{◌≡◌, ◌≢◌, ℕ, ◌&&◌, List, [], ◌∷◌, ◌++◌, map, Bool, true, false, cond, refl, sym, ap, ◌∙◌, subst}
-use Rattle.cil_rules.proofs.Common.{IsTrue, AllByRecursion, Any, filter, flat_map, IsStrictlySortedBy, eq_by_cmp, is_eq, nat_cmp, ordering_then, Ordering, Less, Equal, Greater, and_parts, and_from, true≢false, tied_itself, Atom, kind_index, name_cmp, atom_cmp, AreAtoms, Row, row_cmp, is_listed, IsRow, Has, AreRows, row_total, same-kind, then_equal, equal-is, AnyByRecursion, any_to, any_from, contains_to, contains_from, any_weaker, any-map, any_from_map, any-filter, any_from_filter, any-flat_map, any_from_flat_map, all_weaker, sorted_unmap, row_with, put_first, groups_of, listed, rows_of}
+use Rattle.cil_rules.proofs.Common.{◌≡◌, ◌≢◌, ℕ, ◌&&◌, List, [], ◌∷◌, ◌++◌, map, Bool, true, false, cond, refl, sym, ap, ◌∙◌, subst, IsTrue, AllByRecursion, Any, filter, flat_map, IsStrictlySortedBy, eq_by_cmp, is_eq, nat_cmp, ordering_then, Ordering, Less, Equal, Greater, and_parts, and_from, true≢false, tied_itself, Atom, kind_index, name_cmp, atom_cmp, AreAtoms, Row, row_cmp, is_listed, IsRow, Has, AreRows, row_total, same-kind, then_equal, equal-is, AnyByRecursion, any_to, any_from, contains_to, contains_from, any_weaker, any-map, any_from_map, any-filter, any_from_filter, any-flat_map, any_from_flat_map, all_weaker, sorted_unmap, row_with, put_first, groups_of, listed, rows_of}
 use Rattle.std.proofs.lemmas.List.Kept.{IsStrictlySortedBy-filter}
 use Rattle.std.proofs.lemmas.Map.Lookups.{exact_unsigned, exact_bytes}
 

@@ -1,6 +1,5 @@
 -- The names of the accesses that the rules of a policy give are the policy's.
-use Rattle.std.proofs.Common.{◌≡◌, ℕ, ◌<◌, ◌==◌, List, [], ◌∷◌, length, bytes_eq, nat_lt, sym, subst, inl, inr}
-use Rattle.cil_rules.proofs.Common.{IsTrue, list_all, list_any, and_parts, eqb-true, ltb-true, kind_index, same-kind, AnyByRecursion, any_from_counted, any_from_map, any_from_test, rule_kind_of, AccessNumbers, IsWithin, atom_at, name_at}
+use Rattle.cil_rules.proofs.Common.{◌≡◌, ℕ, ◌<◌, ◌==◌, List, [], ◌∷◌, length, bytes_eq, nat_lt, sym, subst, inl, inr, IsTrue, list_all, list_any, and_parts, eqb-true, ltb-true, kind_index, same-kind, AnyByRecursion, any_from_counted, any_from_map, any_from_test, rule_kind_of, AccessNumbers, IsWithin, atom_at, name_at}
 use Rattle.std.specs.Cmp.Lexicographic.{bytes_decides}
 use Rattle.cil_specs.specs.Rule as spec
 use Rattle.cil_specs.specs.Meaning.{aims, covers, gives, holds, is_in_table, keeps_type}

@@ -1,3 +1,4 @@
+pub mod Common
 pub mod Atoms
 pub mod NameList
 pub mod NumberedRows

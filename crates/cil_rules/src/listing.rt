@@ -1,17 +1,7 @@
 //! Writes rows as lines.
 
-ghost use Rattle.std.specs.Prelude.{◌≡◌, ◌<◌, ◌≤◌, ◌++◌, length, map, codes, IsTrue, OnOk, OnErr, IfOk};
-ghost use Rattle.std.specs.List.{All, flat_map};
+ghost use Rattle.cil_rules.specs.Common.{◌≡◌, ◌<◌, ◌≤◌, ◌++◌, length, map, codes, IsTrue, OnOk, OnErr, IfOk, All, flat_map, row_line, HasFailed, Gains, GainsFront, rule_kind_of, IsWithin, accesses_in, has_bit, atom_at, AreNumbered, rows_of, row_head, name_text, chunk_text, row_at, row_of};
 ghost use Rattle.cil_specs.specs.Statements.{rule_word};
-ghost use Rattle.cil_specs.specs.Report.{row_line};
-ghost use Rattle.cil_stream.specs.Device.{HasFailed, Gains, GainsFront};
-ghost use Rattle.cil_text.specs.Image.{rule_kind_of};
-ghost use Rattle.cil_accesses.specs.Renumbered.{IsWithin};
-ghost use Rattle.cil_accesses.specs.Rows.{accesses_in};
-ghost use Rattle.cil_accesses.specs.View.{has_bit};
-ghost use Rattle.cil_rules.specs.Atoms.{atom_at, AreNumbered};
-ghost use Rattle.cil_rules.specs.Rows.{rows_of, row_head, name_text, chunk_text, row_at};
-ghost use Rattle.cil_rules.specs.NumberedRows.{row_of};
 
 use crate::numbers::{is_listed, named};
 use crate::row::Row;

@@ -1,10 +1,6 @@
 //! Accesses by numbers.
 
-ghost use Rattle.std.specs.Prelude.{◌≡◌, ◌≤◌, ◌^◌, length, IfOk, OnErr};
-ghost use Rattle.cil_specs.specs.Report.{is_listed};
-ghost use Rattle.cil_text.specs.Image.{rule_kind_of};
-ghost use Rattle.cil_accesses.specs.Renumbered.{IsWithin};
-ghost use Rattle.cil_rules.specs.Atoms.{atom_of, atom_at};
+ghost use Rattle.cil_rules.specs.Common.{◌≡◌, ◌≤◌, ◌^◌, length, IfOk, OnErr, is_listed, rule_kind_of, IsWithin, atom_of, atom_at};
 
 use crate::atom::Atom;
 use cil_accesses::AccessNumbers;

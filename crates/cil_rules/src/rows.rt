@@ -1,14 +1,6 @@
 //! The rows of the listing, owned.
 
-ghost use Rattle.std.specs.Prelude.{◌≡◌, ◌<◌, ◌≤◌, ◌==◌, [], ◌∷◌, ◌++◌, length, map, slice_get, option_map, IfOk, OnOk, OnErr};
-ghost use Rattle.std.specs.List.{All, flat_map};
-ghost use Rattle.cil_specs.specs.Report.{row_line};
-ghost use Rattle.cil_stream.specs.Device.{HasFailed, Gains, GainsFront};
-ghost use Rattle.cil_accesses.specs.Rows.{accesses_in};
-ghost use Rattle.cil_accesses.specs.View.{at_bit};
-ghost use Rattle.cil_rules.specs.Atoms.{atom_at, AreNumbered};
-ghost use Rattle.cil_rules.specs.Rows.{rows_of};
-ghost use Rattle.cil_rules.specs.NumberedRows.{row_of, row_by, numbered_row, line_by, IsNumberedRow, AreNumberedRows};
+ghost use Rattle.cil_rules.specs.Common.{◌≡◌, ◌<◌, ◌≤◌, ◌==◌, [], ◌∷◌, ◌++◌, length, map, slice_get, option_map, IfOk, OnOk, OnErr, All, flat_map, row_line, HasFailed, Gains, GainsFront, accesses_in, at_bit, atom_at, AreNumbered, rows_of, row_of, row_by, numbered_row, line_by, IsNumberedRow, AreNumberedRows};
 
 use crate::listing::write_row_line;
 use crate::name_list::NameList;

@@ -1,12 +1,7 @@
 //! The access table.
 
-ghost use Rattle.std.specs.Prelude.{◌≡◌, ◌≤◌, ◌==◌, Bool, List, [], length, map, slice_get, option_map, IfOk, OnErr};
-ghost use Rattle.std.specs.List.{flat_map};
-ghost use Rattle.std.specs.Rc.{rc_value};
+ghost use Rattle.cil_rules.specs.Common.{◌≡◌, ◌≤◌, ◌==◌, Bool, List, [], length, map, slice_get, option_map, IfOk, OnErr, flat_map, rc_value, AreAtoms, Row, AreRows, row_line, HasFailed, Gains, GainsFront, atom_at, atom_of, AreNumbered};
 ghost use Rattle.cil_specs.specs.Rule as spec;
-ghost use Rattle.cil_specs.specs.Report.{AreAtoms, Row, AreRows, row_line};
-ghost use Rattle.cil_stream.specs.Device.{HasFailed, Gains, GainsFront};
-ghost use Rattle.cil_rules.specs.Atoms.{atom_at, atom_of, AreNumbered};
 
 use crate::atom::Atom;
 use crate::listing::write_rows;

@@ -1,6 +1,6 @@
 -- What stands apart in its module stands in no optional of the joined policy.
-use Rattle.std.proofs.Common.{◌≡◌, ℕ, Bool, true, false, not, ◌&&◌, ◌||◌, List, [], ◌∷◌, refl, sym, ap, ◌∙◌, true≢false}
-use Rattle.cil_specs.proofs.Common.{AllByRecursion, Place, Form, block, optional, type_name, type_alias, alias_actual, type_attribute, attribute_set, common, class, class_common, class_order, rule, Statements, no_more, statement, is_optional, stands_apart, are_apart, Module, Placed, namespace_inside, optionals_inside, placed, joined, AreApart}
+use Rattle.cil_specs.proofs.Common.{◌≡◌, ℕ, Bool, true, false, not, ◌&&◌, ◌||◌, List, [], ◌∷◌, refl, sym, ap, ◌∙◌, AllByRecursion, Place, Form, block, optional, type_name, type_alias, alias_actual, type_attribute, attribute_set, common, class, class_common, class_order, rule, Statements, no_more, statement, is_optional, stands_apart, are_apart, Module, Placed, namespace_inside, optionals_inside, placed, joined, AreApart}
+use Rattle.std.proofs.Common.{true≢false}
 use Rattle.cil_specs.proofs.Runs.{first_true, second_true}
 use Rattle.cil_specs.proofs.NamesLemmas.{all-append, all-contained}
 

@@ -1,6 +1,6 @@
 -- Whether an attribute is declared that depends on itself is decided.
-use Rattle.std.proofs.Common.{◌≡◌, ◌↔◌, inl, inr, Bool, true, false, List, [], ◌∷◌, filter, Contains, refl, sym, subst, true≢false, cond, arith}
-use Rattle.cil_specs.proofs.Common.{Word, Form, type_attribute, Placed, types, declared_name, is_attribute, IsCircular, sets_of}
+use Rattle.cil_specs.proofs.Common.{◌≡◌, ◌↔◌, inl, inr, Bool, true, false, List, [], ◌∷◌, refl, sym, subst, cond, arith, Word, Form, type_attribute, Placed, types, declared_name, is_attribute, IsCircular, sets_of}
+use Rattle.std.proofs.Common.{filter, Contains, true≢false}
 use Rattle.cil_specs.proofs.NamesLemmas.{contains-first, contains-cases}
 use Rattle.cil_specs.proofs.DependsLemmas.{depends_on, depends-decided}
 

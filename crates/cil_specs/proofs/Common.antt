@@ -16,6 +16,7 @@ pub use Rattle.cil_specs.specs.Shape.{Begins, Fits, IsAllowed, IsAtWord, IsBodyF
 pub use Rattle.cil_specs.specs.Statements.{Form, RuleKind, Statements, Target, alias_actual, allow, are_apart, as_declared, as_referred, attribute_set, auditallow, block, class, class_common, class_order, common, dontaudit, is_optional, itself, neverallow, no_more, optional, rise_from, rule, rule_word, stands_apart, statement, statement_offsets, target_words, the_named, type_alias, type_attribute, type_name, words_of}
 pub use Rattle.cil_specs.specs.TextFault.{IsNoLater, TextFault, TextFaultKind, bad_byte, bad_name, bare_word, code_of, misshapen, not_in_optional, reserved, too_deep, unbalanced, unclosed, unclosed_string, unsupported}
 pub use Rattle.cil_specs.specs.Trees.{Mark, Reads, Trees, a_list, a_string, a_word, are_lists, closing_before, in_order, marks, none, opening_at, string_at, told, word_at}
+pub use Rattle.std.proofs.Common.{Bool, IsTrue, List, None, Option, Some, [], ap, append-nil, append_assoc, arith, bytes_eq, codes, cond, drop, false, get_or, if◌then◌else◌, inl, inr, is_some, length, length-append, length-drop, map, nat_le, nat_lt, not, one-add, refl, subst, suc, sym, take, true, zero, ℕ, ◌&&◌, ◌++◌, ◌+◌, ◌-◌, ◌<◌, ◌==◌, ◌||◌, ◌↔◌, ◌∙◌, ◌∷◌, ◌≡◌, ◌≢◌, ◌≤◌, ◌⊎◌}
 pub use Rattle.std.proofs.Math.Bool.{and-true, or-true}
 pub use Rattle.std.proofs.lemmas.Bool.{and_from, and_parts, cases_lt, cases_order, eq-eqb, eqb-true, false≢true, le-leb, leb-true, lt-ltb, ltb-false, ltb-true, or_cases, true≢false}
 pub use Rattle.std.proofs.lemmas.Cmp.{nat_cmp_total, nat_list_cmp_total, on_total, then_total, tied_itself}

@@ -1,6 +1,6 @@
 -- Where no name is declared twice, each stands in one statement, and is found in a set of optionals if that one stands within it.
-use Rattle.std.proofs.Common.{◌≡◌, ℕ, Bool, true, false, not, ◌&&◌, ◌||◌, cond, List, [], ◌∷◌, ◌++◌, filter, Contains, Option, Some, None, is_some, bytes_eq, refl, sym, ap, ◌∙◌, subst, true≢false, append_assoc, if◌then◌else◌}
-use Rattle.cil_specs.proofs.Common.{find, list_any, none-some, bytes_eq-Decides, and-true, Word, Form, block, optional, type_name, type_alias, alias_actual, type_attribute, attribute_set, common, class, class_common, class_order, rule, is_optional, Placed, Optionals, is_within, restricted, Table, types, classes, commons, scopes, declared_in, is_word, same_namespace, declares, declaration, holds_of, PolicyFault, twice, is_again, twice_words, IsFaultOf}
+use Rattle.cil_specs.proofs.Common.{◌≡◌, ℕ, Bool, true, false, not, ◌&&◌, ◌||◌, cond, List, [], ◌∷◌, ◌++◌, Option, Some, None, is_some, bytes_eq, refl, sym, ap, ◌∙◌, subst, append_assoc, if◌then◌else◌, find, list_any, none-some, bytes_eq-Decides, and-true, Word, Form, block, optional, type_name, type_alias, alias_actual, type_attribute, attribute_set, common, class, class_common, class_order, rule, is_optional, Placed, Optionals, is_within, restricted, Table, types, classes, commons, scopes, declared_in, is_word, same_namespace, declares, declaration, holds_of, PolicyFault, twice, is_again, twice_words, IsFaultOf}
+use Rattle.std.proofs.Common.{filter, Contains, true≢false}
 use Rattle.cil_specs.proofs.Runs.{first_true, second_true}
 use Rattle.cil_specs.proofs.NamesLemmas.{contains-first}
 use Rattle.cil_specs.proofs.RestrictedLemmas.{filter-yes, filter-no}

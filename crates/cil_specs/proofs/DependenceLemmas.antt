@@ -1,6 +1,6 @@
 -- Set statements in the order of dependence have no circle, and what they hold doesn't depend on their order.
-use Rattle.std.proofs.Common.{◌≡◌, ℕ, zero, suc, ◌<◌, Bool, true, false, ◌&&◌, ◌||◌, List, [], ◌∷◌, Contains, bytes_eq, refl, sym, ap, ◌∙◌, subst, true≢false, arith}
-use Rattle.cil_specs.proofs.Common.{list_any, or-true, bytes_eq-Decides, Expr, Element, SetStatement, expr_holds, attribute_holds, holds_with, mentions, IsNextOf, DependsThrough, HasNoCircle}
+use Rattle.cil_specs.proofs.Common.{◌≡◌, ℕ, zero, suc, ◌<◌, Bool, true, false, ◌&&◌, ◌||◌, List, [], ◌∷◌, bytes_eq, refl, sym, ap, ◌∙◌, subst, arith, list_any, or-true, bytes_eq-Decides, Expr, Element, SetStatement, expr_holds, attribute_holds, holds_with, mentions, IsNextOf, DependsThrough, HasNoCircle}
+use Rattle.std.proofs.Common.{Contains, true≢false}
 use Rattle.cil_specs.specs.Dependence.{has_set, AreInOrder, AreTheSame}
 use Rattle.cil_specs.proofs.NamesLemmas.{contains-middle}
 use Rattle.cil_specs.proofs.OnceLemmas.{passes-among}

@@ -1,6 +1,6 @@
 -- Whether an attribute depends on another is decided: by way of the attributes of set statements, each taken or not.
-use Rattle.std.proofs.Common.{◌≡◌, ◌↔◌, ℕ, inl, inr, Bool, true, false, ◌&&◌, ◌||◌, List, [], ◌∷◌, ◌++◌, map, Contains, bytes_eq, refl, sym, ap, ◌∙◌, subst, true≢false}
-use Rattle.cil_specs.proofs.Common.{list_any, or_cases, bytes_eq-Decides, or-true, has_name, SetStatement, mentions, IsNextOf, DependsThrough, DependsOn}
+use Rattle.cil_specs.proofs.Common.{◌≡◌, ◌↔◌, ℕ, inl, inr, Bool, true, false, ◌&&◌, ◌||◌, List, [], ◌∷◌, ◌++◌, map, bytes_eq, refl, sym, ap, ◌∙◌, subst, list_any, or_cases, bytes_eq-Decides, or-true, has_name, SetStatement, mentions, IsNextOf, DependsThrough, DependsOn}
+use Rattle.std.proofs.Common.{Contains, true≢false}
 use Rattle.cil_specs.proofs.Runs.{first_true, second_true, both_true}
 use Rattle.cil_specs.proofs.NamesLemmas.{around, contains-map, contains-middle}
 use Rattle.cil_specs.proofs.OnceLemmas.{passes-among, any-middle}

@@ -1,6 +1,6 @@
 -- A policy keeps optionals: of all its optionals those are taken away again and again that need what isn't there.
-use Rattle.std.proofs.Common.{◌≡◌, ◌⊎◌, inl, inr, ℕ, zero, suc, ◌+◌, ◌<◌, ◌≤◌, Bool, true, false, not, ◌&&◌, ◌||◌, ◌==◌, cond, List, [], ◌∷◌, Contains, bytes_eq, refl, sym, ap, ◌∙◌, subst, arith, true≢false}
-use Rattle.cil_specs.proofs.Common.{list_all, list_any, count_by, eqb-true, eq-eqb, cases_lt, bytes_eq-Decides, sum_by-cons, is_optional, Placed, missing_words, Optionals, is_within, restricted, is_optional_at, is_member, has_innermost, IsWithin, IsGood, AreKept, AreApart}
+use Rattle.cil_specs.proofs.Common.{◌≡◌, ◌⊎◌, inl, inr, ℕ, zero, suc, ◌+◌, ◌<◌, ◌≤◌, Bool, true, false, not, ◌&&◌, ◌||◌, ◌==◌, cond, List, [], ◌∷◌, bytes_eq, refl, sym, ap, ◌∙◌, subst, arith, list_all, list_any, count_by, eqb-true, eq-eqb, cases_lt, bytes_eq-Decides, sum_by-cons, is_optional, Placed, missing_words, Optionals, is_within, restricted, is_optional_at, is_member, has_innermost, IsWithin, IsGood, AreKept, AreApart}
+use Rattle.std.proofs.Common.{Contains, true≢false}
 use Rattle.cil_specs.proofs.Runs.{first_true, second_true, both_true}
 use Rattle.cil_specs.proofs.NamesLemmas.{contains-first, contains-other, contains-middle}
 use Rattle.cil_specs.proofs.GrowsLemmas.{within-grows}

@@ -1,6 +1,6 @@
 -- Where the shape faults stand in trees in order, and which is the first.
-use Rattle.std.proofs.Common.{◌≡◌, ℕ, ◌+◌, ◌-◌, ◌<◌, ◌≤◌, ◌⊎◌, inl, inr, Bool, false, ◌||◌, List, [], ◌∷◌, length, map, get_or, sym, ◌∙◌, ap, codes, bytes_eq, IsTrue, Contains, arith}
-use Rattle.cil_specs.proofs.Common.{get_or-map, length-map, Place, TextFaultKind, unsupported, misshapen, not_in_optional, code_of, TextFault, IsNoLater, Word, Role, Trees, none, a_word, a_string, a_list, in_order, Form, words_of, Fits, keywords, is_among, IsAtWord, IsWordFault, no_keyword, no_fit, in_optional, no_name, IsListFault, IsShapeFault, IsInnerFault, IsBodyFault}
+use Rattle.cil_specs.proofs.Common.{◌≡◌, ℕ, ◌+◌, ◌-◌, ◌<◌, ◌≤◌, ◌⊎◌, inl, inr, Bool, false, ◌||◌, List, [], ◌∷◌, length, map, get_or, sym, ◌∙◌, ap, codes, bytes_eq, IsTrue, arith, get_or-map, length-map, Place, TextFaultKind, unsupported, misshapen, not_in_optional, code_of, TextFault, IsNoLater, Word, Role, Trees, none, a_word, a_string, a_list, in_order, Form, words_of, Fits, keywords, is_among, IsAtWord, IsWordFault, no_keyword, no_fit, in_optional, no_name, IsListFault, IsShapeFault, IsInnerFault, IsBodyFault}
+use Rattle.std.proofs.Common.{Contains}
 use Rattle.cil_specs.proofs.FormLemmas.{fits_parts}
 use Rattle.cil_specs.proofs.OrderLemmas.{RiseTo, RiseThen, rise_within, role_offset, order_word, order_list, order_le, words_rise}
 

@@ -1,6 +1,6 @@
 -- In trees in order no two shape faults of one kind stand at one place.
-use Rattle.std.proofs.Common.{◌≡◌, ℕ, ◌+◌, ◌-◌, ◌<◌, ◌⊎◌, inl, inr, Bool, false, ◌||◌, ◌&&◌, List, [], ◌∷◌, length, map, get_or, zero, suc, sym, ◌∙◌, ap, subst, codes, bytes_eq, IsTrue, Contains, refl, ◌==◌, if◌then◌else◌, nat_le, nat_lt, arith}
-use Rattle.cil_specs.proofs.Common.{and_parts, and_from, le-leb, Place, TextFaultKind, unsupported, misshapen, not_in_optional, bad_byte, unbalanced, unclosed, unclosed_string, too_deep, bare_word, bad_name, reserved, code_of, TextFault, IsNoLater, Word, Role, Trees, none, a_word, a_string, a_list, in_order, Form, words_of, is_optional, Fits, IsAtWord, IsWordFault, no_keyword, no_fit, in_optional, no_name, IsListFault, IsShapeFault, IsInnerFault, IsBodyFault, IsFirstShapeFault}
+use Rattle.cil_specs.proofs.Common.{◌≡◌, ℕ, ◌+◌, ◌-◌, ◌<◌, ◌⊎◌, inl, inr, Bool, false, ◌||◌, ◌&&◌, List, [], ◌∷◌, length, map, get_or, zero, suc, sym, ◌∙◌, ap, subst, codes, bytes_eq, IsTrue, refl, ◌==◌, if◌then◌else◌, nat_le, nat_lt, arith, and_parts, and_from, le-leb, Place, TextFaultKind, unsupported, misshapen, not_in_optional, bad_byte, unbalanced, unclosed, unclosed_string, too_deep, bare_word, bad_name, reserved, code_of, TextFault, IsNoLater, Word, Role, Trees, none, a_word, a_string, a_list, in_order, Form, words_of, is_optional, Fits, IsAtWord, IsWordFault, no_keyword, no_fit, in_optional, no_name, IsListFault, IsShapeFault, IsInnerFault, IsBodyFault, IsFirstShapeFault}
+use Rattle.std.proofs.Common.{Contains}
 use Rattle.cil_specs.proofs.FormSame.{fits_same}
 use Rattle.cil_specs.proofs.OrderLemmas.{RiseTo, role_offset, order_word, order_list}
 use Rattle.cil_specs.proofs.ShapeLemmas.{inner_of_list}

@@ -1,6 +1,6 @@
 -- A fault of a policy stands at a word of its statement.
-use Rattle.std.proofs.Common.{◌≡◌, Bool, true, false, cond, ◌⊎◌, inl, inr, List, [], ◌∷◌, ◌++◌, map, filter, flat_map, Contains, refl, sym, ap, subst, arith}
-use Rattle.cil_specs.proofs.Common.{AllByRecursion, list_any, option_to_list, Word, leaves, Form, block, optional, type_name, type_alias, alias_actual, type_attribute, attribute_set, common, class, class_common, class_order, rule, Target, itself, the_named, target_words, words_of, Placed, Table, types, classes, commons, scopes, declared_in, references, named_permissions, PolicyFaultKind, twice, missing, wrong_kind, alias_twice, alias_unset, second_common, too_many_permissions, circular, is_again, tables, is_unfound, is_lacking, missing_words, kinds_asked, is_of_another_kind, alias_words, has_earlier_actual, element_words, is_unset, common_words, has_earlier_common, has_too_many, is_outside, IsFaulty}
+use Rattle.cil_specs.proofs.Common.{◌≡◌, Bool, true, false, cond, ◌⊎◌, inl, inr, List, [], ◌∷◌, ◌++◌, map, refl, sym, ap, subst, arith, AllByRecursion, list_any, option_to_list, Word, leaves, Form, block, optional, type_name, type_alias, alias_actual, type_attribute, attribute_set, common, class, class_common, class_order, rule, Target, itself, the_named, target_words, words_of, Placed, Table, types, classes, commons, scopes, declared_in, references, named_permissions, PolicyFaultKind, twice, missing, wrong_kind, alias_twice, alias_unset, second_common, too_many_permissions, circular, is_again, tables, is_unfound, is_lacking, missing_words, kinds_asked, is_of_another_kind, alias_words, has_earlier_actual, element_words, is_unset, common_words, has_earlier_common, has_too_many, is_outside, IsFaulty}
+use Rattle.std.proofs.Common.{filter, flat_map, Contains}
 use Rattle.cil_specs.proofs.OrderLemmas.{offset_of, role_offset, declared_offsets, referred_offsets}
 use Rattle.cil_specs.proofs.NamesLemmas.{all-weaker, all-contained, contains-first, contains-other, contains-cases, contains-mapped}
 

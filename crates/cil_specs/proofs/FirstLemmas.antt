@@ -1,6 +1,6 @@
 -- A policy compiles, or it has a first fault.
-use Rattle.std.proofs.Common.{◌≡◌, ◌⊎◌, inl, inr, ◌↔◌, ℕ, ◌≤◌, List, [], ◌∷◌, ◌++◌, map, flat_map, Contains, if◌then◌else◌, refl, sym, ap, ◌∙◌, subst, append_assoc, arith}
-use Rattle.cil_specs.proofs.Common.{nat_cmp, is_eq, ordering_reverse, Ordering, Less, Equal, Greater, cases_lt, cases_order, nat_list_cmp_total, bytes_eq-Decides, Word, Placed, PolicyFaultKind, twice, missing, wrong_kind, alias_twice, alias_unset, second_common, too_many_permissions, circular, PolicyFault, twice_words, missing_words, wrong_kind_words, alias_twice_words, alias_unset_words, second_common_words, too_many_words, is_outside, IsFaulty, IsFaultOf, Optionals, judged, IsPolicyFault, IsFirst, Compiles}
+use Rattle.cil_specs.proofs.Common.{◌≡◌, ◌⊎◌, inl, inr, ◌↔◌, ℕ, ◌≤◌, List, [], ◌∷◌, ◌++◌, map, if◌then◌else◌, refl, sym, ap, ◌∙◌, subst, append_assoc, arith, nat_cmp, is_eq, ordering_reverse, Ordering, Less, Equal, Greater, cases_lt, cases_order, nat_list_cmp_total, bytes_eq-Decides, Word, Placed, PolicyFaultKind, twice, missing, wrong_kind, alias_twice, alias_unset, second_common, too_many_permissions, circular, PolicyFault, twice_words, missing_words, wrong_kind_words, alias_twice_words, alias_unset_words, second_common_words, too_many_words, is_outside, IsFaulty, IsFaultOf, Optionals, judged, IsPolicyFault, IsFirst, Compiles}
+use Rattle.std.proofs.Common.{flat_map, Contains}
 use Rattle.std.specs.Cmp.Lexicographic.{slice_cmp}
 use Rattle.std.proofs.lemmas.Map.Text.{is_eq-slice_cmp}
 use Rattle.cil_specs.specs.PolicyFault.{code_of, IsNoLater}

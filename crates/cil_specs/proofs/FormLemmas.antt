@@ -1,6 +1,5 @@
 -- How the operands of a statement's first word fit its form.
-use Rattle.std.proofs.Common.{◌≡◌, ℕ, List, ap, subst, refl, codes, IsTrue}
-use Rattle.cil_specs.proofs.Common.{Place, Word, Trees, none, a_word, are_lists, Expresses, rule_word, Form, block, optional, type_name, type_alias, alias_actual, type_attribute, attribute_set, common, class, class_common, class_order, rule, put_word, Begins, IsWordList, IsTargetThen, IsClassList, IsClassAndPermissions, Fits}
+use Rattle.cil_specs.proofs.Common.{◌≡◌, ℕ, List, ap, subst, refl, codes, IsTrue, Place, Word, Trees, none, a_word, are_lists, Expresses, rule_word, Form, block, optional, type_name, type_alias, alias_actual, type_attribute, attribute_set, common, class, class_common, class_order, rule, put_word, Begins, IsWordList, IsTargetThen, IsClassList, IsClassAndPermissions, Fits}
 
 -- the first word of a statement of the form
 abbrev pub first_word : Form → List ℕ

@@ -1,6 +1,5 @@
 -- A list fits one form at most.
-use Rattle.std.proofs.Common.{◌≡◌, ℕ, inl, inr, List, [], ◌∷◌, sym, ◌∙◌, ap, subst, refl, false, codes, bytes_eq}
-use Rattle.cil_specs.proofs.Common.{Word, Trees, none, IsListThen, Expresses, RuleKind, allow, auditallow, dontaudit, neverallow, rule_word, Target, itself, the_named, Form, block, optional, type_name, type_alias, alias_actual, type_attribute, attribute_set, common, class, class_common, class_order, rule, put_word, all_words, IsWordList, IsTargetThen, IsClassList, IsClassAndPermissions, Fits}
+use Rattle.cil_specs.proofs.Common.{◌≡◌, ℕ, inl, inr, List, [], ◌∷◌, sym, ◌∙◌, ap, subst, refl, false, codes, bytes_eq, Word, Trees, none, IsListThen, Expresses, RuleKind, allow, auditallow, dontaudit, neverallow, rule_word, Target, itself, the_named, Form, block, optional, type_name, type_alias, alias_actual, type_attribute, attribute_set, common, class, class_common, class_order, rule, put_word, all_words, IsWordList, IsTargetThen, IsClassList, IsClassAndPermissions, Fits}
 use Rattle.cil_specs.proofs.ExprLemmas.{apart}
 use Rattle.cil_specs.proofs.ExprSame.{same_word, expresses_same}
 use Rattle.cil_specs.proofs.FormLemmas.{first_word, IsNameAndList, OperandsFit, fits_begin, fits_parts}

@@ -1,6 +1,6 @@
 -- Of two clean fronts of one text the longer begins with the parts of the shorter; and where a fault stands no part goes on.
-use Rattle.std.proofs.Common.{◌≡◌, ℕ, ◌≤◌, ◌||◌, cond, ◌==◌, Bool, true, false, List, [], ◌∷◌, ◌++◌, length, drop, get_or, refl, ap, sym, ◌∙◌, subst, append_assoc, true≢false, arith}
-use Rattle.cil_specs.proofs.Common.{list_all, eqb-true, is_white, is_word_byte, is_comment_byte, is_string_byte, Part, white, comment, word, string, opening, closing, spelling, IsPart, EndsBefore, Splits}
+use Rattle.cil_specs.proofs.Common.{◌≡◌, ℕ, ◌≤◌, ◌||◌, cond, ◌==◌, Bool, true, false, List, [], ◌∷◌, ◌++◌, length, drop, get_or, refl, ap, sym, ◌∙◌, subst, append_assoc, arith, list_all, eqb-true, is_white, is_word_byte, is_comment_byte, is_string_byte, Part, white, comment, word, string, opening, closing, spelling, IsPart, EndsBefore, Splits}
+use Rattle.std.proofs.Common.{true≢false}
 use Rattle.std.proofs.Math.Dec.{eqb}
 use Rattle.cil_specs.proofs.PartLemmas.{size-some, splits-size}
 use Rattle.cil_specs.proofs.Runs.{StopsBefore, first_true, same_run}

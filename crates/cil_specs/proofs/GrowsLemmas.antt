@@ -1,6 +1,6 @@
 -- What is found with some optionals is found with more.
-use Rattle.std.proofs.Common.{◌≡◌, ℕ, Bool, true, false, cond, if◌then◌else◌, List, [], ◌∷◌, filter, Option, Some, None, is_some, refl, sym, ap, ◌∙◌, true≢false}
-use Rattle.cil_specs.proofs.Common.{find, list_all, option_or, option_and_then, components, Placed, Table, declares, declaration, has_block, outward, nearest_block, inside, from_namespace, is_global, leads, Optionals, is_within, restricted, IsWithin, AreApart}
+use Rattle.cil_specs.proofs.Common.{◌≡◌, ℕ, Bool, true, false, cond, if◌then◌else◌, List, [], ◌∷◌, Option, Some, None, is_some, refl, sym, ap, ◌∙◌, find, list_all, option_or, option_and_then, components, Placed, Table, declares, declaration, has_block, outward, nearest_block, inside, from_namespace, is_global, leads, Optionals, is_within, restricted, IsWithin, AreApart}
+use Rattle.std.proofs.Common.{filter, true≢false}
 use Rattle.cil_specs.proofs.Runs.{first_true, second_true, both_true}
 use Rattle.cil_specs.proofs.RestrictedLemmas.{filter-yes, filter-no, has_block-restricted, nearest_block-restricted}
 

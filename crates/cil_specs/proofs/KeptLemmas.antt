@@ -1,6 +1,6 @@
 -- The kept optionals are a good set, and two sets of them are one.
-use Rattle.std.proofs.Common.{◌≡◌, ℕ, Bool, true, false, not, cond, List, [], ◌∷◌, ◌++◌, map, filter, is_some, Contains, refl, sym, ap, ◌∙◌, subst, true≢false}
-use Rattle.cil_specs.proofs.Common.{Word, is_optional, Placed, Table, leads, references, named_permissions, is_unfound, is_lacking, missing_words, Optionals, restricted, has_innermost, IsWithin, IsGood, AreKept, AreApart}
+use Rattle.cil_specs.proofs.Common.{◌≡◌, ℕ, Bool, true, false, not, cond, List, [], ◌∷◌, ◌++◌, map, is_some, refl, sym, ap, ◌∙◌, subst, Word, is_optional, Placed, Table, leads, references, named_permissions, is_unfound, is_lacking, missing_words, Optionals, restricted, has_innermost, IsWithin, IsGood, AreKept, AreApart}
+use Rattle.std.proofs.Common.{filter, Contains, true≢false}
 use Rattle.cil_specs.proofs.Runs.{first_true, second_true, both_true}
 use Rattle.cil_specs.proofs.GrowsLemmas.{all-grows, leads-grows}
 use Rattle.cil_specs.proofs.RestrictedLemmas.{lacking-restricted}

@@ -1,6 +1,5 @@
 -- Where a name leads by two policies whose declarations and blocks are the same.
-use Rattle.std.proofs.Common.{◌≡◌, ℕ, List, [], ◌∷◌, Option, Some, None, refl, ap, ◌∙◌, if◌then◌else◌}
-use Rattle.cil_specs.proofs.Common.{option_or, option_and_then, components, Placed, Table, declaration, has_block, outward, nearest_block, inside, from_namespace, is_global, leads}
+use Rattle.cil_specs.proofs.Common.{◌≡◌, ℕ, List, [], ◌∷◌, Option, Some, None, refl, ap, ◌∙◌, if◌then◌else◌, option_or, option_and_then, components, Placed, Table, declaration, has_block, outward, nearest_block, inside, from_namespace, is_global, leads}
 
 -- the nearest block of a name by two policies whose blocks are the same
 pub nearest-same : (policy policy' : List Placed) → ((namespace : List (List ℕ)) (name : List ℕ) → has_block policy namespace name ≡ has_block policy' namespace name)

@@ -1,6 +1,6 @@
 -- What the set statements of a policy that compiles name is what it keeps.
-use Rattle.std.proofs.Common.{◌≡◌, ℕ, inl, inr, Bool, true, false, not, ◌&&◌, cond, if◌then◌else◌, List, [], ◌∷◌, ◌++◌, map, filter, flat_map, find, Contains, Option, Some, None, is_some, bytes_eq, refl, sym, ap, ◌∙◌, subst, true≢false, arith}
-use Rattle.cil_specs.proofs.Common.{list_all, list_any, option_or, option_and_then, IfSome, IfSome_then, bytes_eq-Decides, Place, Word, components, Expr, every, named, opposite, both, either, one_of, nothing, elements, leaves, map_leaves, Form, type_name, type_alias, alias_actual, type_attribute, attribute_set, Placed, Table, types, declared_in, declared_name, declares, declaration, has_block, outward, nearest_block, inside, from_namespace, is_global, leads, references, named_permissions, gives_actual, actual_statement, actual_in, actual_of, holds_of, is_type, is_alias, is_attribute, PolicyFaultKind, missing, wrong_kind, alias_unset, circular, is_outside, is_unfound, is_lacking, missing_words, kinds_asked, is_of_another_kind, wrong_kind_words, element_words, is_unset, alias_unset_words, IsFaulty, IsCircular, IsFaultOf, Optionals, is_within, has_innermost, restricted, AreKept, AreApart, Compiles, dropped_of, Element, Declared, SetStatement, declared_as, attributes_of, name_or_none, element_at, element_or_none, element_of, set_statement_of, sets_of, DependsOn, Meaning, meaning_of, Means, keeps_type}
+use Rattle.cil_specs.proofs.Common.{◌≡◌, ℕ, inl, inr, Bool, true, false, not, ◌&&◌, cond, if◌then◌else◌, List, [], ◌∷◌, ◌++◌, map, Option, Some, None, is_some, bytes_eq, refl, sym, ap, ◌∙◌, subst, arith, list_all, list_any, option_or, option_and_then, IfSome, IfSome_then, bytes_eq-Decides, Place, Word, components, Expr, every, named, opposite, both, either, one_of, nothing, elements, leaves, map_leaves, Form, type_name, type_alias, alias_actual, type_attribute, attribute_set, Placed, Table, types, declared_in, declared_name, declares, declaration, has_block, outward, nearest_block, inside, from_namespace, is_global, leads, references, named_permissions, gives_actual, actual_statement, actual_in, actual_of, holds_of, is_type, is_alias, is_attribute, PolicyFaultKind, missing, wrong_kind, alias_unset, circular, is_outside, is_unfound, is_lacking, missing_words, kinds_asked, is_of_another_kind, wrong_kind_words, element_words, is_unset, alias_unset_words, IsFaulty, IsCircular, IsFaultOf, Optionals, is_within, has_innermost, restricted, AreKept, AreApart, Compiles, dropped_of, Element, Declared, SetStatement, declared_as, attributes_of, name_or_none, element_at, element_or_none, element_of, set_statement_of, sets_of, DependsOn, Meaning, meaning_of, Means, keeps_type}
+use Rattle.std.proofs.Common.{filter, flat_map, find, Contains, true≢false}
 use Rattle.std.proofs.lemmas.Grind.{flat_map-append}
 use Rattle.cil_specs.specs.Members.{keeps_attribute, keeps_element, HasOwnSets, HasSoundSets}
 use Rattle.cil_specs.proofs.Runs.{first_true}

@@ -1,7 +1,6 @@
 -- What is in an expression by a policy: alike in two policies that agree on the attributes that it mentions, and for an attribute
 -- what is in the expression of one of its set statements.
-use Rattle.std.proofs.Common.{suc, ◌≡◌, ℕ, ◌≤◌, Bool, true, false, ◌&&◌, ◌||◌, List, [], ◌∷◌, map, length, bytes_eq, refl, sym, ap, ◌∙◌, subst, arith}
-use Rattle.cil_specs.proofs.Common.{length-map, list_any, Expr, named, has_name, Element, an_attribute, SetStatement, Declared, expr_holds, attribute_holds, holds_with, mentions, Meaning, keeps_type, is_in}
+use Rattle.cil_specs.proofs.Common.{suc, ◌≡◌, ℕ, ◌≤◌, Bool, true, false, ◌&&◌, ◌||◌, List, [], ◌∷◌, map, length, bytes_eq, refl, sym, ap, ◌∙◌, subst, arith, length-map, list_any, Expr, named, has_name, Element, an_attribute, SetStatement, Declared, expr_holds, attribute_holds, holds_with, mentions, Meaning, keeps_type, is_in}
 use Rattle.cil_specs.specs.Members.{is_member, HasSoundSets}
 use Rattle.cil_specs.proofs.SetLemmas.{holds-agree, more-fuel}
 

@@ -1,6 +1,6 @@
 -- Places in lists, and offsets that rise.
-use Rattle.std.proofs.Common.{◌≡◌, ℕ, ◌+◌, ◌<◌, ◌≤◌, ◌⊎◌, inl, inr, zero, suc, Bool, true, false, nat_le, List, [], ◌∷◌, ◌++◌, get_or, map, filter, if◌then◌else◌, Contains, refl, sym, ap, subst, arith, drop}
-use Rattle.cil_specs.proofs.Common.{AllByRecursion, leb-true, le-leb, rise_from}
+use Rattle.cil_specs.proofs.Common.{◌≡◌, ℕ, ◌+◌, ◌<◌, ◌≤◌, ◌⊎◌, inl, inr, zero, suc, Bool, true, false, nat_le, List, [], ◌∷◌, ◌++◌, get_or, map, if◌then◌else◌, refl, sym, ap, subst, arith, drop, AllByRecursion, leb-true, le-leb, rise_from}
+use Rattle.std.proofs.Common.{filter, Contains}
 use Rattle.cil_specs.proofs.Runs.{both_true, first_true, second_true}
 
 pub all-weaker : {X : Type 0} (P Q : X → Type 0) → ((x : X) → P x → Q x) → (xs : List X) → AllByRecursion P xs → AllByRecursion Q xs

@@ -1,6 +1,6 @@
 -- Names that are declared twice: what a statement declares, and the same of other statements.
-use Rattle.std.proofs.Common.{◌≡◌, Bool, true, false, ◌||◌, cond, List, [], ◌∷◌, ◌++◌, filter, flat_map, Option, Some, None, if◌then◌else◌, refl, sym, ap, ◌∙◌, subst, Contains, true≢false, append-nil, get_or, drop, arith}
-use Rattle.cil_specs.proofs.Common.{list_any, option_to_list, none-some, Word, Form, block, optional, type_name, type_alias, alias_actual, type_attribute, attribute_set, common, class, class_common, class_order, rule, Placed, Table, types, classes, commons, scopes, declared_in, PolicyFault, twice, is_again, tables, twice_words, IsFaultOf}
+use Rattle.cil_specs.proofs.Common.{◌≡◌, Bool, true, false, ◌||◌, cond, List, [], ◌∷◌, ◌++◌, Option, Some, None, if◌then◌else◌, refl, sym, ap, ◌∙◌, subst, append-nil, get_or, drop, arith, list_any, option_to_list, none-some, Word, Form, block, optional, type_name, type_alias, alias_actual, type_attribute, attribute_set, common, class, class_common, class_order, rule, Placed, Table, types, classes, commons, scopes, declared_in, PolicyFault, twice, is_again, tables, twice_words, IsFaultOf}
+use Rattle.std.proofs.Common.{filter, flat_map, Contains, true≢false}
 use Rattle.cil_specs.proofs.RestrictedLemmas.{filter-yes, filter-no}
 
 -- the table that a statement declares a name in, if it declares one

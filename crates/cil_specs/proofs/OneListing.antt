@@ -1,6 +1,6 @@
 -- A table has one list of accesses and one of rows, and there is one list of changes from it to another.
-use Rattle.std.proofs.Common.{◌≡◌, ◌≢◌, inl, inr, ℕ, Bool, not, ◌&&◌, List, [], ◌∷◌, Contains, refl, sym, ap, ◌∙◌, subst}
-use Rattle.cil_specs.proofs.Common.{AllByRecursion, IsStrictlySortedBy, IsTotalOrder, ordering_reverse, Ordering, Less, Equal, Greater, tied_itself, Atom}
+use Rattle.cil_specs.proofs.Common.{◌≡◌, ◌≢◌, inl, inr, ℕ, Bool, not, ◌&&◌, List, [], ◌∷◌, refl, sym, ap, ◌∙◌, subst, AllByRecursion, IsStrictlySortedBy, IsTotalOrder, ordering_reverse, Ordering, Less, Equal, Greater, tied_itself, Atom}
+use Rattle.std.proofs.Common.{Contains}
 use Rattle.cil_specs.specs.Report.{name_cmp, atom_cmp, AreAtoms, Changes, AreChanges, Row, row_cmp, IsRow, Has, AreRows}
 use Rattle.cil_specs.proofs.NamesLemmas.{contains-first}
 use Rattle.cil_specs.proofs.ReportLemmas.{name_total, atom_total, row_total}

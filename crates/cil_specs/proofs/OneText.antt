@@ -1,6 +1,5 @@
 -- A text spells one module, or has one fault.
-use Rattle.std.proofs.Common.{◌≡◌, ℕ, false, List, length, subst, arith}
-use Rattle.cil_specs.proofs.Common.{TextFault, Trees, Reads, Statements, Shapes, IsShapeFault, IsFirstShapeFault}
+use Rattle.cil_specs.proofs.Common.{◌≡◌, ℕ, false, List, length, subst, arith, TextFault, Trees, Reads, Statements, Shapes, IsShapeFault, IsFirstShapeFault}
 use Rattle.cil_specs.specs.ModuleText.{IsModuleText, IsTextFault, in_reading, in_shape}
 use Rattle.cil_specs.proofs.Order.{reading-in_order}
 use Rattle.cil_specs.proofs.OneReading.{one-reading}

@@ -1,6 +1,5 @@
 -- The trees of a text are lists, and stand in order.
-use Rattle.std.proofs.Common.{◌≡◌, ◌≢◌, ℕ, ◌+◌, ◌-◌, ◌<◌, ◌≤◌, true, List, [], ◌∷◌, ◌++◌, length, drop, refl, ap, sym, ◌∙◌, subst, append_assoc, append-nil, nat_le, nat_lt, arith}
-use Rattle.cil_specs.proofs.Common.{leb-true, le-leb, lt-ltb, Part, white, comment, word, string, opening, closing, Splits, Nests, Trees, none, a_word, a_string, a_list, Mark, word_at, string_at, opening_at, closing_before, marks, told, Reads, are_lists, in_order}
+use Rattle.cil_specs.proofs.Common.{◌≡◌, ◌≢◌, ℕ, ◌+◌, ◌-◌, ◌<◌, ◌≤◌, true, List, [], ◌∷◌, ◌++◌, length, drop, refl, ap, sym, ◌∙◌, subst, append_assoc, append-nil, nat_le, nat_lt, arith, leb-true, le-leb, lt-ltb, Part, white, comment, word, string, opening, closing, Splits, Nests, Trees, none, a_word, a_string, a_list, Mark, word_at, string_at, opening_at, closing_before, marks, told, Reads, are_lists, in_order}
 use Rattle.cil_specs.proofs.PartLemmas.{size, size-some, clean-size}
 use Rattle.cil_specs.proofs.Runs.{both_true, first_true, second_true}
 

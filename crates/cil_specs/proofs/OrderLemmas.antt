@@ -1,6 +1,5 @@
 -- Trees in order, and the words in them.
-use Rattle.std.proofs.Common.{◌≡◌, ℕ, ◌+◌, ◌-◌, ◌<◌, ◌≤◌, nat_le, nat_lt, ◌≢◌, ◌⊎◌, inl, inr, List, [], ◌∷◌, ◌++◌, length, map, get_or, zero, suc, sym, ◌∙◌, ap, subst, refl, codes, IsTrue, arith}
-use Rattle.cil_specs.proofs.Common.{and_parts, and_from, leb-true, ltb-true, le-leb, map-append, Place, Word, Role, Trees, none, a_word, a_string, a_list, in_order, WordExpr, every, named, opposite, both, either, one_of, nothing, elements, IsOperationThen, Expresses, Lists, leaves, Target, itself, the_named, as_declared, as_referred, target_words, Form, block, optional, type_name, type_alias, alias_actual, type_attribute, attribute_set, common, class, class_common, class_order, rule, words_of, rise_from, put_word, all_words, IsWordList, IsTargetThen, IsClassList, IsClassAndPermissions}
+use Rattle.cil_specs.proofs.Common.{◌≡◌, ℕ, ◌+◌, ◌-◌, ◌<◌, ◌≤◌, nat_le, nat_lt, ◌≢◌, ◌⊎◌, inl, inr, List, [], ◌∷◌, ◌++◌, length, map, get_or, zero, suc, sym, ◌∙◌, ap, subst, refl, codes, IsTrue, arith, and_parts, and_from, leb-true, ltb-true, le-leb, map-append, Place, Word, Role, Trees, none, a_word, a_string, a_list, in_order, WordExpr, every, named, opposite, both, either, one_of, nothing, elements, IsOperationThen, Expresses, Lists, leaves, Target, itself, the_named, as_declared, as_referred, target_words, Form, block, optional, type_name, type_alias, alias_actual, type_attribute, attribute_set, common, class, class_common, class_order, rule, words_of, rise_from, put_word, all_words, IsWordList, IsTargetThen, IsClassList, IsClassAndPermissions}
 use Rattle.cil_specs.proofs.FormLemmas.{IsNameAndList, OperandsFit}
 
 -- numbers that rise from one on and stay below another

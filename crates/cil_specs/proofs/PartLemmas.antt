@@ -1,6 +1,5 @@
 -- Parts one after the other: a clean front that grows by a part, and how long its parts are.
-use Rattle.std.proofs.Common.{◌≡◌, ℕ, ◌+◌, ◌<◌, ◌≤◌, List, [], ◌∷◌, ◌++◌, length, drop, refl, ap, sym, ◌∙◌, subst, append_assoc, length-append, length-drop, arith}
-use Rattle.cil_specs.proofs.Common.{Part, white, comment, word, string, opening, closing, spelling, IsPart, EndsBefore, Splits, Moves, Nests, IsClean, place_at, Mark, word_at, string_at, opening_at, closing_before, told, AllByRecursion}
+use Rattle.cil_specs.proofs.Common.{◌≡◌, ℕ, ◌+◌, ◌<◌, ◌≤◌, List, [], ◌∷◌, ◌++◌, length, drop, refl, ap, sym, ◌∙◌, subst, append_assoc, length-append, length-drop, arith, Part, white, comment, word, string, opening, closing, spelling, IsPart, EndsBefore, Splits, Moves, Nests, IsClean, place_at, Mark, word_at, string_at, opening_at, closing_before, told, AllByRecursion}
 
 -- how many bytes the parts have
 abbrev pub size : List Part → ℕ

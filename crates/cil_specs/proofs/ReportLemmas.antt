@@ -1,7 +1,6 @@
 -- The orders of names, accesses and rows.
-use Rattle.std.proofs.Common.{◌≡◌, ℕ, zero, suc, List, [], ◌∷◌, true, refl, sym, ap, ◌∙◌}
+use Rattle.cil_specs.proofs.Common.{◌≡◌, ℕ, zero, suc, List, [], ◌∷◌, true, refl, sym, ap, ◌∙◌, IsStrictlySortedBy, is_lt, is_eq, ordering_then, IsTotalOrder, Ordering, Less, Equal, Greater, and_parts, and_from, false≢true, nat_cmp_total, on_total, then_total, nat_list_cmp_total, RuleKind, allow, auditallow, dontaudit, neverallow, kind_index}
 use Rattle.std.specs.Bool.{IsTrue}
-use Rattle.cil_specs.proofs.Common.{IsStrictlySortedBy, is_lt, is_eq, ordering_then, IsTotalOrder, Ordering, Less, Equal, Greater, and_parts, and_from, false≢true, nat_cmp_total, on_total, then_total, nat_list_cmp_total, RuleKind, allow, auditallow, dontaudit, neverallow, kind_index}
 use Rattle.std.proofs.lemmas.Map.Lookups.{CmpEqualImpliesEq, exact_unsigned, exact_bytes}
 use Rattle.cil_specs.specs.Report.{name_cmp, atom_cmp, row_cmp, names_rise}
 use Rattle.cil_specs.proofs.ReportLemmasMembers.{all_weaker}

@@ -1,7 +1,6 @@
 -- What stands in a list, by recursion on it, and strictly ascending lists.
-use Rattle.std.proofs.Common.{◌≡◌, ◌⊎◌, inl, inr, zero, suc, ◌+◌, ◌<◌, Bool, true, false, cond, List, [], ◌∷◌, ◌++◌, map, refl, sym, ap, ◌∙◌, subst, arith}
+use Rattle.cil_specs.proofs.Common.{◌≡◌, ◌⊎◌, inl, inr, zero, suc, ◌+◌, ◌<◌, Bool, true, false, cond, List, [], ◌∷◌, ◌++◌, map, refl, sym, ap, ◌∙◌, subst, arith, Contains, All, AllByRecursion, flat_map, filter, Any, list_any, count_by, IsStrictlySortedBy, Ordering, Less, ltb-true, lt-ltb, true≢false, get_or_default, sum_by-cons}
 use Rattle.std.specs.Bool.{IsTrue}
-use Rattle.cil_specs.proofs.Common.{Contains, All, AllByRecursion, flat_map, filter, Any, list_any, count_by, IsStrictlySortedBy, Ordering, Less, ltb-true, lt-ltb, true≢false, get_or_default, sum_by-cons}
 use Rattle.std.specs.Prelude.{nat_lt}
 use Rattle.std.proofs.lemmas.List.Elements.{Contains-get_or}
 use Rattle.std.proofs.lemmas.List.Folds.{Any-from_list_any, list_any-from_Any}

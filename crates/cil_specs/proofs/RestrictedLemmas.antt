@@ -1,6 +1,6 @@
 -- What is found among the statements that pass a test, and that what stands apart is found alike whatever is kept.
-use Rattle.std.proofs.Common.{◌≡◌, ℕ, Bool, true, false, ◌||◌, cond, if◌then◌else◌, List, [], ◌∷◌, ◌++◌, filter, flat_map, find, Option, Some, None, is_some, not, Contains, bytes_eq, refl, sym, ap, ◌∙◌, true≢false}
-use Rattle.cil_specs.proofs.Common.{list_all, list_any, Word, Form, block, common, class, class_common, stands_apart, Placed, Table, classes, commons, declared_in, is_word, same_namespace, declares, declaration, block_name, is_block, has_block, nearest_block, leads, holds_of, is_same, listed_by, gives_common, common_permissions, permissions_of, own_permissions, texts, is_lacking, Optionals, is_within, restricted, AreApart}
+use Rattle.cil_specs.proofs.Common.{◌≡◌, ℕ, Bool, true, false, ◌||◌, cond, if◌then◌else◌, List, [], ◌∷◌, ◌++◌, Option, Some, None, is_some, not, bytes_eq, refl, sym, ap, ◌∙◌, list_all, list_any, Word, Form, block, common, class, class_common, stands_apart, Placed, Table, classes, commons, declared_in, is_word, same_namespace, declares, declaration, block_name, is_block, has_block, nearest_block, leads, holds_of, is_same, listed_by, gives_common, common_permissions, permissions_of, own_permissions, texts, is_lacking, Optionals, is_within, restricted, AreApart}
+use Rattle.std.proofs.Common.{filter, flat_map, find, Contains, true≢false}
 use Rattle.cil_specs.proofs.Runs.{first_true}
 use Rattle.cil_specs.proofs.NamesLemmas.{contains-first, contains-other}
 use Rattle.cil_specs.proofs.LeadsLemmas.{nearest-same, leads-same}

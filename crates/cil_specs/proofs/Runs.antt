@@ -1,6 +1,6 @@
 -- The longest front of a list of bytes that passes a test.
-use Rattle.std.proofs.Common.{zero, suc, one-add, ◌≡◌, ℕ, ◌+◌, ◌<◌, Bool, true, false, cond, ◌&&◌, List, [], ◌∷◌, ◌++◌, length, take, drop, get_or, refl, ap, sym, ◌∙◌, subst, true≢false, arith}
-use Rattle.cil_specs.proofs.Common.{list_all, prefix_len, comment, word, string, opening, closing, EndsBefore, is_word_byte, is_comment_byte}
+use Rattle.cil_specs.proofs.Common.{zero, suc, one-add, ◌≡◌, ℕ, ◌+◌, ◌<◌, Bool, true, false, cond, ◌&&◌, List, [], ◌∷◌, ◌++◌, length, take, drop, get_or, refl, ap, sym, ◌∙◌, subst, arith, list_all, prefix_len, comment, word, string, opening, closing, EndsBefore, is_word_byte, is_comment_byte}
+use Rattle.std.proofs.Common.{true≢false}
 
 -- the bytes are none, or their first doesn't pass
 abbrev pub StopsBefore : (ℕ → Bool) → List ℕ → Type 0

@@ -1,6 +1,6 @@
 -- Lists in an order: the place of an item, whether it is there, and what is left without it.
-use Rattle.std.proofs.Common.{◌≡◌, ◌⊎◌, inl, inr, nat_lt, ℕ, zero, suc, ◌+◌, ◌<◌, ◌≤◌, Bool, true, false, not, ◌||◌, cond, one-add, List, [], ◌∷◌, filter, length, get_or, refl, sym, ap, ◌∙◌, subst, true≢false, arith}
-use Rattle.cil_specs.proofs.Common.{IsTotalOrder, remove, prefix_len, list_any, slice_get, AllByRecursion, IsStrictlySortedBy, IsPartitionedBy, IsPartitionPoint, MatchOption, is_lt, ordering_reverse, Ordering, Less, Equal, Greater, ltb-true, ltb-false}
+use Rattle.cil_specs.proofs.Common.{◌≡◌, ◌⊎◌, inl, inr, nat_lt, ℕ, zero, suc, ◌+◌, ◌<◌, ◌≤◌, Bool, true, false, not, ◌||◌, cond, one-add, List, [], ◌∷◌, length, get_or, refl, sym, ap, ◌∙◌, subst, arith, IsTotalOrder, remove, prefix_len, list_any, slice_get, AllByRecursion, IsStrictlySortedBy, IsPartitionedBy, IsPartitionPoint, MatchOption, is_lt, ordering_reverse, Ordering, Less, Equal, Greater, ltb-true, ltb-false}
+use Rattle.std.proofs.Common.{filter, true≢false}
 use Rattle.cil_specs.proofs.NamesLemmas.{all-weaker}
 
 -- the item at a place is one that the order takes for the same as x

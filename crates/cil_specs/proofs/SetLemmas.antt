@@ -1,7 +1,7 @@
 -- What an expression holds follows from the attributes that it mentions. Where no attribute depends on itself, more fuel than one
 -- for each attribute changes nothing.
-use Rattle.std.proofs.Common.{zero, suc, ◌≡◌, ℕ, ◌<◌, ◌≤◌, ◌⊎◌, inl, inr, Bool, true, false, not, ◌&&◌, ◌||◌, List, [], ◌∷◌, ◌++◌, length, filter, Contains, bytes_eq, refl, sym, ap, ◌∙◌, subst, true≢false, arith}
-use Rattle.cil_specs.proofs.Common.{or-true, bytes_eq-Decides, list_any, Expr, every, named, opposite, both, either, one_of, nothing, elements, leaves, has_name, Element, a_type, an_attribute, SetStatement, differ, expr_holds, attribute_holds, holds_with, is_the_attribute, mentions, IsNextOf, DependsOn, HasNoCircle}
+use Rattle.cil_specs.proofs.Common.{zero, suc, ◌≡◌, ℕ, ◌<◌, ◌≤◌, ◌⊎◌, inl, inr, Bool, true, false, not, ◌&&◌, ◌||◌, List, [], ◌∷◌, ◌++◌, length, bytes_eq, refl, sym, ap, ◌∙◌, subst, arith, or-true, bytes_eq-Decides, list_any, Expr, every, named, opposite, both, either, one_of, nothing, elements, leaves, has_name, Element, a_type, an_attribute, SetStatement, differ, expr_holds, attribute_holds, holds_with, is_the_attribute, mentions, IsNextOf, DependsOn, HasNoCircle}
+use Rattle.std.proofs.Common.{filter, Contains, true≢false}
 use Rattle.std.proofs.lemmas.List.Folds.{list_any-append}
 use Rattle.cil_specs.proofs.NamesLemmas.{contains-first, contains-other}
 use Rattle.cil_specs.proofs.RestrictedLemmas.{filter-yes, filter-no, any-passed}

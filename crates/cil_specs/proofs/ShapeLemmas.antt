@@ -1,6 +1,6 @@
 -- Statements and shape faults: trees have not both, and where the faults stand.
-use Rattle.std.proofs.Common.{◌≡◌, ℕ, ◌+◌, ◌-◌, ◌<◌, ◌⊎◌, inl, inr, Bool, true, false, ◌||◌, List, [], ◌∷◌, ◌++◌, length, map, get_or, zero, suc, Some, sym, ◌∙◌, ap, subst, refl, bytes_eq, IsTrue, Contains, not, ◌&&◌, arith}
-use Rattle.cil_specs.proofs.Common.{list_any, AllByRecursion, true≢false, or_cases, bytes_eq-Decides, Place, TextFaultKind, TextFault, Word, Role, name_fault, Trees, none, a_word, a_list, are_lists, in_order, allow, auditallow, dontaudit, neverallow, Form, block, optional, type_name, type_alias, alias_actual, type_attribute, attribute_set, common, class, class_common, class_order, rule, words_of, is_optional, stands_apart, Statements, no_more, statement, are_apart, statement_offsets, Fits, keywords, outside_optionals, is_among, IsGoodWord, IsAllowed, Shapes, IsWordFault, no_keyword, no_fit, in_optional, no_name, IsListFault, IsShapeFault, IsInnerFault, IsBodyFault}
+use Rattle.cil_specs.proofs.Common.{◌≡◌, ℕ, ◌+◌, ◌-◌, ◌<◌, ◌⊎◌, inl, inr, Bool, true, false, ◌||◌, List, [], ◌∷◌, ◌++◌, length, map, get_or, zero, suc, Some, sym, ◌∙◌, ap, subst, refl, bytes_eq, IsTrue, not, ◌&&◌, arith, list_any, AllByRecursion, true≢false, or_cases, bytes_eq-Decides, Place, TextFaultKind, TextFault, Word, Role, name_fault, Trees, none, a_word, a_list, are_lists, in_order, allow, auditallow, dontaudit, neverallow, Form, block, optional, type_name, type_alias, alias_actual, type_attribute, attribute_set, common, class, class_common, class_order, rule, words_of, is_optional, stands_apart, Statements, no_more, statement, are_apart, statement_offsets, Fits, keywords, outside_optionals, is_among, IsGoodWord, IsAllowed, Shapes, IsWordFault, no_keyword, no_fit, in_optional, no_name, IsListFault, IsShapeFault, IsInnerFault, IsBodyFault}
+use Rattle.std.proofs.Common.{Contains}
 use Rattle.cil_specs.proofs.FormLemmas.{first_word, OperandsFit, fits_begin, fits_parts}
 use Rattle.cil_specs.proofs.FormSame.{fits_same}
 use Rattle.cil_specs.proofs.Runs.{both_true}

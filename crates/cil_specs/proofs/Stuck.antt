@@ -1,6 +1,6 @@
 -- Where a fault of reading stands no part goes on, and a text has one fault at most.
-use Rattle.std.proofs.Common.{◌≡◌, ◌≢◌, ℕ, ◌+◌, ◌<◌, ◌≤◌, ◌||◌, cond, ◌==◌, Bool, true, false, List, [], ◌∷◌, ◌++◌, length, drop, get_or, refl, ap, sym, ◌∙◌, subst, append_assoc, append-nil, true≢false, length-drop, ◌⊎◌, inl, inr, take, arith}
-use Rattle.cil_specs.proofs.Common.{take_while, prefix_len, is_white, is_word_byte, is_mark, hex, place_at, Part, white, comment, word, string, opening, closing, spelling, IsPart, Splits, Moves, Nests, IsClean, TextFaultKind, bad_byte, unbalanced, unclosed, unclosed_string, too_deep, bare_word, unsupported, misshapen, bad_name, reserved, not_in_optional, TextFault, Trees, Reads}
+use Rattle.cil_specs.proofs.Common.{◌≡◌, ◌≢◌, ℕ, ◌+◌, ◌<◌, ◌≤◌, ◌||◌, cond, ◌==◌, Bool, true, false, List, [], ◌∷◌, ◌++◌, length, drop, get_or, refl, ap, sym, ◌∙◌, subst, append_assoc, append-nil, length-drop, ◌⊎◌, inl, inr, take, arith, take_while, prefix_len, is_white, is_word_byte, is_mark, hex, place_at, Part, white, comment, word, string, opening, closing, spelling, IsPart, Splits, Moves, Nests, IsClean, TextFaultKind, bad_byte, unbalanced, unclosed, unclosed_string, too_deep, bare_word, unsupported, misshapen, bad_name, reserved, not_in_optional, TextFault, Trees, Reads}
+use Rattle.std.proofs.Common.{true≢false}
 use Rattle.cil_specs.specs.Reading.{IsUnclosedString, IsClosedString, Stops, IsStop, IsReadingFault, IsStuck}
 use Rattle.cil_specs.proofs.PartLemmas.{size, size-some, splits-size, clean-size}
 use Rattle.cil_specs.proofs.Fronts.{class_of, class-word, class_of_part, first-class, begins}

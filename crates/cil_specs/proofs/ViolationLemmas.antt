@@ -1,6 +1,5 @@
 -- A policy has one list of violations.
-use Rattle.std.proofs.Common.{◌≡◌, ◌⊎◌, inl, inr, List, [], ◌∷◌, refl, sym, ap, ◌∙◌, subst}
-use Rattle.cil_specs.proofs.Common.{AllByRecursion, IsStrictlySortedBy, is_lt, IsTotalOrder, Ordering, Less, true≢false, nat_cmp_total, on_total, then_total, tied_itself, Meaning}
+use Rattle.cil_specs.proofs.Common.{◌≡◌, ◌⊎◌, inl, inr, List, [], ◌∷◌, refl, sym, ap, ◌∙◌, subst, AllByRecursion, IsStrictlySortedBy, is_lt, IsTotalOrder, Ordering, Less, true≢false, nat_cmp_total, on_total, then_total, tied_itself, Meaning}
 use Rattle.cil_specs.specs.Violations.{Violation, AreViolations, rule_cmp, violation_cmp}
 use Rattle.cil_specs.proofs.ReportLemmas.{name_total}
 use Rattle.cil_specs.proofs.ReportLemmasMembers.{AnyByRecursion, contains_to, contains_from}

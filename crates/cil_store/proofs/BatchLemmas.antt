@@ -1,7 +1,6 @@
 -- Edits that are taken in turn.
-use Rattle.std.proofs.Common.{◌≡◌, inl, inr, ℕ, ◌+◌, suc, ◌<◌, List, [], ◌∷◌, ◌++◌, true, false, map, take, drop, length, get_or, refl, ap, sym, ◌∙◌, subst}
+use Rattle.cil_store.proofs.Common.{◌≡◌, inl, inr, ℕ, ◌+◌, suc, ◌<◌, List, [], ◌∷◌, ◌++◌, true, false, map, take, drop, length, get_or, refl, ap, sym, ◌∙◌, subst, take-append-drop, take_more, map-append, Store, Refusal, refuses, IsTaken, AreTaken, one_not_taken, bad_policy_of_all, is_too_long, too_long, at_once, edit_of, store_refusal_of, IsRefusalOf, IsRefusedBatch, IsRefusedEdit, IsRefusedPolicy, AreRefused, AreStopped}
 use Rattle.std.proofs.Math.Seq.{drop-cons}
-use Rattle.cil_store.proofs.Common.{take-append-drop, take_more, map-append, Store, Refusal, refuses, IsTaken, AreTaken, one_not_taken, bad_policy_of_all, is_too_long, too_long, at_once, edit_of, store_refusal_of, IsRefusalOf, IsRefusedBatch, IsRefusedEdit, IsRefusedPolicy, AreRefused, AreStopped}
 use Rattle.cil_store_specs.specs.Next as spec
 use Rattle.cil_store_specs.proofs.TakenLemmas.{taken-more}
 use Rattle.cil_store.specs.declared.edit.Edit.{Edit}

@@ -23,6 +23,7 @@ pub use Rattle.cil_store_specs.specs.Next.{AreModules, AreTaken, HasGoodText, Is
 pub use Rattle.cil_store_specs.specs.Run.{AreRowsOf, AreViolationsOf, Call, Reply, Run, Step, a_batch, accepted, changed_by, dropped_optionals, lists, out_of_memory, printed, prints, refused, rejected, tells_dropped, tells_violations, violated}
 pub use Rattle.cil_store_specs.specs.Store.{Entry, IsStore, Store, active, active_text, empty, entry_at, entry_cmp, is_active, is_entry, put, put_by, put_name, text_bytes, without}
 pub use Rattle.cil_stream.proofs.Gaining.{gains-none}
+pub use Rattle.std.proofs.Common.{Bool, Contains, Err, IfErr, IfOk, IsTrue, List, None, Ok, OnErr, OnOk, Option, Result, Some, [], ap, arith, bytes_eq, codes, cond, drop, false, filter, find, get_or, if◌then◌else◌, inl, inr, is_ok, length, length-append, map, not, of_calls, one-add, refl, rules, slice_index_or, slice_set, subst, suc, sum_by, sym, take, true, true≢false, vec_len, zero, ℕ, ◌&&◌, ◌*◌, ◌++◌, ◌+◌, ◌-◌, ◌<◌, ◌==◌, ◌^◌, ◌||◌, ◌∙◌, ◌∷◌, ◌≡◌, ◌≤◌}
 pub use Rattle.std.proofs.lemmas.Cmp.{nat_list_cmp_total, ranked, tied_itself}
 pub use Rattle.std.proofs.lemmas.Fn.{always_returns_same}
 pub use Rattle.std.proofs.lemmas.List.{get_or_default, map-append, take-append-drop, take_all, take_more}

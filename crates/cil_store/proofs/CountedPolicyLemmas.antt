@@ -1,6 +1,5 @@
 -- What the engine keeps that changes its counters in place.
-use Rattle.std.proofs.Common.{◌≡◌, Bool, List, [], ◌∷◌, length, Option, None, Result, Ok, Err, IfOk, OnOk, OnErr, Contains, refl, sym, subst, arith}
-use Rattle.cil_store.proofs.Common.{rc_value, Meaning, is_in_table, meaning_of, is_listed, AreAtoms, Changes, Row, AreRows, Atom, SetStatement, CountsSome, AreSettled, AreTakenBack, IsNow, WasBefore, listed, rows-listed, IsMeaningOf, AreRowsOf, AreViolationsOf, Store, empty, meaning-same, counted_meaning, meaning_kept, IsCountedTo, IsKept}
+use Rattle.cil_store.proofs.Common.{◌≡◌, Bool, List, [], ◌∷◌, length, Option, None, Result, Ok, Err, IfOk, OnOk, OnErr, Contains, refl, sym, subst, arith, rc_value, Meaning, is_in_table, meaning_of, is_listed, AreAtoms, Changes, Row, AreRows, Atom, SetStatement, CountsSome, AreSettled, AreTakenBack, IsNow, WasBefore, listed, rows-listed, IsMeaningOf, AreRowsOf, AreViolationsOf, Store, empty, meaning-same, counted_meaning, meaning_kept, IsCountedTo, IsKept}
 use Rattle.std.proofs.lemmas.Bool.{and_parts}
 use Rattle.cil_specs.specs.Dependence.{AreTheSame}
 use Rattle.cil_specs.specs.Violations.{Violation, AreViolations}

@@ -1,6 +1,5 @@
 -- Optionals that are copied one after the other.
-use Rattle.std.proofs.Common.{◌≡◌, ℕ, zero, suc, ◌+◌, ◌≤◌, List, [], ◌∷◌, ◌++◌, length, take, Some, None, sym, ◌∙◌, arith}
-use Rattle.cil_store.proofs.Common.{slice_get, take_all, take_more, slice_get_within, get_or_from_slice_get, Declared}
+use Rattle.cil_store.proofs.Common.{◌≡◌, ℕ, zero, suc, ◌+◌, ◌≤◌, List, [], ◌∷◌, ◌++◌, length, take, Some, None, sym, ◌∙◌, arith, slice_get, take_all, take_more, slice_get_within, get_or_from_slice_get, Declared}
 
 -- the next one behind those before it
 pub taken-next : (xs some more : List Declared) (i : ℕ) (x copy : Declared) → some ≡ take i xs → Some x ≡ slice_get xs i → copy ≡ x → more ≡ some ++ copy ∷ [] → more ≡ take (i + 1) xs

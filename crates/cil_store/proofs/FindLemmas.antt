@@ -1,6 +1,5 @@
 -- The first entry of a name, by its place.
-use Rattle.std.proofs.Common.{◌≡◌, inl, inr, ℕ, suc, ◌+◌, ◌≤◌, Bool, true, false, ◌||◌, cond, one-add, Option, Some, None, List, [], ◌∷◌, find, length, get_or, bytes_eq, refl, sym, ap, ◌∙◌, subst, true≢false}
-use Rattle.cil_store.proofs.Common.{prefix_len, list_any, slice_get, AllByRecursion, IsStrictlySortedBy, IsPartitionedBy, IsPartitionPoint, is_some, option_map, is_lt, nat_cmp, ordering_then, Ordering, Less, Equal, Greater, nat_list_cmp_total, name_cmp, ascends-at, less-is, less-or-same, prefix-of-point, Entry, entry_cmp}
+use Rattle.cil_store.proofs.Common.{◌≡◌, inl, inr, ℕ, suc, ◌+◌, ◌≤◌, Bool, true, false, ◌||◌, cond, one-add, Option, Some, None, List, [], ◌∷◌, find, length, get_or, bytes_eq, refl, sym, ap, ◌∙◌, subst, true≢false, prefix_len, list_any, slice_get, AllByRecursion, IsStrictlySortedBy, IsPartitionedBy, IsPartitionPoint, is_some, option_map, is_lt, nat_cmp, ordering_then, Ordering, Less, Equal, Greater, nat_list_cmp_total, name_cmp, ascends-at, less-is, less-or-same, prefix-of-point, Entry, entry_cmp}
 use Rattle.std.proofs.lemmas.Map.Lookups.{exact_bytes}
 use Rattle.std.proofs.lemmas.Slice.Eq.{bytes_eq-Decides}
 use Rattle.cil_store.proofs.EntryLemmas.{name-tied, tied-name}

@@ -1,6 +1,5 @@
 -- The parsed modules of entries, one list of them after another.
-use Rattle.std.proofs.Common.{◌≡◌, inl, inr, ◌+◌, ◌<◌, List, ℕ, [], ◌∷◌, ◌++◌, length, get_or, map, take, filter, cond, Bool, true, false, IsTrue, bytes_eq, true≢false, refl, ap, sym, ◌∙◌, subst}
-use Rattle.cil_store.proofs.Common.{AllByRecursion, IsDistinct, IsStrictlySortedBy, IsPermutation, is_lt, ordering_reverse, Less, tied_itself, take_more, name_cmp, names_rise, Entry, Store, is_active, NamedModule, AreParsedOf}
+use Rattle.cil_store.proofs.Common.{◌≡◌, inl, inr, ◌+◌, ◌<◌, List, ℕ, [], ◌∷◌, ◌++◌, length, get_or, map, take, filter, cond, Bool, true, false, IsTrue, bytes_eq, true≢false, refl, ap, sym, ◌∙◌, subst, AllByRecursion, IsDistinct, IsStrictlySortedBy, IsPermutation, is_lt, ordering_reverse, Less, tied_itself, take_more, name_cmp, names_rise, Entry, Store, is_active, NamedModule, AreParsedOf}
 use Rattle.std.specs.Cmp.Lexicographic.{bytes_decides}
 use Rattle.std.proofs.lemmas.List.Sorted.{Contains-permutation, IsPermutation-sym}
 use Rattle.std.proofs.lemmas.List.Elements.{filter-append}

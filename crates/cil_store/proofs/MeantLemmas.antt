@@ -1,6 +1,5 @@
 -- Runs lead from stores that mean something to stores that do.
-use Rattle.std.proofs.Common.{List, [], ◌∷◌, sym, subst}
-use Rattle.cil_store.proofs.Common.{Meaning, Store, IsMeaningOf, Call, Reply, Run, Step, accepted, rejected, lists, prints, tells_violations, tells_dropped, out_of_memory}
+use Rattle.cil_store.proofs.Common.{List, [], ◌∷◌, sym, subst, Meaning, Store, IsMeaningOf, Call, Reply, Run, Step, accepted, rejected, lists, prints, tells_violations, tells_dropped, out_of_memory}
 
 step-meant : (old new : Store) (call : Call) (reply : Reply) (meaning : Meaning) → IsMeaningOf old meaning → Step old call reply new → (other : Meaning) × IsMeaningOf new other
 step-meant old new call reply meaning is (accepted edits changes asked told made) = (made.after, made.means)

@@ -1,6 +1,5 @@
 -- What no statements mean, and what is asked of them.
-use Rattle.std.proofs.Common.{◌≡◌, List, [], ◌∷◌, length, map, false, Contains, refl, ap, sym, ◌∙◌, subst, true≢false, length-append, ℕ, arith}
-use Rattle.cil_store.proofs.Common.{IsStrictlySortedBy, joined, Rule, Meaning, Means, meaning_of, is_in_table, AreAtoms, name_cmp, empty, IsMeaningOf, meaning-same, NamedModule}
+use Rattle.cil_store.proofs.Common.{◌≡◌, List, [], ◌∷◌, length, map, false, Contains, refl, ap, sym, ◌∙◌, subst, true≢false, length-append, ℕ, arith, IsStrictlySortedBy, joined, Rule, Meaning, Means, meaning_of, is_in_table, AreAtoms, name_cmp, empty, IsMeaningOf, meaning-same, NamedModule}
 use Rattle.cil_specs.specs.PolicyFault.{PolicyFaultKind, twice}
 use Rattle.cil_specs.specs.Members.{is_member}
 use Rattle.cil_specs.specs.Violations.{AreViolations}

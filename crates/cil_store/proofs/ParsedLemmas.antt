@@ -1,6 +1,5 @@
 -- The parsed modules of entries stand for the modules of their texts.
-use Rattle.std.proofs.Common.{List, ℕ, [], ◌∷◌, refl}
-use Rattle.cil_store.proofs.Common.{Module, AreModules, Entry, NamedModule, AreParsedOf}
+use Rattle.cil_store.proofs.Common.{List, ℕ, [], ◌∷◌, refl, Module, AreModules, Entry, NamedModule, AreParsedOf}
 use Rattle.cil_specs.specs.ModuleText.{IsModuleText}
 use Rattle.cil_bind.specs.Written.{IsWritten}
 use Rattle.cil_resolve.specs.Modules.{AreParsedFrom}

@@ -1,6 +1,6 @@
 -- The bytes of all texts of entries, as entries come and go.
-use Rattle.std.proofs.Common.{◌≡◌, ℕ, ◌+◌, ◌*◌, ◌-◌, ◌<◌, ◌≤◌, ◌^◌, Bool, true, false, not, cond, List, [], ◌∷◌, filter, remove, length, get_or, refl, sym, ap, ◌∙◌, subst, arith}
-use Rattle.cil_store.proofs.Common.{AllByRecursion, prefix_len, is_lt, Ordering, Less, Equal, Greater, IsStrictlySortedBy-filter, IsTiedAt, reversed, Entry, entry_at, entry_cmp, is_entry, put, text_bytes, without, put-ordered, entry_total, AreSized}
+use Rattle.cil_store.proofs.Common.{◌≡◌, ℕ, ◌+◌, ◌*◌, ◌-◌, ◌<◌, ◌≤◌, ◌^◌, Bool, true, false, not, cond, List, [], ◌∷◌, filter, length, get_or, refl, sym, ap, ◌∙◌, subst, arith, AllByRecursion, prefix_len, is_lt, Ordering, Less, Equal, Greater, IsStrictlySortedBy-filter, IsTiedAt, reversed, Entry, entry_at, entry_cmp, is_entry, put, text_bytes, without, put-ordered, entry_total, AreSized}
+use Rattle.std.proofs.Common.{remove}
 use Rattle.std.proofs.lemmas.List.Edits.{length-remove}
 use Rattle.std.proofs.lemmas.List.Sums.{sum_by-append, sum_by-cons, sum_by-remove}
 use Rattle.cil_specs.proofs.NamesLemmas.{all-append}

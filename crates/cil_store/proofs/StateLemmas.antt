@@ -1,6 +1,5 @@
 -- The state of an entry by its place.
-use Rattle.std.proofs.Common.{◌≡◌, ◌∙◌, ◌<◌, ap, sym, subst, List, [], ℕ, Bool, codes, length, get_or, bytes_eq, not, ◌&&◌, if◌then◌else◌}
-use Rattle.cil_store.proofs.Common.{list_any, IsStrictlySortedBy, get_or_default, Entry, Store, entry_cmp, is_active, entry_at, is_first_at, highest-at}
+use Rattle.cil_store.proofs.Common.{◌≡◌, ◌∙◌, ◌<◌, ap, sym, subst, List, [], ℕ, Bool, codes, length, get_or, bytes_eq, not, ◌&&◌, if◌then◌else◌, list_any, IsStrictlySortedBy, get_or_default, Entry, Store, entry_cmp, is_active, entry_at, is_first_at, highest-at}
 use Rattle.cil_store_specs.specs.StoreReport.{is_disabled, state_word}
 
 module _ (store : Store) (i : ℕ) (read : List Entry) (e : Entry) (name : List ℕ) (disabled first : Bool) (sorted : IsStrictlySortedBy entry_cmp store.entries)

@@ -1,6 +1,5 @@
 -- The steps of edits that are refused, and what a store means.
-use Rattle.std.proofs.Common.{◌≡◌, inl, inr, List, false, Some, None, Result, Ok, Err, IfErr, refl, ap, sym, ◌∙◌, subst}
-use Rattle.cil_store.proofs.Common.{Module, joined, Means, Meaning, is_in_table, Changes, AreChanges, Store, active, AreModules, AreTaken, IsMeaningOf, Refusal, HasGoodText, IsTaken, changed, store_refusal, by_itself, by_its_text, is_too_long, all_good, at_once, a_batch, changed_by, refused, accepted, rejected, out_of_memory, Step, IsRefusalOf, IsRefusalOfPolicy, IsRefusedBatch, IsRefusedEdit, IsRefusedText, IsRefusedPolicy, refusal_of}
+use Rattle.cil_store.proofs.Common.{◌≡◌, inl, inr, List, false, Some, None, Result, Ok, Err, IfErr, refl, ap, sym, ◌∙◌, subst, Module, joined, Means, Meaning, is_in_table, Changes, AreChanges, Store, active, AreModules, AreTaken, IsMeaningOf, Refusal, HasGoodText, IsTaken, changed, store_refusal, by_itself, by_its_text, is_too_long, all_good, at_once, a_batch, changed_by, refused, accepted, rejected, out_of_memory, Step, IsRefusalOf, IsRefusalOfPolicy, IsRefusedBatch, IsRefusedEdit, IsRefusedText, IsRefusedPolicy, refusal_of}
 use Rattle.cil_specs.specs.Kept.{Optionals, IsFirstFault}
 use Rattle.cil_store_specs.specs.Next.{Edit}
 use Rattle.cil_check.specs.Image.{PolicyFaultIs}

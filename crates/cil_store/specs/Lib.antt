@@ -1,3 +1,4 @@
+pub mod Common
 pub mod Edits
 pub mod Calls
 pub mod Stored

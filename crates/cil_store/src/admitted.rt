@@ -1,10 +1,6 @@
 //! Edits that a store takes, as far as the store and their text go.
 
-ghost use Rattle.std.specs.Prelude.{◌≡◌, ◌≤◌, None, length, IfErr, IfOk, OnOk};
-ghost use Rattle.cil_store_specs.specs.Next.{install, store_refusal};
-ghost use Rattle.cil_store.specs.Admitted.{admitted_edit, IsAdmitted};
-ghost use Rattle.cil_store.specs.Edits.{edit_of, refusal_of};
-ghost use Rattle.cil_store.specs.Refusing.{IsRefusedEdit, IsRefusedText};
+ghost use Rattle.cil_store.specs.Common.{◌≡◌, ◌≤◌, None, length, IfErr, IfOk, OnOk, install, store_refusal, admitted_edit, IsAdmitted, edit_of, refusal_of, IsRefusedEdit, IsRefusedText};
 
 use crate::edit::Edit;
 use crate::entry::Entry;

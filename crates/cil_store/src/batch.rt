@@ -1,11 +1,7 @@
 //! Batches: edits that are made as one.
 
-ghost use Rattle.std.specs.Prelude.{◌≡◌, false, map, IfErr, IfOk, OnOk};
-ghost use Rattle.cil_resolve.specs.Resolved.{meaning_in};
+ghost use Rattle.cil_store.specs.Common.{◌≡◌, false, map, IfErr, IfOk, OnOk, meaning_in, edit_of, refusal_of, AreRefused, AreStopped, IsRefusedBatch, IsRefusedEdit, entry_of};
 ghost use Rattle.cil_store_specs.specs.Next.{AreTaken, IsMeaningOf, IsTaken, install_of, is_too_long as is_too_long_for};
-ghost use Rattle.cil_store.specs.Edits.{edit_of, refusal_of};
-ghost use Rattle.cil_store.specs.Refusing.{AreRefused, AreStopped, IsRefusedBatch, IsRefusedEdit};
-ghost use Rattle.cil_store.specs.Stored.{entry_of};
 
 use crate::admitted::admit;
 use crate::edit::Edit;

@@ -1,20 +1,6 @@
 //! The engine that changes its counters in place.
 
-ghost use Rattle.std.specs.Prelude.{◌≡◌, false, map, IfErr, IfOk, OnErr, OnOk};
-ghost use Rattle.std.specs.Rc.{rc_value};
-ghost use Rattle.cil_specs.specs.Meaning.{Meaning, is_in_table};
-ghost use Rattle.cil_specs.specs.Report.{AreAtoms};
-ghost use Rattle.cil_counters.specs.ChangeCounts.{CountsSome};
-ghost use Rattle.cil_resolve.specs.Resolved.{meaning_in};
-ghost use Rattle.cil_rules.specs.Rows.{listed};
-ghost use Rattle.cil_store_specs.specs.Next.{AreTaken, IsMeaningOf, Of, accepts, install_of, is_too_long};
-ghost use Rattle.cil_store_specs.specs.Run.{a_batch, an_edit, Step};
-ghost use Rattle.cil_store_specs.specs.Store.{empty};
-ghost use Rattle.cil_store.specs.Calls.{batch_reply, IsCountedStep, IsRefusedStep};
-ghost use Rattle.cil_store.specs.Counted.{counted_meaning, meaning_kept, AreCountedBetween, IsKept, IsKeptWhere, IsUncounted};
-ghost use Rattle.cil_store.specs.Edits.{edit_of, refusal_of};
-ghost use Rattle.cil_store.specs.Refusing.{AreRefused, IsRefusedBatch};
-ghost use Rattle.cil_store.specs.Stored.{entry_of};
+ghost use Rattle.cil_store.specs.Common.{◌≡◌, false, map, IfErr, IfOk, OnErr, OnOk, rc_value, Meaning, is_in_table, AreAtoms, CountsSome, meaning_in, listed, AreTaken, IsMeaningOf, Of, accepts, install_of, is_too_long, a_batch, an_edit, Step, empty, batch_reply, IsCountedStep, IsRefusedStep, counted_meaning, meaning_kept, AreCountedBetween, IsKept, IsKeptWhere, IsUncounted, edit_of, refusal_of, AreRefused, IsRefusedBatch, entry_of};
 
 use crate::batch::judge_batch;
 use crate::compiled::{Compiled, WriteFault};

@@ -1,10 +1,6 @@
 //! The names that are disabled.
 
-ghost use Rattle.std.specs.Prelude.{◌≡◌, [], ◌≤◌, ◌<◌, ◌↔◌, IsTrue, bytes_eq, length, slice_get, option_map, IfOk, OnOk, OnErr};
-ghost use Rattle.std.specs.List.{list_any, prefix_len};
-ghost use Rattle.std.specs.Ordering.{is_lt};
-ghost use Rattle.cil_specs.specs.Report.{name_cmp};
-ghost use Rattle.cil_store_specs.specs.Store.{put_name, without_name};
+ghost use Rattle.cil_store.specs.Common.{◌≡◌, [], ◌≤◌, ◌<◌, ◌↔◌, IsTrue, bytes_eq, length, slice_get, option_map, IfOk, OnOk, OnErr, list_any, prefix_len, is_lt, name_cmp, put_name, without_name};
 ghost use Rattle.cil_specs.proofs.SearchLemmas.{IsTiedAt};
 
 use cil_resolve::Text;

@@ -1,8 +1,7 @@
 //! Edits of the store.
 
-ghost use Rattle.std.specs.Prelude.{◌≡◌, ◌≤◌};
+ghost use Rattle.cil_store.specs.Common.{◌≡◌, ◌≤◌, edit_of, name_of, priority_of};
 ghost use Rattle.cil_store_specs.specs.Next.{held_bytes as held_in};
-ghost use Rattle.cil_store.specs.Edits.{edit_of, name_of, priority_of};
 
 /// The most bytes that a batch counts of a text: one more than a store takes of one.
 const GREATEST_HELD: usize = 16_777_217;

@@ -1,13 +1,7 @@
 //! The entries of a store, in order.
 
-ghost use Rattle.std.specs.Prelude.{◌≡◌, ◌+◌, ◌≤◌, ◌<◌, ◌↔◌, ◌^◌, [], ℕ, List, IsTrue, bytes_eq, find, length, option_map, IfOk, OnOk, OnErr};
-ghost use Rattle.std.specs.List.{prefix_len};
-ghost use Rattle.std.specs.Ordering.{is_lt};
-ghost use Rattle.cil_specs.specs.Report.{name_cmp};
-ghost use Rattle.cil_store_specs.specs.Store.{entry_cmp, has_entry, has_room, is_installed, put, text_bytes, without};
+ghost use Rattle.cil_store.specs.Common.{◌≡◌, ◌+◌, ◌≤◌, ◌<◌, ◌↔◌, ◌^◌, [], ℕ, List, IsTrue, bytes_eq, find, length, option_map, IfOk, OnOk, OnErr, prefix_len, is_lt, name_cmp, entry_cmp, has_entry, has_room, is_installed, put, text_bytes, without, entry_at, entry_of};
 ghost use Rattle.cil_specs.proofs.SearchLemmas.{IsTiedAt};
-ghost use Rattle.cil_store_specs.specs.Store.{entry_at};
-ghost use Rattle.cil_store.specs.Stored.{entry_of};
 
 use crate::entry::{Entry, StoredEntry};
 use std::alloc::{AllocError, Allocator, Global};

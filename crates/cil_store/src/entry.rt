@@ -1,10 +1,6 @@
 //! The entries of a store.
 
-ghost use Rattle.std.specs.Prelude.{◌≡◌, IfOk, bytes_eq, length};
-ghost use Rattle.std.specs.Ordering.{is_lt};
-ghost use Rattle.cil_parse.specs.Parsed.{IsParsed};
-ghost use Rattle.cil_store_specs.specs.Store.{entry_cmp, is_entry};
-ghost use Rattle.cil_store_specs.specs.Store.{entry_at};
+ghost use Rattle.cil_store.specs.Common.{◌≡◌, IfOk, bytes_eq, length, is_lt, IsParsed, entry_cmp, is_entry, entry_at};
 
 use crate::edit::Edit;
 use cil_parse::ParsedModule;

@@ -1,8 +1,6 @@
 //! Joins the parsed modules that a store compiles.
 
-ghost use Rattle.std.specs.Prelude.{IfOk};
-ghost use Rattle.cil_store_specs.specs.Store.{active};
-ghost use Rattle.cil_store.specs.Stored.{AreParsedOf};
+ghost use Rattle.cil_store.specs.Common.{IfOk, active, AreParsedOf};
 
 use crate::modules::Store;
 use cil_resolve::{Joined, NamedModule};

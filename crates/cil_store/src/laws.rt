@@ -1,17 +1,11 @@
 //! Laws of the definitions, which make the contracts of engines exact. They have no code.
 
-ghost use Rattle.std.specs.Prelude.{◌≡◌, ◌⊎◌, ◌∷◌, [], ℕ, List, map, true, false, IsTrue};
-ghost use Rattle.std.specs.List.{list_all};
+ghost use Rattle.cil_store.specs.Common.{◌≡◌, ◌⊎◌, ◌∷◌, [], ℕ, List, map, true, false, IsTrue, list_all, Meaning, meaning_of, Changes, Edit, Refusal, for_memory, Judgement, IsMeaningOf, IsPolicyOf, IsPolicyRefusal, accepts, is_too_long, Next, NextOfAll, Call, a_batch, an_edit, Reply, changed_by, refused, Step, Run, is_answered, Store, IsStore, empty};
 ghost use Rattle.cil_specs.specs.Joined.{Placed};
 ghost use Rattle.cil_specs.specs.Kept.{AreApart};
-ghost use Rattle.cil_specs.specs.Meaning.{Meaning, meaning_of};
-ghost use Rattle.cil_specs.specs.Report.{Changes};
 ghost use Rattle.cil_store_specs.specs.Limits.{IsWithinLimits, HasGoodTexts};
-ghost use Rattle.cil_store_specs.specs.Next.{Edit, Refusal, for_memory, Judgement, IsMeaningOf, IsPolicyOf, IsPolicyRefusal, accepts, is_too_long, Next, NextOfAll};
-ghost use Rattle.cil_store_specs.specs.Run.{Call, a_batch, an_edit, Reply, changed_by, refused, Step, Run, is_answered};
 ghost use Rattle.cil_store_specs.specs.Script.{Command, Commands, End, ends, dump_edits, dump_commands, dump_text};
 ghost use Rattle.cil_store_specs.specs.Session.{IsSession, Status, all_accepted};
-ghost use Rattle.cil_store_specs.specs.Store.{Store, IsStore, empty};
 ghost use Rattle.cil_store.specs.Laws.{EditsKeep, IsTakenBack, RunsKeep};
 
 /// A store in which no module stands is in order, and edits and runs of calls lead from one in order to another.

@@ -1,11 +1,6 @@
 //! The plain engine, which compiles its store anew at each batch.
 
-ghost use Rattle.std.specs.Prelude.{◌≡◌, map, IfErr, IfOk};
-ghost use Rattle.cil_store_specs.specs.Next.{Of, accepts, install_of};
-ghost use Rattle.cil_store_specs.specs.Store.{empty};
-ghost use Rattle.cil_store.specs.Edits.{refusal_of};
-ghost use Rattle.cil_store.specs.Refusing.{AreRefused};
-ghost use Rattle.cil_store.specs.Stored.{entry_of};
+ghost use Rattle.cil_store.specs.Common.{◌≡◌, map, IfErr, IfOk, Of, accepts, install_of, empty, refusal_of, AreRefused, entry_of};
 
 use crate::compiled::{Compiled, WriteFault};
 use crate::delta::Delta;

@@ -1,19 +1,6 @@
 //! Entries that are compiled at once.
 
-ghost use Rattle.std.specs.Prelude.{◌≡◌, ◌≤◌, List, IfErr, IfOk, IsErrOf, OnErr, flat_map, length, map};
-ghost use Rattle.std.specs.Rc.{rc_value};
-ghost use Rattle.cil_stream.specs.Device.{HasFailed, Gains, GainsFront};
-ghost use Rattle.cil_specs.specs.Meaning.{is_in_table};
-ghost use Rattle.cil_specs.specs.Report.{AreAtoms, Row, row_line};
-ghost use Rattle.cil_specs.specs.Violations.{Violation, AreViolations, violations_text};
-ghost use Rattle.cil_resolve.specs.Resolved.{meaning_in};
-ghost use Rattle.cil_rules.specs.Rows.{listed};
-ghost use Rattle.cil_store_specs.specs.Next.{Of, accepts, install_of};
-ghost use Rattle.cil_store_specs.specs.Run.{AreRowsOf, AreViolationsOf};
-ghost use Rattle.cil_store_specs.specs.Store.{empty};
-ghost use Rattle.cil_store.specs.Edits.{refusal_of};
-ghost use Rattle.cil_store.specs.Refusing.{AreRefused};
-ghost use Rattle.cil_store.specs.Stored.{entry_of};
+ghost use Rattle.cil_store.specs.Common.{◌≡◌, ◌≤◌, List, IfErr, IfOk, IsErrOf, OnErr, flat_map, length, map, rc_value, HasFailed, Gains, GainsFront, is_in_table, AreAtoms, Row, row_line, Violation, AreViolations, violations_text, meaning_in, listed, Of, accepts, install_of, AreRowsOf, AreViolationsOf, empty, refusal_of, AreRefused, entry_of};
 
 use crate::compiled::WriteFault;
 use crate::counted_policy::{CountedPolicy, NextPolicy, Prepared};

@@ -1,11 +1,6 @@
 //! The policy that a store compiles to.
 
-ghost use Rattle.std.specs.Prelude.{◌≡◌, [], IfErr, IfOk};
-ghost use Rattle.cil_specs.specs.Meaning.{meaning_of};
-ghost use Rattle.cil_resolve.specs.Resolved.{meaning_in};
-ghost use Rattle.cil_store_specs.specs.Next.{IsMeaningOf};
-ghost use Rattle.cil_store.specs.Edits.{refusal_of};
-ghost use Rattle.cil_store.specs.Refusing.{IsRefusedPolicy};
+ghost use Rattle.cil_store.specs.Common.{◌≡◌, [], IfErr, IfOk, meaning_of, meaning_in, IsMeaningOf, refusal_of, IsRefusedPolicy};
 
 use crate::join::join;
 use crate::modules::Store;

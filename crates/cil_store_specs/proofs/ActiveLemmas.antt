@@ -1,6 +1,5 @@
 -- Which entries of a store are compiled, by their places.
-use Rattle.std.proofs.Common.{◌≡◌, ◌⊎◌, inl, inr, ℕ, zero, suc, ◌-◌, ◌<◌, ◌≤◌, ◌==◌, Bool, true, false, not, ◌&&◌, ◌||◌, nat_le, nat_lt, cond, List, [], ◌∷◌, filter, find, length, map, get_or, bytes_eq, Some, None, Contains, refl, sym, ap, ◌∙◌, subst, true≢false, arith}
-use Rattle.cil_store_specs.proofs.Common.{list_all, list_any, AllByRecursion, IsStrictlySortedBy, nat_cmp, ordering_then, Ordering, Less, Equal, Greater, eqb-true, leb-true, le-leb, ltb-true, ltb-false, nat_list_cmp_total, tied_itself, list_all_at, IsStrictlySortedBy-filter, exact_bytes, bytes_eq-Decides, name_cmp, all-weaker, contains-first, contains-other, passed, contains-filtered, ascends-at, less-or-same, both_true, second_true, entry_at, Entry, Store, entry_cmp, is_highest, active, active_text}
+use Rattle.cil_store_specs.proofs.Common.{◌≡◌, ◌⊎◌, inl, inr, ℕ, zero, suc, ◌-◌, ◌<◌, ◌≤◌, ◌==◌, Bool, true, false, not, ◌&&◌, ◌||◌, nat_le, nat_lt, cond, List, [], ◌∷◌, filter, find, length, map, get_or, bytes_eq, Some, None, Contains, refl, sym, ap, ◌∙◌, subst, true≢false, arith, list_all, list_any, AllByRecursion, IsStrictlySortedBy, nat_cmp, ordering_then, Ordering, Less, Equal, Greater, eqb-true, leb-true, le-leb, ltb-true, ltb-false, nat_list_cmp_total, tied_itself, list_all_at, IsStrictlySortedBy-filter, exact_bytes, bytes_eq-Decides, name_cmp, all-weaker, contains-first, contains-other, passed, contains-filtered, ascends-at, less-or-same, both_true, second_true, entry_at, Entry, Store, entry_cmp, is_highest, active, active_text}
 use Rattle.std.specs.Option.{option_map}
 use Rattle.cil_store_specs.specs.StoreReport.{is_disabled}
 use Rattle.cil_store_specs.proofs.OneFault.{highest-of}

@@ -1,6 +1,5 @@
 -- The accesses of a policy can be listed.
-use Rattle.std.proofs.Common.{◌≡◌, ◌⊎◌, ◌==◌, inl, inr, ℕ, cond, Bool, true, false, List, [], ◌∷◌, filter, map, flat_map, bytes_eq, Contains, refl, sym, ap, ◌∙◌, subst, true≢false, arith}
-use Rattle.cil_store_specs.proofs.Common.{IsTotalOrder, list_any, IsStrictlySortedBy, is_lt, Ordering, Less, Equal, Greater, cases_Bool, eqb-true, CmpEqualImpliesEq, bytes_eq-Decides, Meaning, keeps_type, holds, aims, gives, is_in_table, AreAtoms, atom_cmp, contains-filtered, contains-left, contains-right, contains-append_cases, contains-cases, contains-first, contains-map, first_true, second_true, keep, skip, reversed, put_by}
+use Rattle.cil_store_specs.proofs.Common.{◌≡◌, ◌⊎◌, ◌==◌, inl, inr, ℕ, cond, Bool, true, false, List, [], ◌∷◌, filter, map, flat_map, bytes_eq, Contains, refl, sym, ap, ◌∙◌, subst, true≢false, arith, IsTotalOrder, list_any, IsStrictlySortedBy, is_lt, Ordering, Less, Equal, Greater, cases_Bool, eqb-true, CmpEqualImpliesEq, bytes_eq-Decides, Meaning, keeps_type, holds, aims, gives, is_in_table, AreAtoms, atom_cmp, contains-filtered, contains-left, contains-right, contains-append_cases, contains-cases, contains-first, contains-map, first_true, second_true, keep, skip, reversed, put_by}
 use Rattle.cil_specs.specs.Rule.{Rule, Atom, Element, ResolvedTarget, at_itself, at_element, kind_index}
 use Rattle.cil_specs.proofs.MeansLemmas.{contains-flat}
 use Rattle.cil_specs.proofs.OnceLemmas.{PassesAmong, passes-among}

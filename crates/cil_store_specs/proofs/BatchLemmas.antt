@@ -1,6 +1,5 @@
 -- An edit is a batch of one.
-use Rattle.std.proofs.Common.{◌≡◌, ◌≤◌, [], ◌∷◌, false, Some, length, refl, arith}
-use Rattle.cil_store_specs.proofs.Common.{sum_by, le-ltb, sum_by-cons, Meaning, Store, Edit, install, remove, enable, disable, Refusal, held_bytes, is_too_long, IsMeaningOf, IsNotTaken, Judgement, accepts, refuses, Next, at_once, by_itself, store_refusal, one_not_taken, all_good, an_edit, refused, rejected, Step}
+use Rattle.cil_store_specs.proofs.Common.{◌≡◌, ◌≤◌, [], ◌∷◌, false, Some, length, refl, arith, sum_by, le-ltb, sum_by-cons, Meaning, Store, Edit, install, remove, enable, disable, Refusal, held_bytes, is_too_long, IsMeaningOf, IsNotTaken, Judgement, accepts, refuses, Next, at_once, by_itself, store_refusal, one_not_taken, all_good, an_edit, refused, rejected, Step}
 use Rattle.std.proofs.Math.Nat.{min-le_right}
 
 held-most : (edit : Edit) → held_bytes edit ≤ 16777217

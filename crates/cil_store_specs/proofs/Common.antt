@@ -13,6 +13,7 @@ pub use Rattle.cil_store_specs.specs.Run.{AreDroppedOf, AreRowsOf, AreViolations
 pub use Rattle.cil_store_specs.specs.Script.{Command, Commands, End, HasGoodWords, IsCommand, IsEnd, IsGoodName, IsNoCommand, MayLackItsEnd, aborts, asks_dropped, asks_dump, asks_modules, asks_rules, asks_violations, begins, behind, command_bytes, commits, dump_commands, dump_edits, dump_text, ends, is_shown, line_of, makes, refusal_line, stops, whole, without_end, words_of}
 pub use Rattle.cil_store_specs.specs.Session.{BeginsWith, IsSession, Status, all_accepted, all_of_it, last_end, some_refused, status_of, whole_ones}
 pub use Rattle.cil_store_specs.specs.Store.{Entry, IsStore, Store, active, active_text, empty, entry_at, entry_cmp, has_room, is_entry, is_highest, is_installed, put, put_by, put_name, text_bytes, without, without_name}
+pub use Rattle.std.proofs.Common.{Bool, Contains, List, None, Option, Some, [], ap, append_assoc, arith, bytes_eq, codes, cond, decimal, drop, false, filter, find, flat_map, fold, get_or, if◌then◌else◌, inl, inr, is_some, length, length-append, map, nat_le, nat_lt, not, refl, subst, suc, sym, take, true, true≢false, zero, ℕ, ◌%◌, ◌&&◌, ◌*◌, ◌++◌, ◌+◌, ◌-◌, ◌<◌, ◌==◌, ◌^◌, ◌||◌, ◌∙◌, ◌∷◌, ◌≡◌, ◌≢◌, ◌≤◌, ◌⊎◌}
 pub use Rattle.std.proofs.lemmas.Bool.{and_parts, cases_Bool, eqb-true, le-leb, le-ltb, leb-true, lt-ltb, ltb-false, ltb-true, not-true, or_cases}
 pub use Rattle.std.proofs.lemmas.Cmp.{back_total, nat_cmp_total, nat_list_cmp_total, on_total, then_total, tied_itself}
 pub use Rattle.std.proofs.lemmas.List.{append-nil, length-map, map-append, take-append-le, take_all}

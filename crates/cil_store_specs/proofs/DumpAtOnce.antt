@@ -1,6 +1,5 @@
 -- The edits of a dump, made at once.
-use Rattle.std.proofs.Common.{◌≡◌, ◌⊎◌, inl, inr, ◌∷◌, ◌++◌, [], ℕ, ◌+◌, ◌≤◌, List, Bool, true, false, not, ◌||◌, cond, filter, map, length, nat_le, nat_lt, bytes_eq, Some, None, if◌then◌else◌, refl, ap, sym, ◌∙◌, subst, append_assoc, length-append, true≢false, arith}
-use Rattle.cil_store_specs.proofs.Common.{sum_by, list_any, AllByRecursion, IsStrictlySortedBy, Less, Equal, le-leb, le-ltb, nat_list_cmp_total, tied_itself, append-nil, length-map, sum_by-append, sum_by-cons, bytes_eq-Decides, Changes, name_cmp, Meaning, all-weaker, both_true, Entry, Store, IsStore, empty, entry_cmp, is_entry, is_installed, text_bytes, without, IsEntryWithinLimits, IsWithinLimits, HasGoodTexts, Edit, by_store, disable, install_of, HasGoodText, AreTaken, IsMeaningOf, for_memory, accepts, refuses, NextOfAll, all_good, Next, at_once, held_bytes, is_too_long, is_module_name, a_batch, Reply, changed_by, refused, accepted, rejected, lists, prints, tells_violations, tells_dropped, out_of_memory, Step, dump_edits}
+use Rattle.cil_store_specs.proofs.Common.{◌≡◌, ◌⊎◌, inl, inr, ◌∷◌, ◌++◌, [], ℕ, ◌+◌, ◌≤◌, List, Bool, true, false, not, ◌||◌, cond, filter, map, length, nat_le, nat_lt, bytes_eq, Some, None, if◌then◌else◌, refl, ap, sym, ◌∙◌, subst, append_assoc, length-append, true≢false, arith, sum_by, list_any, AllByRecursion, IsStrictlySortedBy, Less, Equal, le-leb, le-ltb, nat_list_cmp_total, tied_itself, append-nil, length-map, sum_by-append, sum_by-cons, bytes_eq-Decides, Changes, name_cmp, Meaning, all-weaker, both_true, Entry, Store, IsStore, empty, entry_cmp, is_entry, is_installed, text_bytes, without, IsEntryWithinLimits, IsWithinLimits, HasGoodTexts, Edit, by_store, disable, install_of, HasGoodText, AreTaken, IsMeaningOf, for_memory, accepts, refuses, NextOfAll, all_good, Next, at_once, held_bytes, is_too_long, is_module_name, a_batch, Reply, changed_by, refused, accepted, rejected, lists, prints, tells_violations, tells_dropped, out_of_memory, Step, dump_edits}
 use Rattle.std.proofs.Math.Nat.{min-le_left}
 use Rattle.std.proofs.lemmas.List.Filters.{length-filter_both}
 use Rattle.std.proofs.lemmas.Map.Views.{any-filter_same}

@@ -1,6 +1,5 @@
 -- What a dump of a store builds.
-use Rattle.std.proofs.Common.{◌≡◌, ◌∷◌, ◌++◌, [], ℕ, ◌+◌, List, false, map, fold, None, codes, refl, ap, sym, subst, ◌∙◌, true≢false}
-use Rattle.cil_store_specs.proofs.Common.{list_any, AllByRecursion, nat_list_cmp_total, fold-append, Changes, name_cmp, Entry, Store, IsStore, empty, entry_cmp, put, put_name, Edit, disable, install_of, changed, AreTaken, Call, a_batch, an_edit, ask_rows, ask_listing, ask_violations, ask_dropped, Reply, changed_by, accepted, rejected, lists, prints, tells_violations, tells_dropped, out_of_memory, Step, Run, makes, begins, commits, dump_edits, dump_commands, is_refusal, Answer, State, state_of, held_as, lines_of, AnswersAll}
+use Rattle.cil_store_specs.proofs.Common.{◌≡◌, ◌∷◌, ◌++◌, [], ℕ, ◌+◌, List, false, map, fold, None, codes, refl, ap, sym, subst, ◌∙◌, true≢false, list_any, AllByRecursion, nat_list_cmp_total, fold-append, Changes, name_cmp, Entry, Store, IsStore, empty, entry_cmp, put, put_name, Edit, disable, install_of, changed, AreTaken, Call, a_batch, an_edit, ask_rows, ask_listing, ask_violations, ask_dropped, Reply, changed_by, accepted, rejected, lists, prints, tells_violations, tells_dropped, out_of_memory, Step, Run, makes, begins, commits, dump_edits, dump_commands, is_refusal, Answer, State, state_of, held_as, lines_of, AnswersAll}
 use Rattle.cil_store_specs.proofs.RunLemmas.{accepted-taken}
 use Rattle.cil_store_specs.proofs.StoreOrder.{entry_total}
 use Rattle.cil_store_specs.proofs.PutLemmas.{put-all}

@@ -1,6 +1,5 @@
 -- A dump as a script.
-use Rattle.std.proofs.Common.{◌≡◌, inl, inr, ◌∷◌, ◌++◌, [], ℕ, ◌≤◌, List, Bool, true, false, ◌||◌, ◌==◌, nat_le, length, map, codes, decimal, bytes_eq, Option, Some, None, if◌then◌else◌, refl, ap, sym, ◌∙◌, subst, true≢false, length-append, arith}
-use Rattle.cil_store_specs.proofs.Common.{list_all, list_any, AllByRecursion, and_parts, leb-true, or_cases, append-nil, take_all, bytes_eq-Decides, all-weaker, all-append, both_true, Entry, Store, IsStore, empty, is_installed, IsEntryWithinLimits, IsWithinLimits, install, disable, install_of, begins_module_name, is_module_name, Command, makes, commits, is_shown, IsGoodName, IsCommand, End, ends, Commands, whole, dump_edits, dump_commands, dump_text, Batch, state_of, held_as, AnswersAll, IsSession, Status, all_accepted, some_refused, status_of, last_end}
+use Rattle.cil_store_specs.proofs.Common.{◌≡◌, inl, inr, ◌∷◌, ◌++◌, [], ℕ, ◌≤◌, List, Bool, true, false, ◌||◌, ◌==◌, nat_le, length, map, codes, decimal, bytes_eq, Option, Some, None, if◌then◌else◌, refl, ap, sym, ◌∙◌, subst, true≢false, length-append, arith, list_all, list_any, AllByRecursion, and_parts, leb-true, or_cases, append-nil, take_all, bytes_eq-Decides, all-weaker, all-append, both_true, Entry, Store, IsStore, empty, is_installed, IsEntryWithinLimits, IsWithinLimits, install, disable, install_of, begins_module_name, is_module_name, Command, makes, commits, is_shown, IsGoodName, IsCommand, End, ends, Commands, whole, dump_edits, dump_commands, dump_text, Batch, state_of, held_as, AnswersAll, IsSession, Status, all_accepted, some_refused, status_of, last_end}
 use Rattle.std.proofs.lemmas.Bool.Decides.{nat_tests}
 use Rattle.std.proofs.lemmas.Fmt.{length-decimal-le}
 use Rattle.cil_specs.proofs.GrowsLemmas.{all-grows}

@@ -1,6 +1,5 @@
 -- A session over the dump of a store that means something.
-use Rattle.std.proofs.Common.{◌≡◌, ◌⊎◌, inl, inr, Bool, true, List, ℕ, None, if◌then◌else◌, sym, ap, ◌∙◌, true≢false}
-use Rattle.cil_store_specs.proofs.Common.{list_any, AllByRecursion, Meaning, Store, IsStore, empty, IsWithinLimits, HasGoodTexts, for_memory, IsMeaningOf, refusal_line, ends, dump_edits, dump_text, is_refusal, IsSession, Status, all_accepted, some_refused, status_of, last_end}
+use Rattle.cil_store_specs.proofs.Common.{◌≡◌, ◌⊎◌, inl, inr, Bool, true, List, ℕ, None, if◌then◌else◌, sym, ap, ◌∙◌, true≢false, list_any, AllByRecursion, Meaning, Store, IsStore, empty, IsWithinLimits, HasGoodTexts, for_memory, IsMeaningOf, refusal_line, ends, dump_edits, dump_text, is_refusal, IsSession, Status, all_accepted, some_refused, status_of, last_end}
 use Rattle.cil_store_specs.proofs.HeldLemmas.{Outcome, was_made, was_long, lacked_memory}
 use Rattle.cil_store_specs.proofs.DumpLemmas.{dump-answered}
 use Rattle.cil_store_specs.proofs.DumpScript.{edits-kept, session-answers}

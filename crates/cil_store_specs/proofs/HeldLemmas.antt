@@ -1,6 +1,6 @@
 -- What becomes of edits that are given to an open batch.
-use Rattle.std.proofs.Common.{◌≡◌, inl, inr, ℕ, ◌+◌, ◌||◌, Bool, true, false, List, [], ◌∷◌, ◌++◌, map, length, Some, None, nat_lt, codes, refl, ap, sym, ◌∙◌, subst, append_assoc, append-nil, length-append, true≢false, arith}
-use Rattle.cil_store_specs.proofs.Common.{list_any, sum_by, AllByRecursion, or_cases, ltb-true, lt-ltb, sum_by-append, Store, Edit, Refusal, for_memory, held_bytes, is_too_long, a_batch, Reply, refused, Step, makes, begins, commits, refusal_line, is_refusal, Answer, answer_of, a_line, HeldEdits, all_held, without_memory, State, state_of, held_as, IsHeld, passes_the_limits, has_no_memory, after_the_limits, after_no_memory, IsCommitted, makes_all, was_too_long, had_no_memory, Answers, by_the_edit, by_holding, by_opening, is_open, by_the_batch, by_closing, none_to_commit, none_to_abort, by_engine, by_modules, by_dump, lines_of, AnswersAll}
+use Rattle.cil_store_specs.proofs.Common.{◌≡◌, inl, inr, ℕ, ◌+◌, ◌||◌, Bool, true, false, List, [], ◌∷◌, ◌++◌, map, length, Some, None, nat_lt, codes, refl, ap, sym, ◌∙◌, subst, append_assoc, length-append, true≢false, arith, list_any, sum_by, AllByRecursion, or_cases, ltb-true, lt-ltb, sum_by-append, Store, Edit, Refusal, for_memory, held_bytes, is_too_long, a_batch, Reply, refused, Step, makes, begins, commits, refusal_line, is_refusal, Answer, answer_of, a_line, HeldEdits, all_held, without_memory, State, state_of, held_as, IsHeld, passes_the_limits, has_no_memory, after_the_limits, after_no_memory, IsCommitted, makes_all, was_too_long, had_no_memory, Answers, by_the_edit, by_holding, by_opening, is_open, by_the_batch, by_closing, none_to_commit, none_to_abort, by_engine, by_modules, by_dump, lines_of, AnswersAll}
+use Rattle.std.proofs.Common.{append-nil}
 use Rattle.std.proofs.Math.Bool.{or-true}
 use Rattle.cil_store_specs.specs.Answers.{holds}
 

@@ -1,6 +1,5 @@
 -- An edit leaves a store within its limits, and its texts spell modules.
-use Rattle.std.proofs.Common.{◌≡◌, ◌≢◌, ◌∷◌, [], ℕ, ◌+◌, ◌≤◌, ◌==◌, ◌&&◌, ◌||◌, List, Bool, true, false, not, cond, filter, length, bytes_eq, decimal, nat_le, nat_lt, Option, Some, None, if◌then◌else◌, refl, ap, sym, ◌∙◌, subst, true≢false, arith}
-use Rattle.cil_store_specs.proofs.Common.{list_any, sum_by, AllByRecursion, nat_cmp, ordering_then, is_lt, Ordering, Less, Equal, Greater, and_parts, eqb-true, leb-true, ltb-false, not-true, nat_list_cmp_total, tied_itself, list_any-append, sum_by-append, sum_by-cons, exact_bytes, bytes_eq-Decides, name_cmp, all-weaker, all-append, less-is, reversed, Entry, Store, empty, entry_cmp, put_by, put, is_entry, is_installed, has_room, text_bytes, without, without_name, Edit, install, remove, enable, disable, Refusal, by_store, changed, store_refusal, is_module_name, is_priority, HasGoodText, IsTaken, install_of, IsEntryWithinLimits, IsWithinLimits, HasGoodTexts, Call, Reply, Run}
+use Rattle.cil_store_specs.proofs.Common.{◌≡◌, ◌≢◌, ◌∷◌, [], ℕ, ◌+◌, ◌≤◌, ◌==◌, ◌&&◌, ◌||◌, List, Bool, true, false, not, cond, filter, length, bytes_eq, decimal, nat_le, nat_lt, Option, Some, None, if◌then◌else◌, refl, ap, sym, ◌∙◌, subst, true≢false, arith, list_any, sum_by, AllByRecursion, nat_cmp, ordering_then, is_lt, Ordering, Less, Equal, Greater, and_parts, eqb-true, leb-true, ltb-false, not-true, nat_list_cmp_total, tied_itself, list_any-append, sum_by-append, sum_by-cons, exact_bytes, bytes_eq-Decides, name_cmp, all-weaker, all-append, less-is, reversed, Entry, Store, empty, entry_cmp, put_by, put, is_entry, is_installed, has_room, text_bytes, without, without_name, Edit, install, remove, enable, disable, Refusal, by_store, changed, store_refusal, is_module_name, is_priority, HasGoodText, IsTaken, install_of, IsEntryWithinLimits, IsWithinLimits, HasGoodTexts, Call, Reply, Run}
 use Rattle.std.proofs.Math.Bool.{or-true}
 use Rattle.std.proofs.lemmas.Map.Views.{any-filter_same}
 use Rattle.cil_store_specs.proofs.RunLemmas.{run-keeps}

@@ -1,6 +1,5 @@
 -- Where bytes begin with no command.
-use Rattle.std.proofs.Common.{◌≡◌, ℕ, ◌<◌, ◌≤◌, true, List, [], ◌∷◌, ◌++◌, length, drop, get_or, refl, sym, ap, ◌∙◌, append_assoc, length-append, true≢false, arith}
-use Rattle.cil_store_specs.proofs.Common.{list_all, list_all-append, first_true, second_true, same_run, Command, line_of, behind, command_bytes, HasGoodWords, MayLackItsEnd, IsNoCommand}
+use Rattle.cil_store_specs.proofs.Common.{◌≡◌, ℕ, ◌<◌, ◌≤◌, true, List, [], ◌∷◌, ◌++◌, length, drop, get_or, refl, sym, ap, ◌∙◌, append_assoc, length-append, true≢false, arith, list_all, list_all-append, first_true, second_true, same_run, Command, line_of, behind, command_bytes, HasGoodWords, MayLackItsEnd, IsNoCommand}
 use Rattle.cil_store_specs.proofs.WordLemmas.{stays, line-stays}
 
 -- what stands before the first line feed, and behind it, is determined

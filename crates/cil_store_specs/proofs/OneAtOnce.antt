@@ -1,6 +1,5 @@
 -- What is judged of edits that are made at once is one.
-use Rattle.std.proofs.Common.{◌≡◌, ◌⊎◌, inl, inr, List, [], ◌∷◌, ◌++◌, sym, ap, ◌∙◌, subst, true≢false}
-use Rattle.cil_store_specs.proofs.Common.{Meaning, Store, IsStore, Edit, Refusal, IsMeaningOf, IsNotTaken, IsTaken, AreTaken, IsPolicyRefusal, Judgement, accepts, refuses, NextOfAll, one_not_taken, bad_policy_of_all, all_good, Next, too_long, at_once}
+use Rattle.cil_store_specs.proofs.Common.{◌≡◌, ◌⊎◌, inl, inr, List, [], ◌∷◌, ◌++◌, sym, ap, ◌∙◌, subst, true≢false, Meaning, Store, IsStore, Edit, Refusal, IsMeaningOf, IsNotTaken, IsTaken, AreTaken, IsPolicyRefusal, Judgement, accepts, refuses, NextOfAll, one_not_taken, bad_policy_of_all, all_good, Next, too_long, at_once}
 use Rattle.cil_store_specs.proofs.OneStore.{no-meaning, policy-refusal-same, not-taken-same, taken-or-not, taken-same}
 use Rattle.cil_store_specs.proofs.StoreOrder.{taken-ordered}
 

@@ -1,6 +1,5 @@
 -- Of a policy of a store in order no two faults of one kind stand at one place.
-use Rattle.std.proofs.Common.{◌≡◌, ◌⊎◌, inl, inr, ℕ, ◌+◌, ◌≤◌, Bool, true, false, not, ◌&&◌, ◌||◌, nat_le, List, [], ◌∷◌, ◌++◌, length, map, bytes_eq, Contains, refl, sym, ap, ◌∙◌, subst, arith}
-use Rattle.cil_store_specs.proofs.Common.{AllByRecursion, list_any, IsStrictlySortedBy, nat_cmp, Less, Equal, leb-true, bytes_eq-Decides, nat_cmp_total, nat_list_cmp_total, tied_itself, map-append, Module, Placed, namespace_inside, optionals_inside, placed, joined, name_cmp, Entry, Store, IsStore, entry_cmp, is_highest, active, AreModules, IsPolicyOf, first_true, second_true, all-weaker, all-append, all-contained, contains-first, contains-other, contains-cases, passed, words_in, contains-filtered, contains-left, contains-right, contains-append_cases, word-offsets}
+use Rattle.cil_store_specs.proofs.Common.{◌≡◌, ◌⊎◌, inl, inr, ℕ, ◌+◌, ◌≤◌, Bool, true, false, not, ◌&&◌, ◌||◌, nat_le, List, [], ◌∷◌, ◌++◌, length, map, bytes_eq, Contains, refl, sym, ap, ◌∙◌, subst, arith, AllByRecursion, list_any, IsStrictlySortedBy, nat_cmp, Less, Equal, leb-true, bytes_eq-Decides, nat_cmp_total, nat_list_cmp_total, tied_itself, map-append, Module, Placed, namespace_inside, optionals_inside, placed, joined, name_cmp, Entry, Store, IsStore, entry_cmp, is_highest, active, AreModules, IsPolicyOf, first_true, second_true, all-weaker, all-append, all-contained, contains-first, contains-other, contains-cases, passed, words_in, contains-filtered, contains-left, contains-right, contains-append_cases, word-offsets}
 use Rattle.cil_specs.specs.Names.{Word}
 use Rattle.cil_specs.specs.Statements.{Statements, no_more, statement, statement_offsets}
 use Rattle.cil_specs.specs.ModuleText.{IsModuleText}

@@ -1,7 +1,6 @@
 -- Runs of the same calls agree where memory doesn't run out.
-use Rattle.std.proofs.Common.{◌≡◌, List, [], ◌∷◌, flat_map, refl, sym, ap, ◌∙◌, subst, true≢false}
+use Rattle.cil_store_specs.proofs.Common.{◌≡◌, List, [], ◌∷◌, flat_map, refl, sym, ap, ◌∙◌, subst, true≢false, list_all, and_parts, is_in_table, Changes, AreChanges, Row, AreRows, row_line, Store, IsStore, Edit, Refusal, IsMeaningOf, accepts, refuses, Next, Call, a_batch, ask_rows, ask_listing, ask_violations, ask_dropped, Reply, changed_by, refused, listed, printed, violated, dropped_optionals, is_answered, IsAccepted, AreRowsOf, AreViolationsOf, AreDroppedOf, accepted, rejected, lists, prints, tells_violations, tells_dropped, out_of_memory, Step, Run}
 use Rattle.std.specs.Bool.{IsTrue}
-use Rattle.cil_store_specs.proofs.Common.{list_all, and_parts, is_in_table, Changes, AreChanges, Row, AreRows, row_line, Store, IsStore, Edit, Refusal, IsMeaningOf, accepts, refuses, Next, Call, a_batch, ask_rows, ask_listing, ask_violations, ask_dropped, Reply, changed_by, refused, listed, printed, violated, dropped_optionals, is_answered, IsAccepted, AreRowsOf, AreViolationsOf, AreDroppedOf, accepted, rejected, lists, prints, tells_violations, tells_dropped, out_of_memory, Step, Run}
 use Rattle.cil_specs.specs.Rule.{Declared}
 use Rattle.cil_specs.specs.Violations.{Violation, AreViolations}
 use Rattle.cil_specs.proofs.ViolationLemmas.{one-violations}

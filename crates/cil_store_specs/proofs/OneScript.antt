@@ -1,6 +1,6 @@
 -- A script has one list of commands, and ends in one way.
-use Rattle.std.proofs.Common.{◌≡◌, ℕ, zero, suc, ◌+◌, ◌<◌, List, [], ◌∷◌, ◌++◌, length, drop, take, flat_map, get_or, refl, ap, sym, ◌∙◌, subst, append_assoc, append-nil, length-append, arith}
-use Rattle.cil_store_specs.proofs.Common.{take_all, take-append-le, list_all, AllByRecursion, all-first, all-second, install, remove, enable, disable, Command, makes, begins, commits, aborts, asks_rules, asks_violations, asks_dropped, asks_modules, asks_dump, line_of, behind, command_bytes, HasGoodWords, IsCommand, MayLackItsEnd, End, ends, stops, IsEnd, Commands, whole, without_end, BeginsWith, whole_ones, all_of_it}
+use Rattle.cil_store_specs.proofs.Common.{◌≡◌, ℕ, zero, suc, ◌+◌, ◌<◌, List, [], ◌∷◌, ◌++◌, length, drop, take, flat_map, get_or, refl, ap, sym, ◌∙◌, subst, append_assoc, length-append, arith, take_all, take-append-le, list_all, AllByRecursion, all-first, all-second, install, remove, enable, disable, Command, makes, begins, commits, aborts, asks_rules, asks_violations, asks_dropped, asks_modules, asks_dump, line_of, behind, command_bytes, HasGoodWords, IsCommand, MayLackItsEnd, End, ends, stops, IsEnd, Commands, whole, without_end, BeginsWith, whole_ones, all_of_it}
+use Rattle.std.proofs.Common.{append-nil}
 use Rattle.cil_store_specs.proofs.WordLemmas.{stays, line-stays, lines-same, commands-same, text_of, text-length, kind_of_word, number_of, first_word}
 use Rattle.cil_store_specs.proofs.LineLemmas.{same-lines, has-feed, command-line}
 

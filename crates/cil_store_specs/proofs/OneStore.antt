@@ -1,6 +1,5 @@
 -- A store has one meaning or one refusal, and an edit of it one judgement.
-use Rattle.std.proofs.Common.{◌≡◌, ◌⊎◌, inl, inr, ℕ, ◌≤◌, ◌==◌, ◌∷◌, [], List, if◌then◌else◌, Option, Some, None, is_some, Contains, refl, sym, ap, ◌∙◌, subst, true≢false, arith}
-use Rattle.cil_store_specs.proofs.Common.{nat_cmp, Less, Equal, Greater, ordering_reverse, nat_list_cmp_total, tied_itself, Module, Placed, joined, Meaning, meaning_of, Entry, Store, IsStore, active, AreModules, IsPolicyOf, IsMeaningOf, Edit, install, remove, enable, disable, Refusal, at_place, store_refusal, HasGoodText, IsTextRefusal, IsNotTaken, by_itself, by_its_text, IsTaken, IsPolicyRefusal, contains-middle, words_in, contains-filtered, faulty-word}
+use Rattle.cil_store_specs.proofs.Common.{◌≡◌, ◌⊎◌, inl, inr, ℕ, ◌≤◌, ◌==◌, ◌∷◌, [], List, if◌then◌else◌, Option, Some, None, is_some, Contains, refl, sym, ap, ◌∙◌, subst, true≢false, arith, nat_cmp, Less, Equal, Greater, ordering_reverse, nat_list_cmp_total, tied_itself, Module, Placed, joined, Meaning, meaning_of, Entry, Store, IsStore, active, AreModules, IsPolicyOf, IsMeaningOf, Edit, install, remove, enable, disable, Refusal, at_place, store_refusal, HasGoodText, IsTextRefusal, IsNotTaken, by_itself, by_its_text, IsTaken, IsPolicyRefusal, contains-middle, words_in, contains-filtered, faulty-word}
 use Rattle.std.specs.Cmp.Lexicographic.{slice_cmp}
 use Rattle.cil_specs.specs.TextFault as text_fault
 use Rattle.cil_specs.specs.Names.{Word}

@@ -1,6 +1,5 @@
 -- In the policy of a store blocks, classes and commons stand in no optional.
-use Rattle.std.proofs.Common.{◌≡◌, true, false, List, [], ◌∷◌, sym, subst}
-use Rattle.cil_store_specs.proofs.Common.{AllByRecursion, Module, Placed, Entry, Store, active, AreModules, IsPolicyOf}
+use Rattle.cil_store_specs.proofs.Common.{◌≡◌, true, false, List, [], ◌∷◌, sym, subst, AllByRecursion, Module, Placed, Entry, Store, active, AreModules, IsPolicyOf}
 use Rattle.cil_specs.specs.Statements.{are_apart}
 use Rattle.cil_specs.specs.Kept.{AreApart}
 use Rattle.cil_specs.proofs.ApartLemmas.{joined-apart}

@@ -1,6 +1,5 @@
 -- Lists in an order: where an item is put in, and what is left without it.
-use Rattle.std.proofs.Common.{◌≡◌, suc, cond, Bool, true, false, List, [], ◌∷◌, ◌++◌, filter, take, drop, fold, refl, sym, ap, ◌∙◌, subst, append_assoc}
-use Rattle.cil_store_specs.proofs.Common.{IsTotalOrder, insert, AllByRecursion, IsStrictlySortedBy, is_lt, Ordering, Less, Equal, Greater, append-nil, IsStrictlySortedBy-filter, all-weaker, all-append, all-second, IsTiedAt, less-is, place, AllBehind, reversed, behind-same, behind-greater, keep, skip, none-before, all-after, place-later, place-here, put_by}
+use Rattle.cil_store_specs.proofs.Common.{◌≡◌, suc, cond, Bool, true, false, List, [], ◌∷◌, ◌++◌, filter, take, drop, fold, refl, sym, ap, ◌∙◌, subst, append_assoc, IsTotalOrder, insert, AllByRecursion, IsStrictlySortedBy, is_lt, Ordering, Less, Equal, Greater, append-nil, IsStrictlySortedBy-filter, all-weaker, all-append, all-second, IsTiedAt, less-is, place, AllBehind, reversed, behind-same, behind-greater, keep, skip, none-before, all-after, place-later, place-here, put_by}
 
 module _ {X : Type 0} (cmp : X → X → Ordering) (order : IsTotalOrder cmp) where
   -- A list with one item more, by the place of the item.

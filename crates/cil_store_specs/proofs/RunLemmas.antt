@@ -1,6 +1,5 @@
 -- A run goes on by one call, and keeps what each edit keeps.
-use Rattle.std.proofs.Common.{◌≡◌, ℕ, ◌+◌, List, [], ◌∷◌, ◌++◌, refl, sym, subst}
-use Rattle.cil_store_specs.proofs.Common.{Store, Edit, IsTaken, AreTaken, accepts, NextOfAll, one_not_taken, bad_policy_of_all, all_good, Next, too_long, at_once, Call, Reply, accepted, rejected, lists, prints, tells_violations, tells_dropped, out_of_memory, Step, Run, Command, Answer, State, Answers, lines_of, AnswersAll}
+use Rattle.cil_store_specs.proofs.Common.{◌≡◌, ℕ, ◌+◌, List, [], ◌∷◌, ◌++◌, refl, sym, subst, Store, Edit, IsTaken, AreTaken, accepts, NextOfAll, one_not_taken, bad_policy_of_all, all_good, Next, too_long, at_once, Call, Reply, accepted, rejected, lists, prints, tells_violations, tells_dropped, out_of_memory, Step, Run, Command, Answer, State, Answers, lines_of, AnswersAll}
 
 pub run-more : (old mid new : Store) (calls : List Call) (replies : List Reply) (call : Call) (reply : Reply) → Run old calls replies mid → Step mid call reply new → Run old (calls ++ call ∷ []) (replies ++ reply ∷ []) new
 run-more old mid new [] [] call reply run step = (new, subst (λ s. Step s call reply new) run step, refl)

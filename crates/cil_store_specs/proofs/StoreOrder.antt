@@ -1,6 +1,5 @@
 -- An edit leaves a store in order.
-use Rattle.std.proofs.Common.{ℕ, List, Bool, true, false, not, bytes_eq, if◌then◌else◌, sym, subst}
-use Rattle.cil_store_specs.proofs.Common.{IsTotalOrder, IsStrictlySortedBy, nat_cmp_total, nat_list_cmp_total, on_total, then_total, back_total, IsStrictlySortedBy-filter, name_cmp, Entry, Store, IsStore, empty, entry_cmp, is_entry, is_installed, without, without_name, Edit, install, remove, enable, disable, still_disabled, changed, IsTaken, Call, Reply, Step, Run}
+use Rattle.cil_store_specs.proofs.Common.{ℕ, List, Bool, true, false, not, bytes_eq, if◌then◌else◌, sym, subst, IsTotalOrder, IsStrictlySortedBy, nat_cmp_total, nat_list_cmp_total, on_total, then_total, back_total, IsStrictlySortedBy-filter, name_cmp, Entry, Store, IsStore, empty, entry_cmp, is_entry, is_installed, without, without_name, Edit, install, remove, enable, disable, still_disabled, changed, IsTaken, Call, Reply, Step, Run}
 use Rattle.cil_store_specs.proofs.PutLemmas.{put-ordered}
 use Rattle.cil_store_specs.proofs.RunLemmas.{step-keeps, run-keeps}
 

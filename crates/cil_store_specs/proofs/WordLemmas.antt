@@ -1,6 +1,5 @@
 -- The words of a command's line.
-use Rattle.std.proofs.Common.{◌≡◌, ◌≢◌, ℕ, ◌+◌, ◌*◌, ◌-◌, ◌%◌, ◌^◌, ◌<◌, ◌≤◌, ◌==◌, ◌&&◌, Bool, true, false, not, List, [], ◌∷◌, ◌++◌, length, drop, get_or, bytes_eq, codes, decimal, if◌then◌else◌, refl, ap, sym, ◌∙◌, subst, true≢false, arith}
-use Rattle.cil_store_specs.proofs.Common.{list_all, join_with_byte, AllByRecursion, eqb-true, list_all-append, both_true, first_true, second_true, same_run, install, remove, enable, disable, Command, makes, begins, commits, aborts, asks_rules, asks_violations, asks_dropped, asks_modules, asks_dump, words_of, line_of, is_shown, HasGoodWords}
+use Rattle.cil_store_specs.proofs.Common.{◌≡◌, ◌≢◌, ℕ, ◌+◌, ◌*◌, ◌-◌, ◌%◌, ◌^◌, ◌<◌, ◌≤◌, ◌==◌, ◌&&◌, Bool, true, false, not, List, [], ◌∷◌, ◌++◌, length, drop, get_or, bytes_eq, codes, decimal, if◌then◌else◌, refl, ap, sym, ◌∙◌, subst, true≢false, arith, list_all, join_with_byte, AllByRecursion, eqb-true, list_all-append, both_true, first_true, second_true, same_run, install, remove, enable, disable, Command, makes, begins, commits, aborts, asks_rules, asks_violations, asks_dropped, asks_modules, asks_dump, words_of, line_of, is_shown, HasGoodWords}
 use Rattle.std.proofs.lemmas.Fmt.{decimal_by_steps}
 
 -- a byte that is neither a space nor a line feed

@@ -1,6 +1,5 @@
 -- The accesses of the targets that appeared or went, change by change.
-use Rattle.std.proofs.Common.{◌≡◌, ◌↔◌, ℕ, ◌-◌, ◌<◌, ◌≤◌, suc, List, [], ◌∷◌, Option, None, Some, MatchOption, get_or, length, min, position, slice_get, refl, sym, ap, subst, ◌∙◌, inl, inr, arith}
-use Rattle.cil_symbol_changes.proofs.Common.{sum_by, cases_eq, cases_lt, get_or_past, sum_by-cons, sum_by_more_le, same_Some, slice_get_within, AccessNumbers, Chunk, Keyed, IsLineOf, IsNoLine, NoneCounted, before_at, is_key, now_at, count_before, count_now, SymbolKey, hit, hit_at, Change, hit_in, hit_off, AreGained, AreKnown, AreKnownIn, IsIn, IsTo, access_by, AreNumbered, IsNew, IsNumbered, AreAllPlaces, IsAmong, LinePlace}
+use Rattle.cil_symbol_changes.proofs.Common.{◌≡◌, ◌↔◌, ℕ, ◌-◌, ◌<◌, ◌≤◌, suc, List, [], ◌∷◌, Option, None, Some, MatchOption, get_or, length, min, position, slice_get, refl, sym, ap, subst, ◌∙◌, inl, inr, arith, sum_by, cases_eq, cases_lt, get_or_past, sum_by-cons, sum_by_more_le, same_Some, slice_get_within, AccessNumbers, Chunk, Keyed, IsLineOf, IsNoLine, NoneCounted, before_at, is_key, now_at, count_before, count_now, SymbolKey, hit, hit_at, Change, hit_in, hit_off, AreGained, AreKnown, AreKnownIn, IsIn, IsTo, access_by, AreNumbered, IsNew, IsNumbered, AreAllPlaces, IsAmong, LinePlace}
 use Rattle.cil_keyed_lines.proofs.KeyedLemmas.{line_of_key}
 use Rattle.cil_recorded.specs.Differences.{appeared_at, gone_at}
 use Rattle.cil_symbol_changes.proofs.GainedLemmas.{gained-alike, gained-none}

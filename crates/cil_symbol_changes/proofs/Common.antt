@@ -15,6 +15,7 @@ pub use Rattle.cil_symbol_changes.specs.Gained.{AreGained, AreKept, AreKnown, Ar
 pub use Rattle.cil_symbol_changes.specs.Numbered.{AreNumbered, ArePresentNumbered, IsNew, IsNumbered, IsPresent, access_by, is_listed, listed}
 pub use Rattle.cil_symbol_changes.specs.SourceOrder.{AreAllPlaces, AreListedPlaces, AreParts, HasAppeared, HasGone, IsAmong, IsAt, IsAtWord, IsListedIn}
 pub use Rattle.cil_symbol_changes.specs.declared.source_order.LinePlace.{LinePlace}
+pub use Rattle.std.proofs.Common.{Any, Bool, IsPermutation, List, MatchOption, None, Option, Some, [], add-zero, ap, arith, cond, count_ones, eqb-true, false, get_or, if◌then◌else◌, inl, inr, length, map, min, nat_lt, not, position, refl, slice_get, slice_index, subst, suc, sym, take, true, true≢false, zero-add, ℕ, ◌%◌, ◌&&◌, ◌*◌, ◌++◌, ◌+◌, ◌-◌, ◌/◌, ◌<◌, ◌==◌, ◌^◌, ◌↔◌, ◌∙◌, ◌∷◌, ◌≡◌, ◌≢◌, ◌≤◌, ◌⊎◌}
 pub use Rattle.std.proofs.lemmas.Bool.{cases_eq, cases_lt, eq-eqb, le-ltb, lt-ltb, ltb-true, ne_eqb}
 pub use Rattle.std.proofs.lemmas.List.{get_or_past, length-map, take_all, take_more}
 pub use Rattle.std.proofs.lemmas.List.Elements.{All-contains, All-more, All-nil, All-push}

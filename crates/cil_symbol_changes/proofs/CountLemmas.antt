@@ -1,6 +1,5 @@
 -- How many accesses came: word by word, change by change and key by key.
-use Rattle.std.proofs.Common.{◌≡◌, ◌≢◌, ◌⊎◌, if◌then◌else◌, ℕ, suc, ◌+◌, ◌-◌, ◌*◌, ◌/◌, ◌%◌, ◌^◌, ◌<◌, ◌≤◌, ◌==◌, ◌&&◌, Bool, true, false, not, cond, List, [], ◌∷◌, Option, None, Some, MatchOption, map, length, get_or, min, nat_lt, count_ones, position, slice_get, refl, sym, ap, subst, ◌∙◌, inl, inr, arith, true≢false, zero-add, eqb-true}
-use Rattle.cil_symbol_changes.proofs.Common.{bit_at, All, Contains, sum_by, cases_eq, cases_lt, eq-eqb, le-ltb, lt-ltb, ltb-true, length-map, All-contains, sum_by-cons, bit_at_above, bit_at-lt, get_or_from_slice_get, same_Some, slice_get-get_or, AreKeyed, Keyed, IsLineOf, NoneCounted, before_at, is_key, now_at, count_before, count_now, SymbolKey, came_by, came_in, hit_at, went_by, went_in, IsTurned, Change, Step, hit_nothing, hit_off, hit_on, hit_out, RisesBy, rises-added, rises-bits, rises-both, rises-map, rises-none, came, has_come, has_risen, went, AreSoMany}
+use Rattle.cil_symbol_changes.proofs.Common.{◌≡◌, ◌≢◌, ◌⊎◌, if◌then◌else◌, ℕ, suc, ◌+◌, ◌-◌, ◌*◌, ◌/◌, ◌%◌, ◌^◌, ◌<◌, ◌≤◌, ◌==◌, ◌&&◌, Bool, true, false, not, cond, List, [], ◌∷◌, Option, None, Some, MatchOption, map, length, get_or, min, nat_lt, count_ones, position, slice_get, refl, sym, ap, subst, ◌∙◌, inl, inr, arith, true≢false, zero-add, eqb-true, bit_at, All, Contains, sum_by, cases_eq, cases_lt, eq-eqb, le-ltb, lt-ltb, ltb-true, length-map, All-contains, sum_by-cons, bit_at_above, bit_at-lt, get_or_from_slice_get, same_Some, slice_get-get_or, AreKeyed, Keyed, IsLineOf, NoneCounted, before_at, is_key, now_at, count_before, count_now, SymbolKey, came_by, came_in, hit_at, went_by, went_in, IsTurned, Change, Step, hit_nothing, hit_off, hit_on, hit_out, RisesBy, rises-added, rises-bits, rises-both, rises-map, rises-none, came, has_come, has_risen, went, AreSoMany}
 use Rattle.std.proofs.lemmas.Nat.{zero_from_ones}
 use Rattle.cil_keyed_lines.proofs.KeyedLemmas.{line_of_key, placed_at}
 use Rattle.cil_recorded.specs.Differences.{appeared_at, gone_at}

@@ -1,6 +1,6 @@
 -- Accesses appended to others: none, one after the other, and those to the targets of a word.
-use Rattle.std.proofs.Common.{◌≡◌, ◌≢◌, ◌⊎◌, ◌↔◌, ℕ, ◌+◌, ◌*◌, ◌/◌, ◌%◌, ◌<◌, ◌^◌, ◌++◌, ◌∷◌, List, [], length, slice_index, sym, ap, subst, ◌∙◌, inl, inr, arith, eq-eqb, eqb-true}
-use Rattle.cil_symbol_changes.proofs.Common.{bit_at, All, cases_eq, All-nil, All-push, bit_at-lt, bit_at-zero, AccessNumbers, Chunk, SymbolKey, hit, AreGained, AreKept, AreKnown, chunk_by, IsShort, IsTo, access_by, IsNumbered}
+use Rattle.cil_symbol_changes.proofs.Common.{◌≡◌, ◌≢◌, ◌⊎◌, ◌↔◌, ℕ, ◌+◌, ◌*◌, ◌/◌, ◌%◌, ◌<◌, ◌^◌, ◌++◌, ◌∷◌, List, [], length, slice_index, sym, ap, subst, ◌∙◌, inl, inr, arith, eqb-true, bit_at, All, cases_eq, All-nil, All-push, bit_at-lt, bit_at-zero, AccessNumbers, Chunk, SymbolKey, hit, AreGained, AreKept, AreKnown, chunk_by, IsShort, IsTo, access_by, IsNumbered}
+use Rattle.std.proofs.Common.{eq-eqb}
 use Rattle.cil_accesses.specs.Chunks.{IsAccessOf, IsGiven}
 use Rattle.cil_accesses.specs.Renumbered.{IsRenumbered, IsWithin}
 use Rattle.cil_accesses.proofs.Renumbering.{any-push, any-pushed}

@@ -1,6 +1,5 @@
 -- How many accesses stand: word by word and line by line.
-use Rattle.std.proofs.Common.{◌≡◌, ℕ, ◌+◌, ◌-◌, ◌*◌, ◌/◌, ◌%◌, ◌^◌, ◌<◌, ◌==◌, ◌&&◌, Bool, true, false, cond, Option, None, Some, length, min, nat_lt, count_ones, refl, sym, ap, ◌∙◌, inl, inr, arith, add-zero, zero-add, eqb-true}
-use Rattle.cil_symbol_changes.proofs.Common.{bit_at, cases_eq, cases_lt, eq-eqb, le-ltb, lt-ltb, ltb-true, ne_eqb, bit_at_above, none-some, same_Some, AreKeyed, Keyed, now_at, count_now, IsNextPresent, IsPresence, below, RisesBy, rises-bits, rises-map, rises-more, rises-same, has_come}
+use Rattle.cil_symbol_changes.proofs.Common.{◌≡◌, ℕ, ◌+◌, ◌-◌, ◌*◌, ◌/◌, ◌%◌, ◌^◌, ◌<◌, ◌==◌, ◌&&◌, Bool, true, false, cond, Option, None, Some, length, min, nat_lt, count_ones, refl, sym, ap, ◌∙◌, inl, inr, arith, add-zero, zero-add, eqb-true, bit_at, cases_eq, cases_lt, eq-eqb, le-ltb, lt-ltb, ltb-true, ne_eqb, bit_at_above, none-some, same_Some, AreKeyed, Keyed, now_at, count_now, IsNextPresent, IsPresence, below, RisesBy, rises-bits, rises-map, rises-more, rises-same, has_come}
 use Rattle.std.specs.Option.{SomeIff}
 use Rattle.cil_symbol_changes.proofs.CountLemmas.{both-hold, here-now, key-count, place-now}
 

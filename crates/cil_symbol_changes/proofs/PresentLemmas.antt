@@ -1,6 +1,5 @@
 -- The accesses of the targets whose counters are above 0, word by word and line by line.
-use Rattle.std.proofs.Common.{◌≡◌, ◌⊎◌, ℕ, ◌+◌, ◌*◌, ◌/◌, ◌%◌, ◌<◌, ◌≤◌, Bool, true, false, cond, List, length, min, slice_get, refl, sym, ap, subst, ◌∙◌, inl, inr, arith}
-use Rattle.cil_symbol_changes.proofs.Common.{bit_at, cases_eq, cases_lt, All-contains, same_Some, slice_get_within, bit_at-zero, AccessNumbers, Chunk, Keyed, IsLineOf, IsNoLine, now_at, count_now, SymbolKey, hit, IsNextPresent, IsPresence, NonePresent, AreGained, AreKnown, AreKnownIn, IsTo, access_by, is_listed, listed, ArePresentNumbered, IsPresent, AreListedPlaces, IsAmong, IsAt, IsAtWord, IsListedIn, LinePlace}
+use Rattle.cil_symbol_changes.proofs.Common.{◌≡◌, ◌⊎◌, ℕ, ◌+◌, ◌*◌, ◌/◌, ◌%◌, ◌<◌, ◌≤◌, Bool, true, false, cond, List, length, min, slice_get, refl, sym, ap, subst, ◌∙◌, inl, inr, arith, bit_at, cases_eq, cases_lt, All-contains, same_Some, slice_get_within, bit_at-zero, AccessNumbers, Chunk, Keyed, IsLineOf, IsNoLine, now_at, count_now, SymbolKey, hit, IsNextPresent, IsPresence, NonePresent, AreGained, AreKnown, AreKnownIn, IsTo, access_by, is_listed, listed, ArePresentNumbered, IsPresent, AreListedPlaces, IsAmong, IsAt, IsAtWord, IsListedIn, LinePlace}
 use Rattle.cil_lines.proofs.StepLemmas.{hit-here, hit-there}
 use Rattle.cil_symbol_changes.proofs.ChangeLemmas.{line-now}
 use Rattle.cil_symbol_changes.proofs.GainedLemmas.{gained-alike, gained-more, gained-none}

@@ -1,11 +1,6 @@
 //! Which accesses appeared and which went in lines of their counters.
 
-ghost use Rattle.std.specs.Prelude.{◌↔◌, Contains, IfOk};
-ghost use Rattle.std.specs.List.Sorted.{IsStrictlySortedBy};
-ghost use Rattle.cil_accesses.specs.Chunks.{numbers_cmp};
-ghost use Rattle.cil_accesses.specs.declared.access.AccessNumbers.{AccessNumbers};
-ghost use Rattle.cil_keyed_lines.specs.Keyed.{count_before, count_now};
-ghost use Rattle.cil_symbol_changes.specs.Numbered.{AreNumbered, IsNew};
+ghost use Rattle.cil_symbol_changes.specs.Common.{◌↔◌, Contains, IfOk, IsStrictlySortedBy, numbers_cmp, AccessNumbers, count_before, count_now, AreNumbered, IsNew};
 
 use crate::changed_chunks::{ChangedChunks, collect};
 use cil_accesses::Accesses;

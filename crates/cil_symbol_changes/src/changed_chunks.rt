@@ -1,15 +1,8 @@
 //! The accesses that appeared and those that went, before they are put in order.
 
-ghost use Rattle.std.specs.Prelude.{◌↔◌, length, IfOk, OnOk};
-ghost use Rattle.std.specs.List.{All};
-ghost use Rattle.cil_accesses.specs.Chunks.{IsGiven};
-ghost use Rattle.cil_accesses.specs.declared.access.AccessNumbers.{AccessNumbers};
+ghost use Rattle.cil_symbol_changes.specs.Common.{◌↔◌, length, IfOk, OnOk, All, IsGiven, AccessNumbers, count_before, count_now, AreGained, AreKnownIn, IsIn, IsShort, AreNumbered, IsNew, AreAllPlaces, HasAppeared, HasGone, IsAmong};
 ghost use Rattle.cil_recorded.specs.Differences.{appeared_at, gone_at};
 ghost use Rattle.cil_recorded.specs.Log.{hit_at};
-ghost use Rattle.cil_keyed_lines.specs.Keyed.{count_before, count_now};
-ghost use Rattle.cil_symbol_changes.specs.Gained.{AreGained, AreKnownIn, IsIn, IsShort};
-ghost use Rattle.cil_symbol_changes.specs.Numbered.{AreNumbered, IsNew};
-ghost use Rattle.cil_symbol_changes.specs.SourceOrder.{AreAllPlaces, HasAppeared, HasGone, IsAmong};
 
 use crate::source_order::{LinePlace, changes_by_source, split_source};
 use crate::targets::{GrowingChunks, push_targets};

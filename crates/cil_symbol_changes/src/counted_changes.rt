@@ -1,9 +1,6 @@
 //! How many accesses appeared and how many went in lines of their counters.
 
-ghost use Rattle.std.specs.Prelude.{◌≡◌, ◌+◌, ◌<◌, ◌^◌, count_ones, sum_by, IfOk};
-ghost use Rattle.std.specs.List.{All};
-ghost use Rattle.cil_keyed_lines.specs.Keyed.{count_before, count_now};
-ghost use Rattle.cil_symbol_changes.specs.Counts.{came, has_come, went, AreSoMany};
+ghost use Rattle.cil_symbol_changes.specs.Common.{◌≡◌, ◌+◌, ◌<◌, ◌^◌, count_ones, sum_by, IfOk, All, count_before, count_now, came, has_come, went, AreSoMany};
 
 use cil_keyed_lines::KeyedLines;
 use cil_recorded::{Change, Step};

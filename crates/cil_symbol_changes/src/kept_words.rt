@@ -1,11 +1,6 @@
 //! The accesses of the lines of a source, word by word, where each symbol is its own number.
 
-ghost use Rattle.std.specs.Prelude.{◌≢◌, ◌*◌, ◌<◌, ◌≤◌, length, IsTrue, OnOk};
-ghost use Rattle.std.specs.List.{All};
-ghost use Rattle.cil_keyed_lines.specs.Keyed.{now_at, IsLineOf};
-ghost use Rattle.cil_lines.specs.Line.{hit};
-ghost use Rattle.cil_symbol_changes.specs.Gained.{AreGained, AreKept, AreKnown, AreKnownIn, IsShort, IsTo};
-ghost use Rattle.cil_symbol_changes.specs.SourceOrder.{IsAmong, IsAt, IsAtWord};
+ghost use Rattle.cil_symbol_changes.specs.Common.{◌≢◌, ◌*◌, ◌<◌, ◌≤◌, length, IsTrue, OnOk, All, now_at, IsLineOf, hit, AreGained, AreKept, AreKnown, AreKnownIn, IsShort, IsTo, IsAmong, IsAt, IsAtWord};
 
 use crate::source_order::LinePlace;
 use crate::targets::short_word;

@@ -1,11 +1,6 @@
 //! Which accesses a listing has.
 
-ghost use Rattle.std.specs.Prelude.{◌↔◌, Contains, IfOk};
-ghost use Rattle.std.specs.List.Sorted.{IsStrictlySortedBy};
-ghost use Rattle.cil_accesses.specs.Chunks.{numbers_cmp};
-ghost use Rattle.cil_accesses.specs.declared.access.AccessNumbers.{AccessNumbers};
-ghost use Rattle.cil_keyed_lines.specs.Keyed.{count_now};
-ghost use Rattle.cil_symbol_changes.specs.Numbered.{listed, ArePresentNumbered, IsPresent};
+ghost use Rattle.cil_symbol_changes.specs.Common.{◌↔◌, Contains, IfOk, IsStrictlySortedBy, numbers_cmp, AccessNumbers, count_now, listed, ArePresentNumbered, IsPresent};
 
 use crate::present_chunks::collect_present;
 use cil_accesses::Accesses;

@@ -1,13 +1,6 @@
 //! The accesses that a listing has, before they are put in order.
 
-ghost use Rattle.std.specs.Prelude.{◌<◌, ◌↔◌, IfOk, IsTrue, OnOk};
-ghost use Rattle.std.specs.List.{All};
-ghost use Rattle.cil_accesses.specs.Chunks.{IsGiven};
-ghost use Rattle.cil_accesses.specs.declared.access.AccessNumbers.{AccessNumbers};
-ghost use Rattle.cil_keyed_lines.specs.Keyed.{count_now, now_at, IsLineOf};
-ghost use Rattle.cil_symbol_changes.specs.Gained.{AreGained, AreKept, AreKnownIn, IsShort, IsTo};
-ghost use Rattle.cil_symbol_changes.specs.Numbered.{listed, ArePresentNumbered, IsPresent};
-ghost use Rattle.cil_symbol_changes.specs.SourceOrder.{AreListedPlaces, IsAmong, IsAt, IsListedIn};
+ghost use Rattle.cil_symbol_changes.specs.Common.{◌<◌, ◌↔◌, IfOk, IsTrue, OnOk, All, IsGiven, AccessNumbers, count_now, now_at, IsLineOf, AreGained, AreKept, AreKnownIn, IsShort, IsTo, listed, ArePresentNumbered, IsPresent, AreListedPlaces, IsAmong, IsAt, IsListedIn};
 
 use crate::kept_words::{are_kept, push_words, words_len};
 use crate::source_order::{LinePlace, by_source, is_listed_at, split_source};

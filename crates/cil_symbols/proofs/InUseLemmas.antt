@@ -1,9 +1,8 @@
 -- Symbols in use, and names that come in the place of others.
-use Rattle.std.proofs.Common.{◌≡◌, ◌∙◌, ℕ, ◌+◌, ◌-◌, ◌<◌, ◌≤◌, suc, Bool, true, false, List, [], ◌∷◌, ◌++◌, length, map, cond, take, set, get_or, slice_get, Option, None, Some, IfSome, inl, inr, is_some, position, bytes_eq, refl, sym, ap, subst, arith, true≢false, if◌then◌else◌}
+use Rattle.cil_symbols.proofs.Common.{◌≡◌, ◌∙◌, ℕ, ◌+◌, ◌-◌, ◌<◌, ◌≤◌, suc, Bool, true, false, List, [], ◌∷◌, ◌++◌, length, map, cond, take, set, get_or, slice_get, Option, None, Some, IfSome, inl, inr, is_some, position, bytes_eq, refl, sym, ap, subst, arith, true≢false, if◌then◌else◌, length-append, length-map, length-set, map-set, set-append_left, is_none, sum_by-append, sum_by-cons, none-some, slice_get_within, slice_get-get_or, get_or_from_slice_get, same_Some, has_name, AreNumbersOf, any-position, get-append, get-set_same, get-set_other, used_in, AreUsedBelow, IsUsed, has_name-texts, same, texts}
 use Rattle.std.specs.List.{count_by, swap_remove}
 use Rattle.std.proofs.Math.Seq.{take-append_seam, get_or-append_seam}
 use Rattle.std.proofs.lemmas.Bool.{cases_eq, cases_lt}
-use Rattle.cil_symbols.proofs.Common.{length-append, length-map, length-set, map-set, set-append_left, is_none, sum_by-append, sum_by-cons, none-some, slice_get_within, slice_get-get_or, get_or_from_slice_get, same_Some, has_name, AreNumbersOf, any-position, get-append, get-set_same, get-set_other, used_in, AreUsedBelow, IsUsed, has_name-texts, same, texts}
 use Rattle.std.proofs.lemmas.List.Folds.{list_any_at}
 use Rattle.std.proofs.lemmas.Slice.Eq.{bytes_eq-Decides}
 use Rattle.indexmap.specs.IndexSet.{insert_key}

@@ -1,6 +1,5 @@
 -- Names among others.
-use Rattle.std.proofs.Common.{◌≡◌, ℕ, List, [], ◌∷◌, ◌++◌, Some, is_some, position, bytes_eq, ap, ◌∙◌, if◌then◌else◌}
-use Rattle.cil_symbols.proofs.Common.{with_name, any-position}
+use Rattle.cil_symbols.proofs.Common.{◌≡◌, ℕ, List, [], ◌∷◌, ◌++◌, Some, is_some, position, bytes_eq, ap, ◌∙◌, if◌then◌else◌, with_name, any-position}
 pub use Rattle.cil_names.proofs.TextLemmas.{found-name}
 
 -- with a name that is found the names are the same

@@ -1,6 +1,5 @@
 -- Names of a policy by their numbers among names that stay.
-use Rattle.std.proofs.Common.{◌≡◌, ℕ, ◌<◌, Bool, true, false, List, [], ◌∷◌, ◌++◌, length, fold, slice_get, Option, None, Some, IsTrue, refl, sym, ap, ◌∙◌, append-nil, append_assoc, if◌then◌else◌}
-use Rattle.cil_symbols.proofs.Common.{option_map, none-some, same_Some, slice_get-map, slice_get_within, get_or_from_slice_get, has_name, with_name, AreNumbersOf, AreApart}
+use Rattle.cil_symbols.proofs.Common.{◌≡◌, ℕ, ◌<◌, Bool, true, false, List, [], ◌∷◌, ◌++◌, length, fold, slice_get, Option, None, Some, IsTrue, refl, sym, ap, ◌∙◌, append-nil, append_assoc, if◌then◌else◌, option_map, none-some, same_Some, slice_get-map, slice_get_within, get_or_from_slice_get, has_name, with_name, AreNumbersOf, AreApart}
 use Rattle.cil_specs.specs.Report.{names_rise}
 use Rattle.cil_resolve.proofs.RisingNames.{same-number}
 

@@ -1,6 +1,5 @@
 -- How far the count of adjustments rises where a rule's counters are moved.
-use Rattle.std.proofs.Common.{◌≡◌, ℕ, ◌+◌, ◌-◌, ◌^◌, ◌==◌, ◌&&◌, Bool, true, false, List, min, nat_lt, not, refl, sym, ap, ◌∙◌, arith, true≢false}
-use Rattle.cil_table_updates.proofs.Common.{eq-eqb, RisesBy, rises-added, rises-map, rises-same, SymbolKey, NumberedRule, differs, one_if, shifts, Counter, gives_as}
+use Rattle.cil_table_updates.proofs.Common.{◌≡◌, ℕ, ◌+◌, ◌-◌, ◌^◌, ◌==◌, ◌&&◌, Bool, true, false, List, min, nat_lt, not, refl, sym, ap, ◌∙◌, arith, true≢false, eq-eqb, RisesBy, rises-added, rises-map, rises-same, SymbolKey, NumberedRule, differs, one_if, shifts, Counter, gives_as}
 use Rattle.cil_rule_shifts.specs.declared.reach.Reach.{Reach}
 
 pub and-both : (a b : Bool) → (a && b) ≡ true → (a ≡ true) × (b ≡ true)

@@ -1,6 +1,5 @@
 -- Rows without a mark have the members that they had.
-use Rattle.std.proofs.Common.{◌≡◌, ℕ, ◌+◌, ◌-◌, ◌≤◌, ◌==◌, Bool, false, List, [], ◌∷◌, length, min, nat_lt, take, take_all, refl, sym, ap, ◌∙◌, inl, inr, arith, true≢false, zero-add}
-use Rattle.cil_table_updates.proofs.Common.{list_any, cases_lt, eq-eqb, le-ltb, lt-ltb}
+use Rattle.cil_table_updates.proofs.Common.{◌≡◌, ℕ, ◌+◌, ◌-◌, ◌≤◌, ◌==◌, Bool, false, List, [], ◌∷◌, length, min, nat_lt, take, take_all, refl, sym, ap, ◌∙◌, inl, inr, arith, true≢false, zero-add, list_any, cases_lt, eq-eqb, le-ltb, lt-ltb}
 use Rattle.std.proofs.lemmas.List.Sums.{sum_by-cons}
 use Rattle.cil_recorded.specs.Differences.{appeared_at, gone_at}
 use Rattle.cil_recorded.specs.Log.{hit_at}

@@ -28,6 +28,7 @@ unfoldable pub use Rattle.cil_table_updates.specs.Given.{given}
 pub use Rattle.cil_table_updates.specs.Moves.{AreReplaced, HaveSameHead, IsReplaced, gives_as, lists}
 pub use Rattle.cil_table_updates.specs.Policies.{AreApart, IsPolicy, count_named}
 pub use Rattle.cil_table_updates.specs.declared.policy.Policy.{Policy}
+pub use Rattle.std.proofs.Common.{Bool, Equal, Err, Less, List, None, Ok, OnOk, Option, Result, Some, [], add-one, add-zero, ap, arith, bytes_eq, cond, count_by, false, get_or, inl, inr, length, map, min, nat_lt, not, refl, slice_get, slice_index, slice_index_or, subst, suc, sym, take, take_all, true, true≢false, zero, zero-add, ℕ, ◌&&◌, ◌++◌, ◌+◌, ◌-◌, ◌<◌, ◌==◌, ◌^◌, ◌||◌, ◌↔◌, ◌∙◌, ◌∷◌, ◌≡◌, ◌≢◌, ◌≤◌, ◌⊎◌}
 pub use Rattle.std.proofs.lemmas.Bool.{cases_Bool, cases_eq, cases_lt, eq-eqb, le-ltb, lt-ltb, ltb-true, ne_eqb}
 pub use Rattle.std.proofs.lemmas.List.{length-append, length-map}
 pub use Rattle.std.proofs.lemmas.List.Elements.{All-append, All-contains, All-map, Contains-append_cases, Contains-append_left, Contains-append_right, Contains-get_or}

@@ -1,6 +1,5 @@
 -- The counters that an update moves are those of accesses that a rule gives in one of the two policies alone.
-use Rattle.std.proofs.Common.{◌≡◌, ◌≢◌, ◌⊎◌, ℕ, ◌+◌, ◌<◌, ◌==◌, ◌&&◌, Bool, true, false, List, [], ◌++◌, get_or, length, map, nat_lt, not, slice_get, Option, None, Some, Result, Ok, Err, OnOk, refl, sym, ap, ◌∙◌, subst, inl, inr, arith, true≢false}
-use Rattle.cil_table_updates.proofs.Common.{list_all, All, AllPairs, Contains, cases_Bool, cases_eq, eq-eqb, lt-ltb, ltb-true, ne_eqb, length-append, length-map, All-append, All-contains, All-map, Contains-append_left, Contains-append_right, Contains-get_or, none-some, same_Some, slice_get-get_or, slice_get_read, slice_get_within, below, RisesBy, across, alone, sum_below, across-none, across-some, alone-none, alone-some, sum-differs, sum-zero, gives, Meaning, a_type, at_itself, kind_index, Atom, IsSameRule, Rule, SymbolKey, is_rule_below, is_consistent, is_rule_of, rule_of, meaning_in, NumberedRule, atom_of, is_named, name_at, members_of, covers-named, covers-none, differs, one_if, goes, turns, AdjustsAtLeast, AdjustsAtMost, Counter, given, gives_by, AreApart, IsPolicy, Policy}
+use Rattle.cil_table_updates.proofs.Common.{◌≡◌, ◌≢◌, ◌⊎◌, ℕ, ◌+◌, ◌<◌, ◌==◌, ◌&&◌, Bool, true, false, List, [], ◌++◌, get_or, length, map, nat_lt, not, slice_get, Option, None, Some, Result, Ok, Err, OnOk, refl, sym, ap, ◌∙◌, subst, inl, inr, arith, true≢false, list_all, All, AllPairs, Contains, cases_Bool, cases_eq, eq-eqb, lt-ltb, ltb-true, ne_eqb, length-append, length-map, All-append, All-contains, All-map, Contains-append_left, Contains-append_right, Contains-get_or, none-some, same_Some, slice_get-get_or, slice_get_read, slice_get_within, below, RisesBy, across, alone, sum_below, across-none, across-some, alone-none, alone-some, sum-differs, sum-zero, gives, Meaning, a_type, at_itself, kind_index, Atom, IsSameRule, Rule, SymbolKey, is_rule_below, is_consistent, is_rule_of, rule_of, meaning_in, NumberedRule, atom_of, is_named, name_at, members_of, covers-named, covers-none, differs, one_if, goes, turns, AdjustsAtLeast, AdjustsAtMost, Counter, given, gives_by, AreApart, IsPolicy, Policy}
 use Rattle.cil_sums.proofs.PairLemmas.{at-most-all, from-mapped as from-map, mapped, pairs-append, pairs-map}
 use Rattle.cil_specs.specs.Statements.{allow}
 use Rattle.cil_delta_specs.specs.Dirty.{HasGiver, OnlyOne}

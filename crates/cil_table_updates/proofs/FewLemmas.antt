@@ -1,6 +1,5 @@
 -- What bounds the adjustments by counters bounds them by the changes between the lines.
-use Rattle.std.proofs.Common.{◌≡◌, ◌≢◌, ℕ, ◌&&◌, Bool, true, false, Equal, Less, List, ◌++◌, get_or, map, not, refl, sym, ap, ◌∙◌, inl, inr, arith, true≢false}
-use Rattle.cil_table_updates.proofs.Common.{AllPairs, Contains, length-append, length-map, All-map, Contains-append_cases, Contains-get_or, Meaning, is_in_table, Atom, SymbolKey, atom_of, AdjustsAtLeast, AdjustsAtMost, Counter}
+use Rattle.cil_table_updates.proofs.Common.{◌≡◌, ◌≢◌, ℕ, ◌&&◌, Bool, true, false, Equal, Less, List, ◌++◌, get_or, map, not, refl, sym, ap, ◌∙◌, inl, inr, arith, true≢false, AllPairs, Contains, length-append, length-map, All-map, Contains-append_cases, Contains-get_or, Meaning, is_in_table, Atom, SymbolKey, atom_of, AdjustsAtLeast, AdjustsAtMost, Counter}
 use Rattle.std.specs.List.Sorted.{IsStrictlySortedBy}
 use Rattle.std.proofs.lemmas.Cmp.{tied_itself}
 use Rattle.std.proofs.lemmas.Map.Keys.{Less-from_sorted}

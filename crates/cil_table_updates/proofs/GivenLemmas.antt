@@ -1,6 +1,5 @@
 -- What the rules of a policy give, summed up, and by full names.
-use Rattle.std.proofs.Common.{◌≡◌, ℕ, zero, suc, ◌+◌, ◌&&◌, Bool, true, false, cond, count_by, length, map, List, [], ◌∷◌, slice_get, Option, Some, refl, sym, ap, ◌∙◌, inl, inr, arith, add-one, zero-add}
-use Rattle.cil_table_updates.proofs.Common.{list_all, cases_Bool, alone, sum_below, alone-none, sum-more, sum-none, count_of, gives, SymbolKey, is_rule_below, is_consistent, is_rule_of, rule_of, meaning_in, NumberedRule, Resolved, atom_of, is_named, AreMembersOf, covers_by, members_of, covers-named, covers-none, one_if, given, gives_by, count_named, AreApart, IsPolicy, Policy}
+use Rattle.cil_table_updates.proofs.Common.{◌≡◌, ℕ, zero, suc, ◌+◌, ◌&&◌, Bool, true, false, cond, count_by, length, map, List, [], ◌∷◌, slice_get, Option, Some, refl, sym, ap, ◌∙◌, inl, inr, arith, add-one, zero-add, list_all, cases_Bool, alone, sum_below, alone-none, sum-more, sum-none, count_of, gives, SymbolKey, is_rule_below, is_consistent, is_rule_of, rule_of, meaning_in, NumberedRule, Resolved, atom_of, is_named, AreMembersOf, covers_by, members_of, covers-named, covers-none, one_if, given, gives_by, count_named, AreApart, IsPolicy, Policy}
 use Rattle.std.specs.Option.{option_map_or}
 use Rattle.std.proofs.lemmas.List.Sums.{sum_by-cons}
 use Rattle.cil_parse.specs.Lexicon.{AreNumbersOf}

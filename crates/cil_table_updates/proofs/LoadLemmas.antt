@@ -1,6 +1,5 @@
 -- The counters that rise where a first policy is counted are those of accesses that its rules give.
-use Rattle.std.proofs.Common.{◌≡◌, ◌≢◌, ℕ, ◌+◌, ◌<◌, ◌&&◌, true, List, get_or, length, map, nat_lt, refl, sym, ap, ◌∙◌, subst, inr, arith}
-use Rattle.cil_table_updates.proofs.Common.{list_all, Contains, lt-ltb, ltb-true, length-map, All-contains, All-map, Contains-get_or, below, RisesBy, sum_below, sum-differs, sum-zero, gives, Meaning, Atom, IsSameRule, Rule, SymbolKey, is_rule_below, is_consistent, rule_of, meaning_in, comes, AdjustsAtLeast, AdjustsAtMost, Counter, given, AreApart, IsPolicy, Policy}
+use Rattle.cil_table_updates.proofs.Common.{◌≡◌, ◌≢◌, ℕ, ◌+◌, ◌<◌, ◌&&◌, true, List, get_or, length, map, nat_lt, refl, sym, ap, ◌∙◌, subst, inr, arith, list_all, Contains, lt-ltb, ltb-true, length-map, All-contains, All-map, Contains-get_or, below, RisesBy, sum_below, sum-differs, sum-zero, gives, Meaning, Atom, IsSameRule, Rule, SymbolKey, is_rule_below, is_consistent, rule_of, meaning_in, comes, AdjustsAtLeast, AdjustsAtMost, Counter, given, AreApart, IsPolicy, Policy}
 use Rattle.cil_sums.proofs.PairLemmas.{at-most-all, mapped, pairs-map}
 use Rattle.cil_delta_specs.specs.Dirty.{HasGiver, OnlyOne}
 use Rattle.cil_matching.specs.Spot as spots

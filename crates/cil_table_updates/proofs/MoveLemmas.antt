@@ -1,7 +1,6 @@
 -- A rule's counters moved by what it reaches.
-use Rattle.std.proofs.Common.{◌≡◌, ℕ, ◌==◌, ◌&&◌, Bool, true, false, List, slice_index, refl, sym, ap, ◌∙◌}
+use Rattle.cil_table_updates.proofs.Common.{◌≡◌, ℕ, ◌==◌, ◌&&◌, Bool, true, false, List, slice_index, refl, sym, ap, ◌∙◌, is_kind, SymbolKey, NumberedRule, count_before, aims_by, covers_by, has_by, has_permission, has_source, one_if, reaches, takes, RuleHead, given, gives_as, lists, HaveSameHead, IsReplaced, Policy}
 use Rattle.std.proofs.Math.Bool.{and-false}
-use Rattle.cil_table_updates.proofs.Common.{is_kind, SymbolKey, NumberedRule, count_before, aims_by, covers_by, has_by, has_permission, has_source, one_if, reaches, takes, RuleHead, given, gives_as, lists, HaveSameHead, IsReplaced, Policy}
 use Rattle.cil_member_rows.specs.Rows.{count_now}
 use Rattle.cil_recorded.specs.Recorded.{State}
 use Rattle.cil_rule_shifts.specs.Reach.{gives}

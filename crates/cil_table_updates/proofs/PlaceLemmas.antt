@@ -1,6 +1,5 @@
 -- Items at places, and answers of places.
-use Rattle.std.proofs.Common.{◌≡◌, ◌↔◌, ℕ, ◌<◌, Bool, true, List, length, get_or, slice_get, Option, None, Some, [], bytes_eq, inl, inr, refl, sym, ap, ◌∙◌}
-use Rattle.cil_table_updates.proofs.Common.{list_all, IsDistinct, cases_Bool, get_or_from_slice_get, slice_get_read, slice_get_within, AreApart}
+use Rattle.cil_table_updates.proofs.Common.{◌≡◌, ◌↔◌, ℕ, ◌<◌, Bool, true, List, length, get_or, slice_get, Option, None, Some, [], bytes_eq, inl, inr, refl, sym, ap, ◌∙◌, list_all, IsDistinct, cases_Bool, get_or_from_slice_get, slice_get_read, slice_get_within, AreApart}
 use Rattle.std.proofs.lemmas.List.Folds.{list_all_at}
 use Rattle.cil_bind.proofs.NamespaceLemmas.{distinct-place}
 

@@ -1,6 +1,5 @@
 -- Counters of accesses brought from one policy to another.
-use Rattle.std.proofs.Common.{◌≡◌, ℕ, ◌+◌, ◌≤◌, true, List, length, slice_get, Some, sym, ap, ◌∙◌, subst, arith}
-use Rattle.cil_table_updates.proofs.Common.{list_all, length-map, slice_get_within, across, alone, sum_below, ArePlaces, sum-sides, IsSameRule, count_before, is_rule_below, rule_of, meaning_in, NumberedRule, Resolved, covers_by, members_of, AreReplaced, AreApart, IsPolicy, Policy}
+use Rattle.cil_table_updates.proofs.Common.{◌≡◌, ℕ, ◌+◌, ◌≤◌, true, List, length, slice_get, Some, sym, ap, ◌∙◌, subst, arith, list_all, length-map, slice_get_within, across, alone, sum_below, ArePlaces, sum-sides, IsSameRule, count_before, is_rule_below, rule_of, meaning_in, NumberedRule, Resolved, covers_by, members_of, AreReplaced, AreApart, IsPolicy, Policy}
 use Rattle.cil_specs.specs.Rule as spec
 use Rattle.cil_matching.specs.Matching.{Matched, AreMatched, AreSameAt}
 use Rattle.cil_matching.proofs.MatchedLemmas.{from-mapped}

@@ -1,3 +1,4 @@
+pub mod Common
 pub mod Policies
 pub mod Given
 pub mod Moves

@@ -1,21 +1,8 @@
 //! Counters of the accesses of a first policy, counted from nothing.
 
-ghost use Rattle.std.specs.Prelude.{◌≡◌, ◌+◌, ◌≤◌, ℕ, IsTrue, length, OnOk};
+ghost use Rattle.cil_table_updates.specs.Common.{◌≡◌, ◌+◌, ◌≤◌, ℕ, IsTrue, length, OnOk, AreNumbersOf, is_rule_below, adjustments_in, evaluations_in, meaning_in, AreMembersOf, one_if, below, RisesBy, sum_below, count_now, steps_in, RiseAtMost, comes, gives_it, AdjustsAtLeast, AdjustsAtMost, given, gives_by, IsKnown, IsReady, count_named};
 ghost use Rattle.cil_member_rows.specs.Rows as members;
-ghost use Rattle.cil_parse.specs.Lexicon.{AreNumbersOf};
-ghost use Rattle.cil_resolve.specs.Below.{is_rule_below};
-ghost use Rattle.cil_resolve.specs.Meter.{adjustments_in, evaluations_in};
-ghost use Rattle.cil_resolve.specs.Resolved.{meaning_in};
-ghost use Rattle.cil_rule_reach.specs.Named.{AreMembersOf};
-ghost use Rattle.cil_rule_shifts.specs.Reach.{one_if};
 ghost use Rattle.cil_specs.specs.Meaning.{Meaning};
-ghost use Rattle.cil_sums.specs.Rises.{below, RisesBy};
-ghost use Rattle.cil_sums.specs.Sums.{sum_below};
-ghost use Rattle.cil_keyed_lines.specs.Keyed.{count_now, steps_in, RiseAtMost};
-ghost use Rattle.cil_table_updates.specs.Adjusted.{comes, gives_it, AdjustsAtLeast, AdjustsAtMost};
-ghost use Rattle.cil_table_updates.specs.Given.{given, gives_by};
-ghost use Rattle.cil_table_updates.specs.Moves.{IsKnown, IsReady};
-ghost use Rattle.cil_table_updates.specs.Policies.{count_named};
 
 use crate::policy::{Named, Policy};
 use cil_keyed_lines::{KeyedLines, SymbolKey};

@@ -1,14 +1,6 @@
 //! Counters moved from what a rule gave to what it gives.
 
-ghost use Rattle.std.specs.Prelude.{◌≡◌, ◌+◌, ◌≤◌, ◌&&◌, ℕ, IsTrue, length, OnOk};
-ghost use Rattle.cil_resolve.specs.Below.{is_rule_below};
-ghost use Rattle.cil_resolve.specs.Meter.{adjustments_in, evaluations_in};
-ghost use Rattle.cil_rule_shifts.specs.Reach.{one_if, IsShort};
-ghost use Rattle.cil_sums.specs.Rises.{RisesBy};
-ghost use Rattle.cil_keyed_lines.specs.Keyed.{count_before, count_now, NoneRises, RiseAtMost};
-ghost use Rattle.cil_table_updates.specs.Adjusted.{gives_it, replaces, shifts};
-ghost use Rattle.cil_table_updates.specs.Given.{gives_by};
-ghost use Rattle.cil_table_updates.specs.Moves.{gives_as, HaveSameHead, IsKnown};
+ghost use Rattle.cil_table_updates.specs.Common.{◌≡◌, ◌+◌, ◌≤◌, ◌&&◌, ℕ, IsTrue, length, OnOk, is_rule_below, adjustments_in, evaluations_in, one_if, IsShort, RisesBy, count_before, count_now, NoneRises, RiseAtMost, gives_it, replaces, shifts, gives_by, gives_as, HaveSameHead, IsKnown};
 
 use crate::policy::Policy;
 use cil_keyed_lines::{KeyedLines, SymbolKey};

@@ -1,13 +1,6 @@
 //! Rules taken out, put in and replaced, one by one.
 
-ghost use Rattle.std.specs.Prelude.{◌≡◌, ◌+◌, ◌≤◌, ◌<◌, ℕ, length, OnOk};
-ghost use Rattle.cil_resolve.specs.Meter.{adjustments_in, evaluations_in};
-ghost use Rattle.cil_sums.specs.Rises.{below, RisesBy};
-ghost use Rattle.cil_sums.specs.Sums.{across, alone, sum_below};
-ghost use Rattle.cil_keyed_lines.specs.Keyed.{count_before, count_now, NoneRises, RiseAtMost};
-ghost use Rattle.cil_table_updates.specs.Adjusted.{goes, swaps, turns};
-ghost use Rattle.cil_table_updates.specs.Given.{given};
-ghost use Rattle.cil_table_updates.specs.Moves.{AreReplaced, IsReady, IsReplaced};
+ghost use Rattle.cil_table_updates.specs.Common.{◌≡◌, ◌+◌, ◌≤◌, ◌<◌, ℕ, length, OnOk, adjustments_in, evaluations_in, below, RisesBy, across, alone, sum_below, count_before, count_now, NoneRises, RiseAtMost, goes, swaps, turns, given, AreReplaced, IsReady, IsReplaced};
 
 use crate::changed_rows::ChangedRows;
 use crate::moves::{put_rule, replace_rule, take_rule};

@@ -1,15 +1,8 @@
 //! One of two policies, by symbols.
 
-ghost use Rattle.std.specs.Prelude.{◌≡◌, ◌≤◌, IsTrue, length};
+ghost use Rattle.cil_table_updates.specs.Common.{◌≡◌, ◌≤◌, IsTrue, length, AreNumbersOf, is_rule_below, meaning_in, AreMembersOf, members_at, members_of, IsReady, AreApart, IsPolicy};
 ghost use Rattle.std.specs.List.{list_all};
-ghost use Rattle.cil_parse.specs.Lexicon.{AreNumbersOf};
-ghost use Rattle.cil_resolve.specs.Below.{is_rule_below};
 ghost use Rattle.cil_resolve.specs.Consistent.{is_consistent};
-ghost use Rattle.cil_resolve.specs.Resolved.{meaning_in};
-ghost use Rattle.cil_rule_reach.specs.Named.{AreMembersOf};
-ghost use Rattle.cil_rule_reach.specs.Reaches.{members_at, members_of};
-ghost use Rattle.cil_table_updates.specs.Moves.{IsReady};
-ghost use Rattle.cil_table_updates.specs.Policies.{AreApart, IsPolicy};
 
 use cil_member_rows::MemberRows;
 use cil_resolve::{Resolved, resolved_is_consistent};

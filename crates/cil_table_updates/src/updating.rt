@@ -1,14 +1,7 @@
 //! Counters of accesses brought from an old policy to a new one.
 
-ghost use Rattle.std.specs.Prelude.{◌≡◌, ◌+◌, ◌≤◌, ℕ, length, OnOk};
+ghost use Rattle.cil_table_updates.specs.Common.{◌≡◌, ◌+◌, ◌≤◌, ℕ, length, OnOk, AreNumbersOf, adjustments_in, evaluations_in, meaning_in, AreMembersOf, count_now, StaysBefore, AdjustsAtLeast, AdjustsAtMost, count_named};
 ghost use Rattle.cil_member_rows.specs.Rows as members;
-ghost use Rattle.cil_parse.specs.Lexicon.{AreNumbersOf};
-ghost use Rattle.cil_resolve.specs.Meter.{adjustments_in, evaluations_in};
-ghost use Rattle.cil_resolve.specs.Resolved.{meaning_in};
-ghost use Rattle.cil_rule_reach.specs.Named.{AreMembersOf};
-ghost use Rattle.cil_keyed_lines.specs.Keyed.{count_now, StaysBefore};
-ghost use Rattle.cil_table_updates.specs.Adjusted.{AdjustsAtLeast, AdjustsAtMost};
-ghost use Rattle.cil_table_updates.specs.Policies.{count_named};
 
 use crate::changed_rows::ChangedRows;
 use crate::passes::{put_new, take_gone};

@@ -1,6 +1,5 @@
 -- The words of a list of words and of expressions, one after the other.
-use Rattle.std.proofs.Common.{◌≡◌, ℕ, ◌+◌, ◌<◌, List, ◌∷◌, ◌++◌, length, get_or, map, drop, suc, sym, ap, ◌∙◌, add-one}
-use Rattle.cil_text.proofs.Common.{drop-cons, map-append, leaves, as_referred, word_of, expr_of, exprs_of, Word, Expr}
+use Rattle.cil_text.proofs.Common.{◌≡◌, ℕ, ◌+◌, ◌<◌, List, ◌∷◌, ◌++◌, length, get_or, map, drop, suc, sym, ap, ◌∙◌, add-one, drop-cons, map-append, leaves, as_referred, word_of, expr_of, exprs_of, Word, Expr}
 use Rattle.cil_specs.specs.Names as spec
 
 -- words in one role

@@ -33,6 +33,7 @@ pub use Rattle.cil_text.specs.declared.statement.Expr.{Expr, Row_of-Expr, end_of
 pub use Rattle.cil_text.specs.declared.statement.Statement.{Block', Class, ClassCommon, ClassOrder, Common, Optional', Row_of-Statement, Rule, Statement, Statement-F, TypeAlias, TypeAliasActual, TypeAttribute, TypeAttributeSet, TypeName, end_of-Statement, more_of-Statement, out-Statement, roll-Statement, roll-out-Statement}
 pub use Rattle.cil_text.specs.declared.tree.Tree.{Tree}
 pub use Rattle.cil_text.specs.declared.word.Word.{Word}
+pub use Rattle.std.proofs.Common.{Bool, Bor, Contains, Err, IfErr, IsErrAnd, IsTrue, List, MatchOption, None, Ok, Option, Result, Some, Vec, [], add-one, add-zero, ap, append-nil, append_assoc, arith, bytes_eq, codes, cond, drop, false, get_or, get_or-drop, if◌then◌else◌, inl, inr, length, length-append, length-drop, map, max, nat_le, not, option_map, refl, reverse, rules, subst, suc, sym, take, tests, true, zero, ℕ, ◌&&◌, ◌*◌, ◌++◌, ◌+◌, ◌-◌, ◌<◌, ◌==◌, ◌||◌, ◌∙◌, ◌∷◌, ◌≡◌, ◌≢◌, ◌≤◌, ◌⊎◌}
 pub use Rattle.std.proofs.Math.Seq.{drop-append_seam, drop-cons, set-append_seam, take-append_seam}
 pub use Rattle.std.proofs.lemmas.Bool.{and_parts, eqb-true, not-false, true≢false}
 pub use Rattle.std.proofs.lemmas.Iterator.Search.{all_from_yields_List, any_from_yields_List}

@@ -1,6 +1,5 @@
 -- The reader from step to step, and at the end of the text.
-use Rattle.std.proofs.Common.{◌≡◌, ℕ, ◌<◌, ◌≤◌, List, [], ◌∷◌, ◌++◌, length, drop, map, reverse, ap, sym, ◌∙◌, subst, inr, length-append, length-drop, arith}
-use Rattle.cil_text.proofs.Common.{AllByRecursion, place_at, Part, spelling, IsClean, IsReadingFault, IsUnclosed, unclosed, Mark, opening_at, told, Reads, place_of, trees_in, IsPlaced, GoesOver, HaveMarks, HasRead, open_lists, Open, Reader}
+use Rattle.cil_text.proofs.Common.{◌≡◌, ℕ, ◌<◌, ◌≤◌, List, [], ◌∷◌, ◌++◌, length, drop, map, reverse, ap, sym, ◌∙◌, subst, inr, length-append, length-drop, arith, AllByRecursion, place_at, Part, spelling, IsClean, IsReadingFault, IsUnclosed, unclosed, Mark, opening_at, told, Reads, place_of, trees_in, IsPlaced, GoesOver, HaveMarks, HasRead, open_lists, Open, Reader}
 use Rattle.cil_specs.proofs.PartLemmas.{size-some, clean-push, told-clean, IsRightMark, told-right, all-middle}
 use Rattle.cil_text.proofs.Marks.{marks_in, open_lists-push}
 use Rattle.cil_text.proofs.Going.{inside-open}

@@ -1,6 +1,5 @@
 -- The first word of a statement that is not good.
-use Rattle.std.proofs.Common.{◌≡◌, ℕ, ◌+◌, List, [], ◌∷◌, ◌++◌, get_or, map, zero, suc, Option, Some, None, MatchOption, Result, Ok, Err, IsErrAnd, IfErr, inl, sym, ◌∙◌, ap, subst, refl, Contains, arith}
-use Rattle.cil_text.proofs.Common.{TextFaultKind, code_of, TextFault, IsNoLater, Role, name_fault, IsAtWord, RiseTo, role_offset, at-offset, word_within, no_later-here, place_of, kind_of, shown, FaultIs, AreGood, IsFirstBad, IsFoundAs, Checks}
+use Rattle.cil_text.proofs.Common.{◌≡◌, ℕ, ◌+◌, List, [], ◌∷◌, ◌++◌, get_or, map, zero, suc, Option, Some, None, MatchOption, Result, Ok, Err, IsErrAnd, IfErr, inl, sym, ◌∙◌, ap, subst, refl, Contains, arith, TextFaultKind, code_of, TextFault, IsNoLater, Role, name_fault, IsAtWord, RiseTo, role_offset, at-offset, word_within, no_later-here, place_of, kind_of, shown, FaultIs, AreGood, IsFirstBad, IsFoundAs, Checks}
 use Rattle.cil_specs.specs.Names.{Word}
 use Rattle.cil_text.specs.declared.fault.TextFault as code
 use Rattle.cil_text.specs.declared.fault.TextFault.TheVariants.{Memory, Found}

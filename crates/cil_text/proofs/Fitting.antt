@@ -1,7 +1,6 @@
 -- Operands that fit a form.
-use Rattle.std.proofs.Common.{◌≡◌, List, Option, Some, None, Vec, IsTrue, sym, ◌∙◌, ap, subst, codes}
+use Rattle.cil_text.proofs.Common.{◌≡◌, List, Option, Some, None, Vec, IsTrue, sym, ◌∙◌, ap, subst, codes, Trees, none, are_lists, IsListThen, RuleKind, Target, itself, the_named, rule, put_word, IsTargetThen, IsClassAndPermissions, put_same, list_same, OperandsFit, behind, AreClassAndPermissions, AreWordAndList, Word}
 use Rattle.cil_specs.specs.Names as spec
-use Rattle.cil_text.proofs.Common.{Trees, none, are_lists, IsListThen, RuleKind, Target, itself, the_named, rule, put_word, IsTargetThen, IsClassAndPermissions, put_same, list_same, OperandsFit, behind, AreClassAndPermissions, AreWordAndList, Word}
 
 -- the trees behind a word
 pub scope_operands : (operands inner : Trees) (id : spec.Word) → operands ≡ put_word id inner → IsTrue (are_lists inner) → (operands ≡ put_word id (behind operands)) × IsTrue (are_lists (behind operands))

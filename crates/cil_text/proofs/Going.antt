@@ -1,6 +1,6 @@
 -- One step of the reader for each part.
-use Rattle.std.proofs.Common.{suc, ◌≡◌, ◌≢◌, ℕ, ◌+◌, ◌-◌, ◌<◌, ◌&&◌, Bool, true, false, not, cond, List, [], ◌∷◌, ◌++◌, length, take, drop, get_or, map, reverse, refl, ap, sym, ◌∙◌, subst, append_assoc, append-nil, true≢false, length-append, length-drop, get_or-drop, IsTrue, inr, arith}
-use Rattle.cil_text.proofs.Common.{list_all, prefix_len, eqb-true, length-take-le, length-map, length-reverse, length-set, drop-drop, take-append-drop, prefix_len-le-length, drop-cons, take-append_seam, is_word_byte, is_string_byte, is_comment_byte, Part, comment, word, string, opening, closing, Mark, word_at, string_at, opening_at, closing_before, place_at, Stops, bare_word, StopsBefore, same_run, both_true, second_true, run-passes, run-stops, ends-word, ends-comment, ends-string, ends-opening, ends-closing, place_of, IsPlaced, GoesOver, HaveMarks, IsRead, open_lists, Open, Reader, Node}
+use Rattle.cil_text.proofs.Common.{suc, ◌≡◌, ◌≢◌, ℕ, ◌+◌, ◌-◌, ◌<◌, ◌&&◌, Bool, true, false, not, cond, List, [], ◌∷◌, ◌++◌, length, take, drop, get_or, map, reverse, refl, ap, sym, ◌∙◌, subst, append_assoc, append-nil, length-append, length-drop, get_or-drop, IsTrue, inr, arith, list_all, prefix_len, eqb-true, length-take-le, length-map, length-reverse, length-set, drop-drop, take-append-drop, prefix_len-le-length, drop-cons, take-append_seam, is_word_byte, is_string_byte, is_comment_byte, Part, comment, word, string, opening, closing, Mark, word_at, string_at, opening_at, closing_before, place_at, Stops, bare_word, StopsBefore, same_run, both_true, second_true, run-passes, run-stops, ends-word, ends-comment, ends-string, ends-opening, ends-closing, place_of, IsPlaced, GoesOver, HaveMarks, IsRead, open_lists, Open, Reader, Node}
+use Rattle.std.proofs.Common.{true≢false}
 use Rattle.std.proofs.lemmas.List.Folds.{list_all-append}
 use Rattle.std.proofs.Math.Dec.{eqb}
 use Rattle.std.proofs.Math.ListN.{set}

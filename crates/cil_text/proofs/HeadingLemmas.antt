@@ -1,6 +1,5 @@
 -- The first of the faults of a list, but for those of its inner statements.
-use Rattle.std.proofs.Common.{◌≡◌, ◌≢◌, ℕ, ◌+◌, ◌≤◌, ◌⊎◌, inl, inr, Bool, true, false, not, ◌&&◌, ◌||◌, [], ◌∷◌, refl, sym, ap, ◌∙◌, subst, IsTrue, Contains, arith}
-use Rattle.cil_text.proofs.Common.{true≢false, and_parts, not-false, TextFaultKind, unsupported, misshapen, not_in_optional, code_of, TextFault, IsNoLater, Trees, none, a_word, a_string, a_list, in_order, Form, words_of, is_optional, put_word, Fits, keywords, outside_optionals, is_among, IsAllowed, IsAtWord, IsWordFault, no_keyword, no_fit, in_optional, no_name, IsInnerFault, fits_same, fits_keyword, outside_keyword, inner_of_list, at_bracket, at-offset, word_within, fits_rise, fault_within, no_later-here, front_first, IsFirstBad, IsFaultOf, IsFirstOf, IsHeadingFault, word_of, FaultIs}
+use Rattle.cil_text.proofs.Common.{◌≡◌, ◌≢◌, ℕ, ◌+◌, ◌≤◌, ◌⊎◌, inl, inr, Bool, true, false, not, ◌&&◌, ◌||◌, [], ◌∷◌, refl, sym, ap, ◌∙◌, subst, IsTrue, Contains, arith, true≢false, and_parts, not-false, TextFaultKind, unsupported, misshapen, not_in_optional, code_of, TextFault, IsNoLater, Trees, none, a_word, a_string, a_list, in_order, Form, words_of, is_optional, put_word, Fits, keywords, outside_optionals, is_among, IsAllowed, IsAtWord, IsWordFault, no_keyword, no_fit, in_optional, no_name, IsInnerFault, fits_same, fits_keyword, outside_keyword, inner_of_list, at_bracket, at-offset, word_within, fits_rise, fault_within, no_later-here, front_first, IsFirstBad, IsFaultOf, IsFirstOf, IsHeadingFault, word_of, FaultIs}
 use Rattle.cil_specs.specs.Place.{Place}
 use Rattle.cil_specs.specs.Names.{Word}
 use Rattle.cil_specs.proofs.FaultOrder.{word_at}

@@ -1,6 +1,6 @@
 -- The parts of a reference.
-use Rattle.std.proofs.Common.{◌≡◌, ℕ, Bool, not, ◌&&◌, ◌||◌, ◌==◌, true, false, cond, nat_le, List, [], ◌∷◌, length, Some, None, if◌then◌else◌, refl, sym, ap, ◌∙◌, true≢false}
-use Rattle.cil_text.proofs.Common.{list_all, list_any, slice_split, onto_first, eqb-true, bad_name, reserved, Role, declared, referred, begins_name, is_name_byte, is_name, is_reserved, components, is_spelt, name_fault, first_true, second_true, without_dot}
+use Rattle.cil_text.proofs.Common.{◌≡◌, ℕ, Bool, not, ◌&&◌, ◌||◌, ◌==◌, true, false, cond, nat_le, List, [], ◌∷◌, length, Some, None, if◌then◌else◌, refl, sym, ap, ◌∙◌, list_all, list_any, slice_split, onto_first, eqb-true, bad_name, reserved, Role, declared, referred, begins_name, is_name_byte, is_name, is_reserved, components, is_spelt, name_fault, first_true, second_true, without_dot}
+use Rattle.std.proofs.Common.{true≢false}
 use Rattle.std.proofs.lemmas.List.Splits.{slice_split-cons_no}
 
 -- they are what the text behind a leading dot is split into

@@ -1,6 +1,5 @@
 -- The trees that nodes stand for.
-use Rattle.std.proofs.Common.{◌≡◌, ℕ, ◌+◌, ◌-◌, ◌≤◌, zero, suc, List, [], ◌∷◌, length, take, drop, get_or, refl, ap, sym, ◌∙◌, length-drop, arith}
-use Rattle.cil_text.proofs.Common.{length-take, take_rest, drop-cons, Trees, none, a_word, a_string, a_list, place_of, trees_upto, trees_in, trees_of, tree_then, tree_count, Place, Tree, Node}
+use Rattle.cil_text.proofs.Common.{◌≡◌, ℕ, ◌+◌, ◌-◌, ◌≤◌, zero, suc, List, [], ◌∷◌, length, take, drop, get_or, refl, ap, sym, ◌∙◌, length-drop, arith, length-take, take_rest, drop-cons, Trees, none, a_word, a_string, a_list, place_of, trees_upto, trees_in, trees_of, tree_then, tree_count, Place, Tree, Node}
 use Rattle.cil_text.specs.declared.tree.Tree.TheVariants as trees
 use Rattle.cil_text.specs.declared.node.Node.TheVariants.{Word, String, List as Listed}
 

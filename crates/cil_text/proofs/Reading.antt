@@ -1,6 +1,6 @@
 -- Steps of the reader.
-use Rattle.std.proofs.Common.{suc, ◌≡◌, ℕ, ◌+◌, ◌<◌, ◌≤◌, Bool, true, false, not, List, [], ◌∷◌, ◌++◌, length, take, drop, get_or, refl, ap, sym, ◌∙◌, subst, true≢false, length-append, length-drop, get_or-drop, arith}
-use Rattle.cil_text.proofs.Common.{list_all, prefix_len, drop-cons, get_or_append_left, take-append-drop, drop-drop, length-take-le, prefix_len-le-length, is_comment_byte, is_line_feed, place_at, Part, spelling, IsPart, EndsBefore, Moves, Mark, told, all-at, place_of, IsPlaced, GoesOver, IsRead, open_lists, Reader}
+use Rattle.cil_text.proofs.Common.{suc, ◌≡◌, ℕ, ◌+◌, ◌<◌, ◌≤◌, Bool, true, false, not, List, [], ◌∷◌, ◌++◌, length, take, drop, get_or, refl, ap, sym, ◌∙◌, subst, length-append, length-drop, get_or-drop, arith, list_all, prefix_len, drop-cons, get_or_append_left, take-append-drop, drop-drop, length-take-le, prefix_len-le-length, is_comment_byte, is_line_feed, place_at, Part, spelling, IsPart, EndsBefore, Moves, Mark, told, all-at, place_of, IsPlaced, GoesOver, IsRead, open_lists, Reader}
+use Rattle.std.proofs.Common.{true≢false}
 use Rattle.cil_specs.proofs.PlaceLemmas.{to_right, place_at-run, place_at-small}
 
 pub placed-column : {A : Type 0} (r : Reader A) → IsPlaced r → r.at.column ≤ r.at.offset + 1

@@ -1,6 +1,5 @@
 -- The lists in expressions and statements.
-use Rattle.std.proofs.Common.{◌≡◌, Vec, refl, ap, ◌∙◌}
-use Rattle.cil_text.proofs.Common.{elements, block, optional, Statements, statement, place_of, expr_of, row_expr, word_of, statement_then, row_statements, statements_of, exprs_of, Place, Word, Expr, Row_of-Expr, end_of-Expr, more_of-Expr, Statement, Row_of-Statement, end_of-Statement, more_of-Statement}
+use Rattle.cil_text.proofs.Common.{◌≡◌, Vec, refl, ap, ◌∙◌, elements, block, optional, Statements, statement, place_of, expr_of, row_expr, word_of, statement_then, row_statements, statements_of, exprs_of, Place, Word, Expr, Row_of-Expr, end_of-Expr, more_of-Expr, Statement, Row_of-Statement, end_of-Statement, more_of-Statement}
 use Rattle.cil_text.specs.declared.statement.Expr.TheVariants.{Union}
 use Rattle.cil_text.specs.declared.statement.Expr.TheBlock.{items-the_row-Expr, hidden-the_row-Expr-0, items_hidden-the_row-Expr-0}
 use Rattle.cil_text.specs.declared.statement.Statement.TheVariants.{Block, Optional}

@@ -1,6 +1,5 @@
 -- What the front of trees spells, as the code finds it.
-use Rattle.std.proofs.Common.{◌≡◌, ◌≢◌, ℕ, Bool, true, Option, refl, sym, ◌∙◌, ap, subst, bytes_eq}
-use Rattle.cil_text.proofs.Common.{list_any, Trees, none, a_word, a_string, a_list, put_word, every, operators, Expresses, HasNoOperator, operator_of, AreOperands, operation_spelt, operation_is, no_all, is_nothing, operator_word, SpellsOperation, Expr}
+use Rattle.cil_text.proofs.Common.{◌≡◌, ◌≢◌, ℕ, Bool, true, Option, refl, sym, ◌∙◌, ap, subst, bytes_eq, list_any, Trees, none, a_word, a_string, a_list, put_word, every, operators, Expresses, HasNoOperator, operator_of, AreOperands, operation_spelt, operation_is, no_all, is_nothing, operator_word, SpellsOperation, Expr}
 use Rattle.cil_specs.specs.Place.{Place}
 use Rattle.cil_specs.specs.Names.{Word}
 use Rattle.cil_specs.specs.Expr as spec

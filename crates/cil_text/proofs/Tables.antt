@@ -1,6 +1,5 @@
 -- Looking a word up in a table.
-use Rattle.std.proofs.Common.{◌≡◌, ℕ, Bool, true, false, cond, ◌||◌, List, [], ◌∷◌, map, Bor, refl, ap, ◌∙◌, Option, Some, None, option_map, MatchOption, bytes_eq}
-use Rattle.cil_text.proofs.Common.{find, list_all, list_any, and_parts}
+use Rattle.cil_text.proofs.Common.{◌≡◌, ℕ, Bool, true, false, cond, ◌||◌, List, [], ◌∷◌, map, Bor, refl, ap, ◌∙◌, Option, Some, None, option_map, MatchOption, bytes_eq, find, list_all, list_any, and_parts}
 use Rattle.std.proofs.lemmas.Slice.Eq.{bytes_eq-Decides}
 
 -- a word and what it stands for

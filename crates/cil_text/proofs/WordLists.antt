@@ -1,6 +1,5 @@
 -- Words one after the other.
-use Rattle.std.proofs.Common.{◌≡◌, ◌≢◌, List, [], ◌∷◌, ◌++◌, map, refl, sym, ◌∙◌, ap}
-use Rattle.cil_text.proofs.Common.{map-append, Trees, none, put_word, all_words, word_of, tree_then, Word, Tree}
+use Rattle.cil_text.proofs.Common.{◌≡◌, ◌≢◌, List, [], ◌∷◌, ◌++◌, map, refl, sym, ◌∙◌, ap, map-append, Trees, none, put_word, all_words, word_of, tree_then, Word, Tree}
 use Rattle.cil_specs.specs.Names as spec
 use Rattle.cil_text.specs.declared.tree.Tree.TheVariants as trees
 

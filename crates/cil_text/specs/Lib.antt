@@ -1,3 +1,4 @@
+pub mod Common
 pub mod Image
 pub mod Tree
 pub mod Forest

@@ -1,13 +1,6 @@
 //! Whether the words of a statement are spelt and free as their places ask.
 
-ghost use Rattle.std.specs.Prelude.{◌≡◌, [], ◌∷◌, ◌++◌, map};
-ghost use Rattle.cil_specs.specs.Expr.{leaves};
-ghost use Rattle.cil_specs.specs.Statements.{as_declared, as_referred, target_words, words_of};
-ghost use Rattle.cil_text.specs.Image.{word_of, expr_of, target_of};
-ghost use Rattle.cil_text.specs.Name.{role_of};
-ghost use Rattle.cil_text.specs.Expr.{exprs_of};
-ghost use Rattle.cil_text.specs.Form.{form_of};
-ghost use Rattle.cil_text.specs.Walk.{Checks};
+ghost use Rattle.cil_text.specs.Common.{◌≡◌, [], ◌∷◌, ◌++◌, map, leaves, as_declared, as_referred, target_words, words_of, word_of, expr_of, target_of, role_of, exprs_of, form_of, Checks};
 
 use crate::fault::{ShownWord, TextFault, TextFaultKind};
 use crate::name::{Role, name_fault};

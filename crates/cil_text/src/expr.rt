@@ -1,11 +1,7 @@
 //! Recognising set expressions.
 
-ghost use Rattle.std.specs.Prelude.{◌≡◌, ℕ, IfOk, MatchOption};
+ghost use Rattle.cil_text.specs.Common.{◌≡◌, ℕ, IfOk, MatchOption, a_list, HasNoOperator, trees_of, tree_then, operator_word, SpellsExpr, SpellsElements, SpellsOperation, SpellsOne, SpellsTwo, BeginsOperation};
 ghost use Rattle.cil_specs.specs.Place.{Place as SpecPlace};
-ghost use Rattle.cil_specs.specs.Trees.{a_list};
-ghost use Rattle.cil_specs.specs.Expr.{HasNoOperator};
-ghost use Rattle.cil_text.specs.Image.{trees_of, tree_then};
-ghost use Rattle.cil_text.specs.Expr.{operator_word, SpellsExpr, SpellsElements, SpellsOperation, SpellsOne, SpellsTwo, BeginsOperation};
 
 use crate::split::{only_tree, split_word};
 use crate::statement::Expr;

@@ -1,11 +1,7 @@
 //! Fitting the operands of a statement's first word to its form (CIL Reference Guide, under the
 //! word of each).
 
-ghost use Rattle.std.specs.Prelude.{◌≡◌, ◌≢◌, IfOk};
-ghost use Rattle.cil_specs.specs.Trees.{Trees};
-ghost use Rattle.cil_specs.specs.Shape.{put_word, IsTargetThen};
-ghost use Rattle.cil_text.specs.Image.{place_of, word_of, trees_of, target_of};
-ghost use Rattle.cil_text.specs.Form.{FitsAs, IsWithoutUnordered, AreClasses, AreClassAndPermissions, IsAttributeAndSet};
+ghost use Rattle.cil_text.specs.Common.{◌≡◌, ◌≢◌, IfOk, Trees, put_word, IsTargetThen, place_of, word_of, trees_of, target_of, FitsAs, IsWithoutUnordered, AreClasses, AreClassAndPermissions, IsAttributeAndSet};
 
 use crate::expr::expression;
 use crate::keyword::Keyword;

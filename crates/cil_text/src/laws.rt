@@ -1,12 +1,8 @@
 //! Laws of the definitions, which make the contracts of `read` and `shape` exact. They have no code.
 
-ghost use Rattle.std.specs.Prelude.{◌≡◌, ℕ, false, List, drop, IsTrue};
+ghost use Rattle.cil_text.specs.Common.{◌≡◌, ℕ, false, List, drop, IsTrue, Stops, IsStuck, IsReadingFault, Shapes, IsShapeFault, IsFirstShapeFault, Statements, Trees, Reads, in_order};
 ghost use Rattle.cil_specs.specs.Parts.{Part, IsClean};
-ghost use Rattle.cil_specs.specs.Reading.{Stops, IsStuck, IsReadingFault};
-ghost use Rattle.cil_specs.specs.Shape.{Shapes, IsShapeFault, IsFirstShapeFault};
-ghost use Rattle.cil_specs.specs.Statements.{Statements};
 ghost use Rattle.cil_specs.specs.TextFault.{TextFaultKind, TextFault};
-ghost use Rattle.cil_specs.specs.Trees.{Trees, Reads, in_order};
 
 /// A text spells one list of trees at most.
 pub fn one_reading()

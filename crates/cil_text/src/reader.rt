@@ -1,9 +1,7 @@
 //! The reader: over a text from its front, part by part.
 
-ghost use Rattle.std.specs.Prelude.{◌≡◌, ◌+◌, ◌<◌, ◌^◌, ◌∷◌, ◌++◌, ℕ, List, length, slice_index, IsTrue, IfSome, IfNone};
-ghost use Rattle.std.specs.List.{prefix_len, list_all};
+ghost use Rattle.cil_text.specs.Common.{◌≡◌, ◌+◌, ◌<◌, ◌^◌, ◌∷◌, ◌++◌, ℕ, List, length, slice_index, IsTrue, IfSome, IfNone, prefix_len, list_all, HasOne, place_of, ◌≤◌, IfOk, IfErr, Trees, Reads, IsReadingFault, FaultIs, IsMemory, forest_of};
 ghost use Rattle.cil_specs.specs.Bytes.{is_white as white_byte, is_word_byte as word_byte, is_comment_byte as comment_byte, is_string_byte as string_byte};
-ghost use Rattle.cil_text.specs.Words.{HasOne};
 
 use crate::fault::{ShownWord, TextFault, TextFaultKind};
 use crate::forest::Forest;
@@ -112,7 +110,6 @@ struct Reader<'a, A: Allocator> {
 }
 
 ghost use Rattle.cil_specs.proofs.PlaceLemmas.{to_right as moved_right, next_line as moved_down};
-ghost use Rattle.cil_text.specs.Image.{place_of};
 
 /// The place further right on the same line.
 fn to_right(at: Place, len: usize) -> Place
@@ -308,12 +305,6 @@ impl<'a, A: Allocator + Copy> Reader<'a, A> {
         }
     }
 }
-
-ghost use Rattle.std.specs.Prelude.{◌≤◌, IfOk, IfErr};
-ghost use Rattle.cil_specs.specs.Trees.{Trees, Reads};
-ghost use Rattle.cil_specs.specs.Reading.{IsReadingFault};
-ghost use Rattle.cil_text.specs.Image.{FaultIs, IsMemory};
-ghost use Rattle.cil_text.specs.Forest.{forest_of};
 
 /// Goes over a text to its end.
 fn read_parts<'a, A: Allocator + Copy>(

@@ -1,12 +1,7 @@
 //! Trees from the front on, as the forms of statements ask for them.
 
-ghost use Rattle.std.specs.Prelude.{◌≡◌, ◌≢◌, false, IfOk, MatchOption};
+ghost use Rattle.cil_text.specs.Common.{◌≡◌, ◌≢◌, false, IfOk, MatchOption, Trees, none, are_lists, IsListThen, put_word, tree_then, trees_of, word_of, is_one};
 ghost use Rattle.cil_specs.specs.Names.{Word as SpecWord};
-ghost use Rattle.cil_specs.specs.Trees.{Trees, none, are_lists};
-ghost use Rattle.cil_specs.specs.Expr.{IsListThen};
-ghost use Rattle.cil_specs.specs.Shape.{put_word};
-ghost use Rattle.cil_text.specs.Image.{tree_then, trees_of, word_of};
-ghost use Rattle.cil_text.specs.Tree.{is_one};
 ghost use Rattle.cil_text.specs.Split.{AreWords, AreWordList, AreWordAndList};
 
 use crate::tree::{Tree, TreeSlice};

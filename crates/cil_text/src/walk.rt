@@ -1,14 +1,7 @@
 //! Recognising the statements that trees spell.
 
-ghost use Rattle.std.specs.Prelude.{◌≡◌, ◌&&◌, ◌||◌, false, not, IfOk, IfErr, OnOk, IsTrue};
-ghost use Rattle.cil_specs.specs.Trees.{are_lists};
-ghost use Rattle.cil_specs.specs.Statements.{is_optional, words_of};
-ghost use Rattle.cil_specs.specs.Shape.{is_among, outside_optionals, Shapes, IsFirstShapeFault};
-ghost use Rattle.cil_text.specs.Image.{place_of, trees_of, statements_of, FaultIs};
-ghost use Rattle.cil_text.specs.Forest.{forest_of};
+ghost use Rattle.cil_text.specs.Common.{◌≡◌, ◌&&◌, ◌||◌, false, not, IfOk, IfErr, OnOk, IsTrue, are_lists, is_optional, words_of, is_among, outside_optionals, Shapes, IsFirstShapeFault, place_of, trees_of, statements_of, FaultIs, forest_of, form_of, has_body, inner_of, HasBody, AreGood, IsHeading, IsHeadingFault, IsStatement, IsNext, IsFirstOf, IsFirstAmong};
 ghost use Rattle.cil_text.specs.Keyword.{spelling};
-ghost use Rattle.cil_text.specs.Form.{form_of, has_body, inner_of, HasBody};
-ghost use Rattle.cil_text.specs.Walk.{AreGood, IsHeading, IsHeadingFault, IsStatement, IsNext, IsFirstOf, IsFirstAmong};
 
 use crate::check::{check_statement, fault_at};
 use crate::fault::{ShownWord, TextFault, TextFaultKind};

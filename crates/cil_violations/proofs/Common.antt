@@ -21,6 +21,7 @@ pub use Rattle.cil_violations.specs.Rows.{IsSearch, Tests, all_rows, hits, names
 pub use Rattle.cil_violations.specs.Search.{IsFirstFrom, IsFirstWordFrom, IsWordOf, NoneFrom, NoneFromWord}
 pub use Rattle.cil_violations.specs.declared.row.RowNumbers.{RowNumbers}
 pub use Rattle.cil_violations.specs.declared.search.Search.{Search}
+pub use Rattle.std.proofs.Common.{Bool, Contains, Equal, IfOk, IsTrue, List, MatchOption, None, OnErr, Option, Ordering, Some, [], add-one, ap, append-nil, append_assoc, arith, bit_and, bytes_eq, codes, cond, decimal, drop, drop-cons, eqb, false, get_or, inl, inr, length, length-append, map, min, refl, replicate, rules, set, slice_get, slice_index, subst, suc, sym, take, true, true≢false, w64, zero, ℕ, ◌%◌, ◌&&◌, ◌*◌, ◌++◌, ◌+◌, ◌-◌, ◌/◌, ◌<◌, ◌==◌, ◌^◌, ◌||◌, ◌↔◌, ◌∙◌, ◌∷◌, ◌≡◌, ◌≢◌, ◌≤◌, ◌⊎◌}
 pub use Rattle.std.proofs.lemmas.Bool.{and_from, and_parts, cases_eq, cases_lt, cases_order, eq-eqb, eqb-true, lt-ltb, ltb-true, ne_eqb}
 pub use Rattle.std.proofs.lemmas.Cmp.{nat_cmp_total, tied_itself}
 pub use Rattle.std.proofs.lemmas.List.{drop_all, drop_more, get_or-map, get_or-replicate, get_or-set_other, get_or-set_same, get_or_default, length-map, length-replicate, length-set}

@@ -1,6 +1,5 @@
 -- The rows of tests are those that pass them.
-use Rattle.std.proofs.Common.{◌≡◌, ◌∙◌, inl, inr, ℕ, zero, suc, ◌+◌, ◌<◌, ◌≤◌, Bool, true, false, cond, [], ◌∷◌, refl, sym, ap, subst, arith, true≢false}
-use Rattle.cil_violations.proofs.Common.{cases_eq, AnyByRecursion, any-flat_map, any_from_flat_map, hits, Tests, row_with, target_rows, source_rows, pair_rows, all_rows, RowNumbers}
+use Rattle.cil_violations.proofs.Common.{◌≡◌, ◌∙◌, inl, inr, ℕ, zero, suc, ◌+◌, ◌<◌, ◌≤◌, Bool, true, false, cond, [], ◌∷◌, refl, sym, ap, subst, arith, true≢false, cases_eq, AnyByRecursion, any-flat_map, any_from_flat_map, hits, Tests, row_with, target_rows, source_rows, pair_rows, all_rows, RowNumbers}
 
 -- a number below a bound passes a test, and P holds of it
 pub record Hit (test : ℕ → Bool) (all : ℕ) (P : ℕ → Type 0) : Type 0 where

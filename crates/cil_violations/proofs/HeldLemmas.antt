@@ -1,6 +1,5 @@
 -- What elements hold, by the numbers of names and by full names.
-use Rattle.std.proofs.Common.{◌≡◌, ◌∙◌, ℕ, ◌<◌, true, List, [], bytes_eq, length, slice_get, slice_index, Some, sym, ap, arith}
-use Rattle.cil_violations.proofs.Common.{get_or_from_slice_get, slice_get_within, holds, is_element_below, element_of, meaning_in, name_in, Resolved, is_held_in, symbols_in, AreShort}
+use Rattle.cil_violations.proofs.Common.{◌≡◌, ◌∙◌, ℕ, ◌<◌, true, List, [], bytes_eq, length, slice_get, slice_index, Some, sym, ap, arith, get_or_from_slice_get, slice_get_within, holds, is_element_below, element_of, meaning_in, name_in, Resolved, is_held_in, symbols_in, AreShort}
 use Rattle.cil_bind.proofs.NamespaceLemmas.{distinct-place}
 use Rattle.cil_expression.specs.declared.expression.Element.{Element}
 use Rattle.cil_expression.specs.declared.expression.Element.TheVariants.{«Type»}

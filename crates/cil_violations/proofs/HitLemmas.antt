@@ -1,6 +1,6 @@
 -- The numbers at which a test holds, found one after the other.
-use Rattle.std.proofs.Common.{◌≡◌, ◌∙◌, inl, inr, ℕ, zero, suc, ◌+◌, ◌-◌, ◌<◌, ◌≤◌, Bool, true, false, cond, List, [], ◌∷◌, ◌++◌, length, get_or, flat_map, refl, sym, ap, subst, arith, append_assoc, append-nil, add-one}
-use Rattle.cil_violations.proofs.Common.{cases_eq, NoneFrom, IsFirstFrom, hits}
+use Rattle.cil_violations.proofs.Common.{◌≡◌, ◌∙◌, inl, inr, ℕ, zero, suc, ◌+◌, ◌-◌, ◌<◌, ◌≤◌, Bool, true, false, cond, List, [], ◌∷◌, ◌++◌, length, get_or, refl, sym, ap, subst, arith, append_assoc, append-nil, add-one, cases_eq, NoneFrom, IsFirstFrom, hits}
+use Rattle.std.proofs.Common.{flat_map}
 
 -- none where it holds at none
 pub hits-none : (test : ℕ → Bool) (n from : ℕ) → NoneFrom test from → hits test from n ≡ []

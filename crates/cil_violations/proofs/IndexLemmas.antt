@@ -1,6 +1,5 @@
 -- The allow rules of each class, found one after the other.
-use Rattle.std.proofs.Common.{◌≡◌, ◌∙◌, inl, inr, ℕ, zero, suc, ◌+◌, ◌-◌, ◌<◌, ◌≤◌, ◌==◌, ◌&&◌, Bool, true, false, List, [], length, get_or, set, replicate, Option, Some, None, slice_get, refl, sym, ap, subst, arith, true≢false}
-use Rattle.cil_violations.proofs.Common.{nat_lt, list_all, ltb-true, and_parts, and_from, cases_eq, eqb-true, eq-eqb, ne_eqb, length-replicate, get_or_default, get_or-replicate, get_or-set_same, get_or-set_other, none-some, same_Some, slice_get_cases, slice_get_within, is_element_below, is_target_below, is_rule_below, NumberedRule, NoneFrom, if_there, is_kind, is_allow_of, is_met, IsNext, IsIndexFrom, hits, rules_in, permissions_at, tests_of, IsSearch, share, Search}
+use Rattle.cil_violations.proofs.Common.{◌≡◌, ◌∙◌, inl, inr, ℕ, zero, suc, ◌+◌, ◌-◌, ◌<◌, ◌≤◌, ◌==◌, ◌&&◌, Bool, true, false, List, [], length, get_or, set, replicate, Option, Some, None, slice_get, refl, sym, ap, subst, arith, true≢false, nat_lt, list_all, ltb-true, and_parts, and_from, cases_eq, eqb-true, eq-eqb, ne_eqb, length-replicate, get_or_default, get_or-replicate, get_or-set_same, get_or-set_other, none-some, same_Some, slice_get_cases, slice_get_within, is_element_below, is_target_below, is_rule_below, NumberedRule, NoneFrom, if_there, is_kind, is_allow_of, is_met, IsNext, IsIndexFrom, hits, rules_in, permissions_at, tests_of, IsSearch, share, Search}
 use Rattle.cil_specs.specs.Rule.{kind_index}
 use Rattle.cil_text.specs.Image.{rule_kind_of}
 use Rattle.cil_text.specs.contracts.statement.RuleKindPartialEq.TheImpl as kind_eq

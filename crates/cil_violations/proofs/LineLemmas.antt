@@ -1,6 +1,6 @@
 -- The text of a line, written in parts.
-use Rattle.std.proofs.Common.{◌≡◌, ◌∙◌, ℕ, Bool, true, false, cond, List, [], ◌∷◌, ◌++◌, map, codes, decimal, flat_map, Option, refl, sym, ap, subst, append_assoc}
-use Rattle.cil_violations.proofs.Common.{filter, slice_index_or, Gains, GainsFront, gains-both, gains-then_front, front-longer, RuleHead, rule_head, name_in, Resolved, Violation, rule_place, violation_line, is_among, shared, rule_in, violation_by, head_text, name_text, shared_text, RowNumbers}
+use Rattle.cil_violations.proofs.Common.{◌≡◌, ◌∙◌, ℕ, Bool, true, false, cond, List, [], ◌∷◌, ◌++◌, map, codes, decimal, Option, refl, sym, ap, subst, append_assoc, filter, slice_index_or, Gains, GainsFront, gains-both, gains-then_front, front-longer, RuleHead, rule_head, name_in, Resolved, Violation, rule_place, violation_line, is_among, shared, rule_in, violation_by, head_text, name_text, shared_text, RowNumbers}
+use Rattle.std.proofs.Common.{flat_map}
 use Rattle.std.proofs.lemmas.List.Folds.{flat_map-map}
 
 -- three texts, one after the other

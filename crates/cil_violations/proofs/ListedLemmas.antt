@@ -1,7 +1,7 @@
 -- Lists of names whose symbols are in words.
-use Rattle.std.proofs.Common.{◌≡◌, ◌≢◌, ◌⊎◌, ◌↔◌, ◌∙◌, ℕ, ◌+◌, ◌*◌, ◌/◌, ◌%◌, ◌<◌, ◌==◌, Bool, true, List, length, slice_index, Contains, Some, slice_get, refl, sym, ap, inl, inr, arith, eqb-true, true≢false}
+use Rattle.cil_violations.proofs.Common.{◌≡◌, ◌≢◌, ◌⊎◌, ◌↔◌, ◌∙◌, ℕ, ◌+◌, ◌*◌, ◌/◌, ◌%◌, ◌<◌, ◌==◌, Bool, true, List, length, slice_index, Contains, Some, slice_get, refl, sym, ap, inl, inr, arith, true≢false, nat_cmp, cases_lt, nat_cmp_total, get_or_from_slice_get, slice_get-get_or, slice_get_within, AnyByRecursion, contains_from, contains_to, IsOrdered, hits, NoneFromWord, IsFirstWordFrom, IsWordOf}
 use Rattle.std.specs.Int.{bit_at}
-use Rattle.cil_violations.proofs.Common.{nat_cmp, cases_lt, nat_cmp_total, get_or_from_slice_get, slice_get-get_or, slice_get_within, AnyByRecursion, contains_from, contains_to, IsOrdered, hits, NoneFromWord, IsFirstWordFrom, IsWordOf}
+use Rattle.std.proofs.Common.{eqb-true}
 use Rattle.cil_specs.proofs.ViolationLemmas.{one-sorted}
 use Rattle.cil_violations.specs.Shared.{HasBit}
 use Rattle.cil_violations.proofs.FoundLemmas.{hit-from, hit-to}

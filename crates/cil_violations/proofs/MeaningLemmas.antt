@@ -1,7 +1,7 @@
 -- What passes the tests by numbers violates by names, and the other way round.
-use Rattle.std.proofs.Common.{◌≡◌, ◌∙◌, ℕ, ◌==◌, ◌<◌, true, List, length, map, Some, slice_get, Contains, bytes_eq, sym, ap, subst, eqb-true, eq-eqb}
+use Rattle.cil_violations.proofs.Common.{◌≡◌, ◌∙◌, ℕ, ◌==◌, ◌<◌, true, List, length, map, Some, slice_get, Contains, bytes_eq, sym, ap, subst, list_all, list_any, nat_lt, ltb-true, and_parts, and_from, slice_get-map, holds, aims, covers, AnyByRecursion, any_from, any-map, any_from_map, any-filter, any_from_filter, any_from_test, test_from_any, contains_to, contains_from, any_weaker, is_element_below, is_target_below, is_rule_below, rule_of, element_of, resolved_target_of, meaning_in, name_in, NumberedRule, ResolvedTarget, Resolved, is_held_in, symbols_in, aim_of, is_among, share, shared}
 use Rattle.std.specs.Bool.{IsTrue}
-use Rattle.cil_violations.proofs.Common.{list_all, list_any, nat_lt, ltb-true, and_parts, and_from, slice_get-map, holds, aims, covers, AnyByRecursion, any_from, any-map, any_from_map, any-filter, any_from_filter, any_from_test, test_from_any, contains_to, contains_from, any_weaker, is_element_below, is_target_below, is_rule_below, rule_of, element_of, resolved_target_of, meaning_in, name_in, NumberedRule, ResolvedTarget, Resolved, is_held_in, symbols_in, aim_of, is_among, share, shared}
+use Rattle.std.proofs.Common.{eqb-true, eq-eqb}
 use Rattle.std.specs.Option.{option_map}
 use Rattle.std.proofs.lemmas.Slice.Eq.{bytes_eq-Decides}
 use Rattle.cil_resolve.specs.Consistent.{is_rule_of, is_element_of, is_aim_of}

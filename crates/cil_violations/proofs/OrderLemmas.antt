@@ -1,6 +1,6 @@
 -- The order of violations by numbers.
-use Rattle.std.proofs.Common.{◌≡◌, ◌∙◌, ◌⊎◌, inl, inr, ℕ, zero, suc, ◌<◌, ◌≤◌, Bool, true, false, cond, List, [], ◌∷◌, ◌++◌, length, get_or, Ordering, Less, Equal, refl, sym, ap, arith}
-use Rattle.cil_violations.proofs.Common.{nat_cmp, ordering_then, ordering_reverse, on, then_cmp, Greater, AllByRecursion, flat_map, IsStrictlySortedBy, cases_order, tied_itself, all_weaker, hits, Tests, row_with, target_rows, source_rows, pair_rows, all_rows, RowNumbers}
+use Rattle.cil_violations.proofs.Common.{◌≡◌, ◌∙◌, ◌⊎◌, inl, inr, ℕ, zero, suc, ◌<◌, ◌≤◌, Bool, true, false, cond, List, [], ◌∷◌, ◌++◌, length, get_or, Ordering, Equal, refl, sym, ap, arith, nat_cmp, ordering_then, ordering_reverse, on, then_cmp, Greater, AllByRecursion, flat_map, IsStrictlySortedBy, cases_order, tied_itself, all_weaker, hits, Tests, row_with, target_rows, source_rows, pair_rows, all_rows, RowNumbers}
+use Rattle.std.proofs.Common.{Less}
 use Rattle.std.specs.Cmp.{IsTotalOrder}
 use Rattle.std.proofs.lemmas.Bool.Decides.{nat_tests}
 use Rattle.std.proofs.lemmas.Map.Keys.{Less-from_sorted}

@@ -1,9 +1,9 @@
 -- The types that two rules have in common.
-use Rattle.std.proofs.Common.{◌≡◌, ◌∙◌, ℕ, ◌+◌, ◌<◌, ◌&&◌, true, false, List, [], ◌∷◌, ◌++◌, length, flat_map, get_or, take, slice_get, MatchOption, Option, None, Some, true≢false, refl, sym, ap, subst, arith}
+use Rattle.cil_violations.proofs.Common.{◌≡◌, ◌∙◌, ℕ, ◌+◌, ◌<◌, ◌&&◌, true, false, List, [], ◌∷◌, ◌++◌, length, get_or, take, slice_get, MatchOption, Option, None, Some, true≢false, refl, sym, ap, subst, arith, is_target_below, NumberedRule, aim_of, are_both_held, both_hold, is_held_in, is_known, symbols_in, if_there, hits, names_in, row_with, rows_of, rules_in, source_rows, sources_of, target_rows, targets_of, tests_of, IsSearch, Tests, NoneFromWord, IsFirstWordFrom, Search}
 use Rattle.std.specs.Option.{is_some}
 use Rattle.std.proofs.lemmas.Grind.{common_steps}
 use Rattle.cil_expression.specs.declared.expression.Element.{Element}
-use Rattle.cil_violations.proofs.Common.{is_target_below, NumberedRule, aim_of, are_both_held, both_hold, is_held_in, is_known, symbols_in, if_there, hits, names_in, row_with, rows_of, rules_in, source_rows, sources_of, target_rows, targets_of, tests_of, IsSearch, Tests, NoneFromWord, IsFirstWordFrom, Search}
+use Rattle.std.proofs.Common.{flat_map}
 use Rattle.cil_resolve.specs.declared.numbered.ResolvedTarget.TheVariants as targets
 use Rattle.cil_violations.proofs.HeldLemmas.{known, long}
 use Rattle.cil_violations.proofs.HitLemmas.{hits-none}

@@ -1,6 +1,5 @@
 -- Permissions in order, each once.
-use Rattle.std.proofs.Common.{◌≡◌, ◌∙◌, inl, inr, ℕ, ◌+◌, ◌<◌, List, [], ◌∷◌, ◌++◌, length, get_or, Some, slice_get, Contains, eqb, sym, ap, subst, arith}
-use Rattle.cil_violations.proofs.Common.{dedup, IsSorted, IsPermutation, IsStrictlyIncreasing, nat_cmp, cases_eq, same_Some, NumberedRule, IsOrdered}
+use Rattle.cil_violations.proofs.Common.{◌≡◌, ◌∙◌, inl, inr, ℕ, ◌+◌, ◌<◌, List, [], ◌∷◌, ◌++◌, length, get_or, Some, slice_get, Contains, eqb, sym, ap, subst, arith, dedup, IsSorted, IsPermutation, IsStrictlyIncreasing, nat_cmp, cases_eq, same_Some, NumberedRule, IsOrdered}
 use Rattle.std.proofs.Math.ListN.{get_or-append}
 use Rattle.std.proofs.Math.Seq.{get_or-append_seam}
 use Rattle.std.proofs.lemmas.List.Kept.{Contains-from_dedup, Contains-dedup_nat}

@@ -1,6 +1,5 @@
 -- Whether two lists in order share a permission, told from their fronts.
-use Rattle.std.proofs.Common.{◌≡◌, ◌∙◌, ℕ, zero, suc, ◌+◌, ◌<◌, ◌≤◌, ◌||◌, false, List, [], ◌∷◌, length, drop, get_or, refl, sym, ap, subst, arith, add-one, drop-cons}
-use Rattle.cil_violations.proofs.Common.{AllByRecursion, IsStrictlySortedBy, nat_cmp, Less, ne_eqb, drop_all, is_among, share}
+use Rattle.cil_violations.proofs.Common.{◌≡◌, ◌∙◌, ℕ, zero, suc, ◌+◌, ◌<◌, ◌≤◌, ◌||◌, false, List, [], ◌∷◌, length, drop, get_or, refl, sym, ap, subst, arith, add-one, drop-cons, AllByRecursion, IsStrictlySortedBy, nat_cmp, Less, ne_eqb, drop_all, is_among, share}
 use Rattle.std.proofs.lemmas.Bool.Decides.{nat_tests}
 
 is-less : (a b : ℕ) → nat_cmp a b ≡ Less → a < b

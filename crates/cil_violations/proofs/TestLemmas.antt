@@ -1,6 +1,5 @@
 -- Rules at places, and what their tests tell.
-use Rattle.std.proofs.Common.{◌≡◌, ℕ, zero, suc, ◌<◌, Bool, true, List, [], ◌∷◌, Option, Some, None, slice_get, refl, sym, ap, subst, true≢false}
-use Rattle.cil_violations.proofs.Common.{list_all, and_parts, lt-ltb, none-some, same_Some, is_element_below, is_target_below, ResolvedTarget, aim_of, if_there}
+use Rattle.cil_violations.proofs.Common.{◌≡◌, ℕ, zero, suc, ◌<◌, Bool, true, List, [], ◌∷◌, Option, Some, None, slice_get, refl, sym, ap, subst, true≢false, list_all, and_parts, lt-ltb, none-some, same_Some, is_element_below, is_target_below, ResolvedTarget, aim_of, if_there}
 use Rattle.cil_resolve.specs.declared.numbered.ResolvedTarget.TheVariants as targets
 
 -- what holds of all holds of the one at a place

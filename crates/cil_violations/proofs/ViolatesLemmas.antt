@@ -1,7 +1,7 @@
 -- The rows that pass the tests are the violations of the policy, in order.
-use Rattle.std.proofs.Common.{◌≡◌, ◌≢◌, ◌∙◌, inl, inr, ℕ, ◌==◌, ◌&&◌, ◌<◌, Bool, true, List, [], ◌∷◌, length, map, Some, slice_get, Contains, bytes_eq, Ordering, Less, Equal, refl, sym, ap, subst, arith, eqb-true, eq-eqb}
+use Rattle.cil_violations.proofs.Common.{◌≡◌, ◌≢◌, ◌∙◌, inl, inr, ℕ, ◌==◌, ◌&&◌, ◌<◌, Bool, true, List, [], ◌∷◌, length, map, Some, slice_get, Contains, bytes_eq, Ordering, Equal, refl, sym, ap, subst, arith, nat_lt, AllByRecursion, list_all, list_any, IsStrictlySortedBy, nat_cmp, ordering_then, Greater, ltb-true, and_parts, and_from, cases_order, tied_itself, get_or-map, length-map, slice_get_within, slice_get_read, get_or_from_slice_get, keeps_type, holds, aims, covers, AnyByRecursion, any_from, any-map, any_from_map, any_from_filter, any_from_test, contains_to, contains_from, any_weaker, all_weaker, sorted_map, all_from_contains, is_name_below, rule_of, element_of, resolved_target_of, declared_of, meaning_in, name_in, NumberedRule, ResolvedTarget, is_held_in, Violation, IsViolation, AreViolations, rule_cmp, violation_cmp, aim_of, is_among, share, shared, if_there, is_kind, rules_in, permissions_at, takes_source, takes_target, tests_of, all_rows, IsSearch, rule_in, no_rule, violation_by, IsRow, AreRows, RowNumbers, Search}
 use Rattle.std.specs.Bool.{IsTrue}
-use Rattle.cil_violations.proofs.Common.{nat_lt, AllByRecursion, list_all, list_any, IsStrictlySortedBy, nat_cmp, ordering_then, Greater, ltb-true, and_parts, and_from, cases_order, tied_itself, get_or-map, length-map, slice_get_within, slice_get_read, get_or_from_slice_get, keeps_type, holds, aims, covers, AnyByRecursion, any_from, any-map, any_from_map, any_from_filter, any_from_test, contains_to, contains_from, any_weaker, all_weaker, sorted_map, all_from_contains, is_name_below, rule_of, element_of, resolved_target_of, declared_of, meaning_in, name_in, NumberedRule, ResolvedTarget, is_held_in, Violation, IsViolation, AreViolations, rule_cmp, violation_cmp, aim_of, is_among, share, shared, if_there, is_kind, rules_in, permissions_at, takes_source, takes_target, tests_of, all_rows, IsSearch, rule_in, no_rule, violation_by, IsRow, AreRows, RowNumbers, Search}
+use Rattle.std.proofs.Common.{Less, eqb-true, eq-eqb}
 use Rattle.std.proofs.lemmas.List.Elements.{recursion_from_All, All-from_recursion}
 use Rattle.std.proofs.lemmas.List.Kept.{IsStrictlySortedBy-filter}
 use Rattle.cil_specs.specs.Statements.{allow, neverallow}

@@ -1,7 +1,6 @@
 -- Words of 64 bits that tell numbers.
-use Rattle.std.proofs.Common.{◌≡◌, ◌∙◌, ℕ, ◌+◌, ◌*◌, ◌/◌, ◌%◌, ◌^◌, ◌<◌, ◌≤◌, ◌==◌, ◌&&◌, Bool, false, IsTrue, min, zero, suc, bit_and, w64, refl, sym, ap, inl, inr, arith}
+use Rattle.cil_violations.proofs.Common.{◌≡◌, ◌∙◌, ℕ, ◌+◌, ◌*◌, ◌/◌, ◌%◌, ◌^◌, ◌<◌, ◌≤◌, ◌==◌, ◌&&◌, Bool, false, IsTrue, min, zero, suc, bit_and, w64, refl, sym, ap, inl, inr, arith, cases_eq, eq-eqb, ne_eqb, IsFirstWordFrom, IsWordOf}
 use Rattle.std.specs.Int.{bit_at, trailing_zeros}
-use Rattle.cil_violations.proofs.Common.{cases_eq, eq-eqb, ne_eqb, IsFirstWordFrom, IsWordOf}
 use Rattle.std.proofs.lemmas.Nat.{one_shl}
 use Rattle.std.proofs.lemmas.Nat.Bits.{bit_at-lt, bit_at-pow_other, bit_at-pow_same, bit_at-trailing_zeros, bit_at-zero, bit_at_and}
 

@@ -1,3 +1,4 @@
+pub mod Common
 pub mod Search
 pub mod Held
 pub mod Shared

@@ -1,14 +1,9 @@
 //! Writes violations as lines.
 
-ghost use Rattle.std.specs.Prelude.{◌≡◌, ◌<◌, ◌≤◌, length, OnOk, OnErr};
-ghost use Rattle.std.specs.List.{flat_map};
+ghost use Rattle.cil_violations.specs.Common.{◌≡◌, ◌<◌, ◌≤◌, length, OnOk, OnErr, flat_map, HasFailed, Gains, GainsFront, meaning_in, violation_line, rule_in, place_text, rule_text, access_text, head_text, shared_text, violation_by, IsRow};
 ghost use Rattle.cil_specs.specs.Statements.{rule_word};
-ghost use Rattle.cil_stream.specs.Device.{HasFailed, Gains, GainsFront};
 ghost use Rattle.cil_text.specs.Image.{place_of, rule_kind_of};
-ghost use Rattle.cil_resolve.specs.Resolved.{meaning_in};
 ghost use Rattle.cil_resolve.specs.Views.{rule_seen, rule_head};
-ghost use Rattle.cil_specs.specs.Violations.{violation_line};
-ghost use Rattle.cil_violations.specs.Lines.{rule_in, place_text, rule_text, access_text, head_text, shared_text, violation_by, IsRow};
 
 use crate::permissions::is_among;
 use crate::row::RowNumbers;

@@ -1,9 +1,8 @@
 //! The permissions of rules.
 
-ghost use Rattle.std.specs.Prelude.{◌≡◌, ◌++◌, ◌∷◌, [], ◌<◌, ◌↔◌, ℕ, Contains, IfOk, length};
+ghost use Rattle.cil_violations.specs.Common.{◌≡◌, ◌++◌, ◌∷◌, [], ◌<◌, ◌↔◌, ℕ, Contains, IfOk, length, AreOrdered, IsOrdered, is_among, share};
 ghost use Rattle.std.specs.List.Sorted.{IsStrictlySortedBy};
 ghost use Rattle.std.specs.Ordering.{nat_cmp};
-ghost use Rattle.cil_violations.specs.Permissions.{AreOrdered, IsOrdered, is_among, share};
 
 use cil_parse::Lists;
 use cil_resolve::NumberedRule;

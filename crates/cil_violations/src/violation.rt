@@ -1,9 +1,6 @@
 //! Violations by full names.
 
-ghost use Rattle.std.specs.Prelude.{◌≡◌, ◌==◌, length, slice_get, option_map};
-ghost use Rattle.cil_resolve.specs.Resolved.{meaning_in};
-ghost use Rattle.cil_violations.specs.Lines.{violation_by, IsRow};
-ghost use Rattle.cil_violations.specs.Views.{violation_seen, violation_head};
+ghost use Rattle.cil_violations.specs.Common.{◌≡◌, ◌==◌, length, slice_get, option_map, meaning_in, violation_by, IsRow, violation_seen, violation_head};
 
 use crate::line::rule_at;
 use crate::permissions::is_among;

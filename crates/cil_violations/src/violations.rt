@@ -1,16 +1,9 @@
 //! The violations of a policy.
 
-ghost use Rattle.std.specs.Prelude.{◌≡◌, ◌≤◌, ◌==◌, length, map, slice_get, option_map, IfOk, OnOk, OnErr};
-ghost use Rattle.std.specs.List.{flat_map};
+ghost use Rattle.cil_violations.specs.Common.{◌≡◌, ◌≤◌, ◌==◌, length, map, slice_get, option_map, IfOk, OnOk, OnErr, flat_map, HasFailed, Gains, GainsFront, meaning_in, AreViolations, violation_line, violations_text, symbols_in, line_by, violation_by, AreRows, violation_seen, violation_head};
 ghost use Rattle.std.specs.Rc.{rc_value};
-ghost use Rattle.cil_stream.specs.Device.{HasFailed, Gains, GainsFront};
-ghost use Rattle.cil_resolve.specs.Resolved.{meaning_in};
 ghost use Rattle.cil_member_rows.specs.Rows.{count_now};
 ghost use Rattle.cil_rule_reach.specs.Named.{AreMembersBy};
-ghost use Rattle.cil_specs.specs.Violations.{AreViolations, violation_line, violations_text};
-ghost use Rattle.cil_violations.specs.Held.{symbols_in};
-ghost use Rattle.cil_violations.specs.Lines.{line_by, violation_by, AreRows};
-ghost use Rattle.cil_violations.specs.Views.{violation_seen, violation_head};
 
 use crate::index::ClassIndex;
 use crate::line::write_line;

@@ -1,10 +1,6 @@
 //! The bits at a settling.
 
-ghost use Rattle.std.specs.Prelude.{◌≡◌, ℕ, length};
-ghost use Rattle.cil_lines.specs.Line.{IsPresence};
-ghost use Rattle.cil_recorded.specs.Recorded.{count_now};
-ghost use Rattle.cil_member_rows.specs.Held.{bits_at, words_of};
-ghost use Rattle.cil_member_rows.specs.Rows.{IsHeld};
+ghost use Rattle.cil_member_rows.specs.Common.{◌≡◌, ℕ, length, IsPresence, count_now, bits_at, words_of, IsHeld};
 
 use crate::bit_row::BitRow;
 use crate::held;

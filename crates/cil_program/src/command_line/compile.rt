@@ -1,11 +1,6 @@
 //! The compilation of entries at once.
 
-ghost use Rattle.std.specs.Prelude.{◌≡◌, ◌⊎◌, ◌≤◌, [], List, ℕ, map, length, IfOk, IsErrOf, OnErr};
-ghost use Rattle.cil_stream.specs.Device.{Gains, GainsFront, HasFailed};
-ghost use Rattle.cil_store_specs.specs.Next.{for_memory, Of, accepts};
-ghost use Rattle.cil_store_specs.specs.Script.{refusal_line};
-ghost use Rattle.cil_store.specs.Stored.{entry_of};
-ghost use Rattle.cil_program.specs.CommandLine.{Compiles};
+ghost use Rattle.cil_program.specs.Common.{◌≡◌, ◌⊎◌, ◌≤◌, [], List, ℕ, map, length, IfOk, IsErrOf, OnErr, Gains, GainsFront, HasFailed, for_memory, Of, accepts, refusal_line, entry_of, Compiles};
 
 use crate::script::reply;
 use cil_store::{Entry, Policy, Seed, WriteFault};

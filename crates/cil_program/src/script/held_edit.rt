@@ -1,10 +1,6 @@
 //! The edits that an open batch holds.
 
-ghost use Rattle.std.specs.Prelude.{◌≡◌, IfOk};
-ghost use Rattle.cil_store_specs.specs.Next.{install};
-ghost use Rattle.cil_store_specs.specs.Answers.{held_as};
-ghost use Rattle.cil_store.specs.Edits.{edit_of};
-ghost use Rattle.cil_program.specs.HeldEdit.{held_edit};
+ghost use Rattle.cil_program.specs.Common.{◌≡◌, IfOk, install, held_as, edit_of, held_edit};
 
 use cil_resolve::Text;
 use cil_store::Edit;

@@ -1,10 +1,7 @@
 //! What a session reads from its source, and holds back until it reads on.
 
-ghost use Rattle.std.specs.Prelude.{◌≡◌, ◌≢◌, ◌↔◌, ◌+◌, ◌<◌, ◌≤◌, ◌^◌, ◌∷◌, [], false, ℕ, List, length, count_by, IsTrue, IfOk, IfSome, IfNone, OnErr};
-ghost use Rattle.std.specs.List.{list_all};
+ghost use Rattle.cil_program.specs.Common.{◌≡◌, ◌≢◌, ◌↔◌, ◌+◌, ◌<◌, ◌≤◌, ◌^◌, ◌∷◌, [], false, ℕ, List, length, count_by, IsTrue, IfOk, IfSome, IfNone, OnErr, list_all, HasFailed, HasEnded, Gives, HasStopped};
 ghost use Rattle.cil_specs.specs.Place.{is_line_feed};
-ghost use Rattle.cil_stream.specs.Device.{HasFailed, HasEnded, Gives};
-ghost use Rattle.cil_program.specs.Input.{HasStopped};
 
 use crate::script::line::Line;
 use cil_stream::{Source, SourceFault};

@@ -1,9 +1,6 @@
 //! Scripts that stand in memory as a whole.
 
-ghost use Rattle.std.specs.Prelude.{◌≡◌, ◌≤◌, ◌++◌, List, ℕ, true, IfOk, OnOk, IsErrOf};
-ghost use Rattle.cil_store_specs.specs.Session.{IsSession, IsCutByRead, IsCutByWrite};
-ghost use Rattle.cil_stream.specs.Device.{HasFailed, Gains};
-ghost use Rattle.cil_program.specs.Session.{status_of};
+ghost use Rattle.cil_program.specs.Common.{◌≡◌, ◌≤◌, ◌++◌, List, ℕ, true, IfOk, OnOk, IsErrOf, IsSession, IsCutByRead, IsCutByWrite, HasFailed, Gains, status_of};
 
 use crate::script::session::{SessionFault, Status, session};
 use cil_store::Compiled;

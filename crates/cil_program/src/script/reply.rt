@@ -1,16 +1,10 @@
 //! The lines that answer a script (a form of this project's own).
 
-ghost use Rattle.std.specs.Prelude.{◌+◌, ◌++◌, flat_map, length};
-ghost use Rattle.cil_store_specs.specs.Next.{by_store, at_place, for_memory};
+ghost use Rattle.cil_program.specs.Common.{◌+◌, ◌++◌, flat_map, length, by_store, at_place, for_memory, refusal_line, reply_text, end_line, last_line, stops, dump_edits, dump_commands, dump_text, dropped_optionals, refusal_of, entry_of, Writes, counts_line};
 ghost use Rattle.cil_specs.specs.Report.{dropped_line};
-ghost use Rattle.cil_store_specs.specs.Script.{refusal_line, reply_text, end_line, last_line, stops, dump_edits, dump_commands, dump_text};
-ghost use Rattle.cil_store_specs.specs.Run.{dropped_optionals};
 ghost use Rattle.cil_text.specs.Image.{place_of};
 ghost use Rattle.cil_resolve.specs.Views.{declared_seen};
 ghost use Rattle.cil_store_specs.specs.StoreReport.{entry_text, modules_text};
-ghost use Rattle.cil_store.specs.Edits.{refusal_of};
-ghost use Rattle.cil_store.specs.Stored.{entry_of};
-ghost use Rattle.cil_program.specs.Reply.{Writes, counts_line};
 ghost use Rattle.cil_program.specs.Dump.{edit_command, install_command, disable_command};
 
 use cil_resolve::NameView;

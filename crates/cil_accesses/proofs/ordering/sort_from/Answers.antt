@@ -1,5 +1,4 @@
-use Rattle.std.proofs.Common.{◌≡◌, ◌-◌, ◌∙◌, IsPermutation, List, length, subst, sym}
-use Rattle.cil_accesses.proofs.Common.{with_items_is, Chunk}
+use Rattle.cil_accesses.proofs.Common.{◌≡◌, ◌-◌, ◌∙◌, IsPermutation, List, length, subst, sym, with_items_is, Chunk}
 use Rattle.std.proofs.lemmas.List.Sorted.{IsPermutation-put_mid, length_permutation}
 use Rattle.cil_accesses.proofs.ordering.sort_from.Goals as goal
 

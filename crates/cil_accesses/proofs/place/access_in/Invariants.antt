@@ -1,5 +1,4 @@
-use Rattle.std.proofs.Common.{◌≡◌, ◌<◌, ◌^◌, length, slice_get}
-use Rattle.cil_accesses.proofs.Common.{All, accesses_of}
+use Rattle.cil_accesses.proofs.Common.{◌≡◌, ◌<◌, ◌^◌, length, slice_get, All, accesses_of}
 use Rattle.cil_accesses.proofs.place.access_in.Given as goal
 
 abbrev pub invariant-loop-run : goal.invariant-loop-run

@@ -1,5 +1,4 @@
-use Rattle.std.proofs.Common.{◌≡◌, ◌<◌, ◌+◌, MatchOption, sum_by, length, sym, ap, subst, arith, take_all}
-use Rattle.cil_accesses.proofs.Common.{ones_of, run_accesses}
+use Rattle.cil_accesses.proofs.Common.{◌≡◌, ◌<◌, ◌+◌, MatchOption, sum_by, length, sym, ap, subst, arith, take_all, ones_of, run_accesses}
 use Rattle.cil_accesses.proofs.Counts.{length-run_accesses, within-next}
 use Rattle.cil_accesses.proofs.place.behind_run.Goals as goal
 

@@ -1,5 +1,4 @@
-use Rattle.std.proofs.Common.{◌≡◌, ◌∙◌, ◌<◌, ◌^◌, Bool, true, false, bit_or, get_or, if◌then◌else◌, refl, ap, arith}
-use Rattle.cil_accesses.proofs.Common.{get_or_default, All-set, Chunk, nowhere, with_bits, of_one_key, taking_up}
+use Rattle.cil_accesses.proofs.Common.{◌≡◌, ◌∙◌, ◌<◌, ◌^◌, Bool, true, false, bit_or, get_or, if◌then◌else◌, refl, ap, arith, get_or_default, All-set, Chunk, nowhere, with_bits, of_one_key, taking_up}
 use Rattle.cil_accesses.proofs.Renumbering.{taken-up}
 use Rattle.cil_accesses.proofs.renumber.add_to.Goals as goal
 

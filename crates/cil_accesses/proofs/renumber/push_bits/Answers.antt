@@ -1,5 +1,5 @@
-use Rattle.std.proofs.Common.{◌+◌, ◌*◌, ◌∙◌, sym, ap, subst, arith, eqb-true}
-use Rattle.cil_accesses.proofs.Common.{on_ok_weaker, bit_at, renumbered}
+use Rattle.cil_accesses.proofs.Common.{◌+◌, ◌*◌, ◌∙◌, sym, ap, subst, arith, on_ok_weaker, bit_at, renumbered}
+use Rattle.std.proofs.Common.{eqb-true}
 use Rattle.cil_accesses.proofs.Members.{access-of}
 use Rattle.cil_accesses.proofs.NextBits.{first-held, IsHeld, last-added, other-word, same-word}
 use Rattle.cil_accesses.proofs.Shifts.{target-within}

@@ -1,5 +1,4 @@
-use Rattle.std.proofs.Common.{get_or, sym, arith}
-use Rattle.cil_accesses.proofs.Common.{prefix_len_is, nowhere, has_class}
+use Rattle.cil_accesses.proofs.Common.{get_or, sym, arith, prefix_len_is, nowhere, has_class}
 use Rattle.cil_accesses.proofs.RowPlaces.{other-class}
 use Rattle.cil_accesses.proofs.rows.class_len.Goals as goal
 

@@ -1,5 +1,4 @@
-use Rattle.std.proofs.Common.{◌≡◌, ◌<◌, ◌≤◌, ◌-◌, ℕ, true, get_or, length}
-use Rattle.cil_accesses.proofs.Common.{Chunk, has_class}
+use Rattle.cil_accesses.proofs.Common.{◌≡◌, ◌<◌, ◌≤◌, ◌-◌, ℕ, true, get_or, length, Chunk, has_class}
 use Rattle.cil_accesses.proofs.rows.class_len.Given as goal
 
 abbrev pub invariant-loop-len : goal.invariant-loop-len

@@ -1,5 +1,4 @@
-use Rattle.std.proofs.Common.{◌<◌, ◌^◌, subst}
-use Rattle.cil_accesses.proofs.Common.{All-contains, at_place, IsNextRow}
+use Rattle.cil_accesses.proofs.Common.{◌<◌, ◌^◌, subst, All-contains, at_place, IsNextRow}
 use Rattle.cil_accesses.proofs.Moves.{behind, behind-is, row-is}
 use Rattle.cil_accesses.proofs.RowPlaces.{first-of-run}
 use Rattle.cil_accesses.proofs.rows.next_row.Goals as goal

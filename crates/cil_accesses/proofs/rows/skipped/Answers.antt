@@ -1,5 +1,4 @@
-use Rattle.std.proofs.Common.{◌∙◌, not, sym, ap, arith}
-use Rattle.cil_accesses.proofs.Common.{prefix_len_is, nowhere, has_bit}
+use Rattle.cil_accesses.proofs.Common.{◌∙◌, not, sym, ap, arith, prefix_len_is, nowhere, has_bit}
 use Rattle.cil_accesses.proofs.rows.skipped.Goals as goal
 
 pub returns-else-not-has_bit-clause-all : goal.returns-else-not-has_bit-clause-all

@@ -1,5 +1,4 @@
-use Rattle.std.proofs.Common.{◌≡◌, ◌<◌, ◌≤◌, ◌-◌, ℕ, true, not, get_or, length}
-use Rattle.cil_accesses.proofs.Common.{Chunk, has_bit}
+use Rattle.cil_accesses.proofs.Common.{◌≡◌, ◌<◌, ◌≤◌, ◌-◌, ℕ, true, not, get_or, length, Chunk, has_bit}
 use Rattle.cil_accesses.proofs.rows.skipped.Given as goal
 
 abbrev pub invariant-loop-count : goal.invariant-loop-count

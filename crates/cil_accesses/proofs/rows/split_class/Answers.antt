@@ -1,5 +1,4 @@
-use Rattle.std.proofs.Common.{◌≡◌, ◌∙◌, [], MatchOption, sym, subst}
-use Rattle.cil_accesses.proofs.Common.{IsNextClass, at_bit}
+use Rattle.cil_accesses.proofs.Common.{◌≡◌, ◌∙◌, [], MatchOption, sym, subst, IsNextClass, at_bit}
 use Rattle.cil_accesses.proofs.Moves.{next-class, no-class}
 use Rattle.cil_accesses.proofs.RowPlaces.{empty-first}
 use Rattle.cil_accesses.proofs.rows.split_class.Goals as goal

@@ -1,5 +1,4 @@
-use Rattle.std.proofs.Common.{◌∙◌, ◌≡◌, true, get_or, sym, below_more, arith}
-use Rattle.cil_accesses.proofs.Common.{prefix_len_is, in_run, nowhere}
+use Rattle.cil_accesses.proofs.Common.{◌∙◌, ◌≡◌, true, get_or, sym, below_more, arith, prefix_len_is, in_run, nowhere}
 use Rattle.cil_accesses.proofs.Places.{holds_at}
 use Rattle.cil_accesses.proofs.run.run_len.Goals as goal
 

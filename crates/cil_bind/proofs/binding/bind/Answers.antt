@@ -1,5 +1,4 @@
-use Rattle.std.proofs.Common.{[], false, None, get_or, sym, ap, ◌∙◌, subst, arith}
-use Rattle.cil_bind.proofs.Common.{Row, none-some, AreBound}
+use Rattle.cil_bind.proofs.Common.{[], false, None, get_or, sym, ap, ◌∙◌, subst, arith, Row, none-some, AreBound}
 use Rattle.cil_bind.proofs.DeclareLemmas.{row-here, row-at}
 use Rattle.cil_bind.proofs.FromLemmas.{from-at}
 use Rattle.cil_bind.proofs.BindingLemmas.{next-bound, rows-all, kinds-next, kinds-all}

@@ -1,5 +1,4 @@
-use Rattle.std.proofs.Common.{◌≡◌, ℕ, List, [], take}
-use Rattle.cil_bind.proofs.Common.{Placed, Knows, AreRows, AreFrom, AreWorded, RemembersOf, AreBound, kinds_of}
+use Rattle.cil_bind.proofs.Common.{◌≡◌, ℕ, List, [], take, Placed, Knows, AreRows, AreFrom, AreWorded, RemembersOf, AreBound, kinds_of}
 use Rattle.cil_bind.proofs.binding.bind.Given as goal
 
 -- so many rows are bound

@@ -1,5 +1,4 @@
-use Rattle.std.proofs.Common.{◌<◌, length, rules, sym, ap, ◌∙◌, subst, arith}
-use Rattle.cil_bind.proofs.Common.{kind_of, AreNumbersOf, names_of, namespace_at}
+use Rattle.cil_bind.proofs.Common.{◌<◌, length, rules, sym, ap, ◌∙◌, subst, arith, kind_of, AreNumbersOf, names_of, namespace_at}
 use Rattle.cil_bind.proofs.WordLemmas.{worded-at, worded-long, numbers-long}
 use Rattle.cil_bind.proofs.FromLemmas.{from-within, is-there}
 use Rattle.cil_bind.proofs.BindingLemmas.{binds-same}

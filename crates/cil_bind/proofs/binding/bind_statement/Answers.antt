@@ -1,5 +1,4 @@
-use Rattle.std.proofs.Common.{◌≤◌, ◌+◌, ◌++◌, ◌∷◌, [], take, length, rules, refl, sym, ap, ◌∙◌, subst}
-use Rattle.cil_bind.proofs.Common.{references, texts_of, namespace_at, AreLeads, most_references}
+use Rattle.cil_bind.proofs.Common.{◌≤◌, ◌+◌, ◌++◌, ◌∷◌, [], take, length, rules, refl, sym, ap, ◌∙◌, subst, references, texts_of, namespace_at, AreLeads, most_references}
 use Rattle.cil_parse.specs.Kinds.{table_of}
 use Rattle.cil_bind.proofs.BindingLemmas.{leads-next, leads-stay, leads-all}
 use Rattle.cil_bind.proofs.ScopeLemmas.{read-within}

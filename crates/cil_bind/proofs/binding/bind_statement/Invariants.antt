@@ -1,5 +1,4 @@
-use Rattle.std.proofs.Common.{◌≡◌, ℕ, List, take}
-use Rattle.cil_bind.proofs.Common.{Placed, references, FlatStatement, AreNumbersOf, names_of, texts_of, IsShown, namespace_at, Knows, Remembers, AreLeads}
+use Rattle.cil_bind.proofs.Common.{◌≡◌, ℕ, List, take, Placed, references, FlatStatement, AreNumbersOf, names_of, texts_of, IsShown, namespace_at, Knows, Remembers, AreLeads}
 use Rattle.cil_bind.proofs.binding.bind_statement.Given as goal
 
 -- so many references are bound

@@ -1,6 +1,5 @@
-use Rattle.std.proofs.Common.{bytes_eq, rules, of_calls}
+use Rattle.cil_bind.proofs.Common.{bytes_eq, rules, of_calls, nat_list_cmp_total, nat_list_eq_equiv, name_cmp}
 use Rattle.std.specs.Ordering.{is_lt}
-use Rattle.cil_bind.proofs.Common.{nat_list_cmp_total, nat_list_eq_equiv, name_cmp}
 use Rattle.std.proofs.lemmas.Fn.{always_returns_same}
 use Rattle.std.proofs.lemmas.List.MinMax.{ranks_by}
 use Rattle.std.proofs.lemmas.Map.Keys.{IsDistinct-IsPermutation}

@@ -1,5 +1,4 @@
-use Rattle.std.proofs.Common.{length, filter, not, ap, ◌∙◌, arith}
-use Rattle.cil_bind.proofs.Common.{take_all, is_within, kinds_of}
+use Rattle.cil_bind.proofs.Common.{length, filter, not, ap, ◌∙◌, arith, take_all, is_within, kinds_of}
 use Rattle.cil_parse.specs.declared.row.StatementKind.TheVariants as kinds
 use Rattle.cil_bind.proofs.MoveLemmas.{places-long, kept-kind, dropped-kind}
 use Rattle.cil_bind.proofs.moving.kept_kinds.Goals as goal

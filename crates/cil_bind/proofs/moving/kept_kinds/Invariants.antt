@@ -1,5 +1,4 @@
-use Rattle.std.proofs.Common.{◌≡◌, List, filter, take}
-use Rattle.cil_bind.proofs.Common.{Placed, Optionals, is_within, kinds_of, places_from}
+use Rattle.cil_bind.proofs.Common.{◌≡◌, List, filter, take, Placed, Optionals, is_within, kinds_of, places_from}
 use Rattle.cil_bind.proofs.moving.kept_kinds.Given as goal
 
 -- the kinds of the kept ones of so many statements

@@ -1,5 +1,5 @@
-use Rattle.std.proofs.Common.{◌≡◌, ◌+◌, Some, None, true, false, slice_get, get_or, length, filter, take, sym, ap, ◌∙◌, arith}
-use Rattle.cil_bind.proofs.Common.{slice_get-get_or, Row}
+use Rattle.cil_bind.proofs.Common.{◌≡◌, ◌+◌, Some, None, true, false, get_or, length, filter, take, sym, ap, ◌∙◌, arith, slice_get-get_or, Row}
+use Rattle.std.proofs.Common.{slice_get}
 use Rattle.cil_bind.proofs.MoveLemmas.{places-taken, places-count}
 use Rattle.cil_bind.proofs.RestrictLemmas.{mark}
 use Rattle.cil_bind.proofs.moving.places_of.Goals.{then-is_kept+in_ok-push, else-is_kept+in_ok-push-2}

@@ -1,5 +1,5 @@
-use Rattle.std.proofs.Common.{◌≡◌, [], ◌≤◌, ℕ, Option, false, None, Some, length, get_or, slice_get, filter, refl, sym, ap, ◌∙◌, subst, arith}
-use Rattle.cil_bind.proofs.Common.{references, is_within, restricted, none-some, same_Some, take_all, AreBound, AreLeads, IsFrom, Row}
+use Rattle.cil_bind.proofs.Common.{◌≡◌, [], ◌≤◌, ℕ, Option, false, None, Some, length, get_or, filter, refl, sym, ap, ◌∙◌, subst, arith, references, is_within, restricted, none-some, same_Some, take_all, AreBound, AreLeads, IsFrom, Row}
+use Rattle.std.proofs.Common.{slice_get}
 use Rattle.cil_bind.proofs.DeclareLemmas.{row-at, row-here}
 use Rattle.cil_bind.proofs.PlaceLemmas.{get-there}
 use Rattle.cil_bind.proofs.FromLemmas.{from-at}

@@ -1,5 +1,4 @@
-use Rattle.std.proofs.Common.{◌≡◌, ℕ, List, [], filter, take}
-use Rattle.cil_bind.proofs.Common.{Placed, Optionals, AreApart, is_within, restricted, Knows, AreRows, AreFrom, AreWorded, RemembersOf, AreBound, places_from}
+use Rattle.cil_bind.proofs.Common.{◌≡◌, ℕ, List, [], filter, take, Placed, Optionals, AreApart, is_within, restricted, Knows, AreRows, AreFrom, AreWorded, RemembersOf, AreBound, places_from}
 use Rattle.cil_bind.proofs.moving.rebind.Given as goal
 
 -- the kept ones of so many rows are bound

@@ -1,5 +1,4 @@
-use Rattle.std.proofs.Common.{map, sym, ◌∙◌}
-use Rattle.cil_bind.proofs.Common.{references, moved_to}
+use Rattle.cil_bind.proofs.Common.{map, sym, ◌∙◌, references, moved_to}
 use Rattle.cil_bind.proofs.MoveLemmas.{leads-moved}
 use Rattle.cil_bind.proofs.moving.rebind_row.Goals as goal
 

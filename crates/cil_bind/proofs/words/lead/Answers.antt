@@ -1,5 +1,4 @@
-use Rattle.std.proofs.Common.{[], get_or, sym, ap, ◌∙◌}
-use Rattle.cil_bind.proofs.Common.{is_global, components, names_of, texts_of}
+use Rattle.cil_bind.proofs.Common.{[], get_or, sym, ap, ◌∙◌, is_global, components, names_of, texts_of}
 use Rattle.cil_bind.proofs.WordLemmas.{parts-are, numbers-within, path-within}
 use Rattle.cil_bind.proofs.words.lead.Goals as goal
 

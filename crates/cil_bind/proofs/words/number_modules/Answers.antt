@@ -1,5 +1,4 @@
-use Rattle.std.proofs.Common.{◌<◌, ◌≤◌, ◌+◌, take, length, rules, sym, subst}
-use Rattle.cil_bind.proofs.Common.{take_all, AreWorded}
+use Rattle.cil_bind.proofs.Common.{◌<◌, ◌≤◌, ◌+◌, take, length, rules, sym, subst, take_all, AreWorded}
 use Rattle.cil_bind.proofs.WordLemmas.{worded-next}
 use Rattle.cil_bind.proofs.words.number_modules.Goals as goal
 

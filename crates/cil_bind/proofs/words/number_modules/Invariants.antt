@@ -1,5 +1,4 @@
-use Rattle.std.proofs.Common.{bytes_eq, take}
-use Rattle.cil_bind.proofs.Common.{IsDistinct, AreWorded}
+use Rattle.cil_bind.proofs.Common.{bytes_eq, take, IsDistinct, AreWorded}
 use Rattle.cil_bind.proofs.words.number_modules.Given as goal
 
 -- so many modules have their numbers

@@ -1,5 +1,4 @@
-use Rattle.std.proofs.Common.{◌<◌, ◌+◌, [], take, length, refl, sym, ap, ◌∙◌, append-nil, Some, arith, subst}
-use Rattle.cil_bind.proofs.Common.{take_all, AreNumbersOf, names_of}
+use Rattle.cil_bind.proofs.Common.{◌<◌, ◌+◌, [], take, length, refl, sym, ap, ◌∙◌, append-nil, Some, arith, subst, take_all, AreNumbersOf, names_of}
 use Rattle.cil_bind.proofs.PlaceLemmas.{kept-next}
 use Rattle.cil_bind.proofs.ScopeLemmas.{kept-more}
 use Rattle.cil_bind.proofs.WordLemmas.{numbers-next}

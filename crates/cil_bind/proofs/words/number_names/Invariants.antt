@@ -1,5 +1,4 @@
-use Rattle.std.proofs.Common.{◌≡◌, ◌++◌, List, ℕ, bytes_eq, take}
-use Rattle.cil_bind.proofs.Common.{IsDistinct, AreNumbersOf, names_of}
+use Rattle.cil_bind.proofs.Common.{◌≡◌, ◌++◌, List, ℕ, bytes_eq, take, IsDistinct, AreNumbersOf, names_of}
 use Rattle.cil_bind.proofs.words.number_names.Given as goal
 
 -- so many names have their numbers

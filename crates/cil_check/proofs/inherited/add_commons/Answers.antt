@@ -1,5 +1,4 @@
-use Rattle.std.proofs.Common.{◌<◌, length, subst, sym, ap, ◌∙◌, arith}
-use Rattle.cil_check.proofs.Common.{take_all, classes, commons, IsLead, given_lead, common_lead, HasInheritedOf, Common}
+use Rattle.cil_check.proofs.Common.{◌<◌, length, subst, sym, ap, ◌∙◌, arith, take_all, classes, commons, IsLead, given_lead, common_lead, HasInheritedOf, Common}
 use Rattle.cil_check.proofs.SeenLemmas.{there-at}
 use Rattle.cil_check.proofs.InheritedLemmas.{common-led, inherited-first, inherited-next, no-class-stay, no-common-stay}
 use Rattle.cil_check.proofs.inherited.add_commons.Goals as goal

@@ -1,5 +1,4 @@
-use Rattle.std.proofs.Common.{◌≡◌, List, length, take}
-use Rattle.cil_check.proofs.Common.{Placed, IsOf, HasInheritedOf}
+use Rattle.cil_check.proofs.Common.{◌≡◌, List, length, take, Placed, IsOf, HasInheritedOf}
 use Rattle.cil_check.proofs.inherited.add_commons.Given as goal
 
 -- what so many statements give is noted

@@ -1,6 +1,5 @@
-use Rattle.std.proofs.Common.{[], refl, subst, sym, take}
+use Rattle.cil_counters.proofs.Common.{[], refl, subst, sym, take, count_before, count_now, pairs_of, AreNamed}
 use Rattle.cil_recorded.specs.declared.recorded_lines.changes.Change.{Change}
-use Rattle.cil_counters.proofs.Common.{count_before, count_now, pairs_of, AreNamed}
 use Rattle.cil_counters.proofs.ChangedMemberLemmas.{all-turned, change-came, change-more, change-went, few-turned, named-none, turned_in}
 use Rattle.cil_counters.proofs.changed_members.changed_members_of.Goals as goal
 

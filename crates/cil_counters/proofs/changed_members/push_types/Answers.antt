@@ -1,6 +1,5 @@
-use Rattle.std.proofs.Common.{◌≡◌, ◌∙◌, ◌+◌, ◌<◌, ℕ, List, ◌∷◌, ◌++◌, [], ap, subst, sym, inl, inr, arith}
+use Rattle.cil_counters.proofs.Common.{◌≡◌, ◌∙◌, ◌+◌, ◌<◌, ℕ, List, ◌∷◌, ◌++◌, [], ap, subst, sym, inl, inr, arith, map-append, pair_of, pairs_of, AreNamed}
 use Rattle.std.specs.Int.{bit_at}
-use Rattle.cil_counters.proofs.Common.{map-append, pair_of, pairs_of, AreNamed}
 use Rattle.std.proofs.lemmas.Nat.Bits.{shr_and_one}
 use Rattle.cil_counters.specs.declared.changed_members.ChangedMember.{ChangedMember}
 use Rattle.cil_counters.proofs.ChangedMemberLemmas.{bits-beyond, bits-first, bits-last, bits-more, bits-past, bits-unnamed, hit_below}

@@ -1,5 +1,4 @@
-use Rattle.std.proofs.Common.{◌≡◌, length, subst, true}
-use Rattle.cil_counters.proofs.Common.{list_all, is_rule_below}
+use Rattle.cil_counters.proofs.Common.{◌≡◌, length, subst, true, list_all, is_rule_below}
 use Rattle.cil_member_rows.specs.Rows as member_rows
 use Rattle.cil_keyed_lines.specs.Keyed as access_tables
 use Rattle.cil_counters.proofs.ToldLemmas.{told-accesses}

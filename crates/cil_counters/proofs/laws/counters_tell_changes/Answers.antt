@@ -1,6 +1,5 @@
-use Rattle.std.proofs.Common.{◌≡◌, ◌∙◌, ap, sym}
+use Rattle.cil_counters.proofs.Common.{◌≡◌, ◌∙◌, ap, sym, meaning_in, is_member, differ, had_named, has_named}
 use Rattle.cil_member_rows.specs.Rows as member_rows
-use Rattle.cil_counters.proofs.Common.{meaning_in, is_member, differ, had_named, has_named}
 use Rattle.cil_keyed_lines.specs.Keyed as access_tables
 use Rattle.cil_counters.proofs.ToldLemmas.{told-members}
 use Rattle.cil_counters.proofs.laws.counters_tell_changes.Goals as goal

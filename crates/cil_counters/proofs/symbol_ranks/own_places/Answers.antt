@@ -1,5 +1,4 @@
-use Rattle.std.proofs.Common.{◌≡◌, ◌∙◌, ◌++◌, [], ◌∷◌, ap, arith, inl, inr, slice_index, sym}
-use Rattle.cil_counters.proofs.Common.{cases_lt, get_or_append_left}
+use Rattle.cil_counters.proofs.Common.{◌≡◌, ◌∙◌, ◌++◌, [], ◌∷◌, ap, arith, inl, inr, slice_index, sym, cases_lt, get_or_append_left}
 use Rattle.std.proofs.Math.Seq.{get_or-append_seam}
 use Rattle.cil_counters.proofs.symbol_ranks.own_places.Goals as goal
 

@@ -1,5 +1,4 @@
-use Rattle.std.proofs.Common.{◌∙◌, ◌+◌, Some, arith, sym, subst}
-use Rattle.cil_counters.proofs.Common.{none-some, same_Some, ArePut}
+use Rattle.cil_counters.proofs.Common.{◌∙◌, ◌+◌, Some, arith, sym, subst, none-some, same_Some, ArePut}
 use Rattle.cil_counters.proofs.SymbolRankLemmas.{put-next, put-past}
 use Rattle.cil_counters.proofs.symbol_ranks.put_places.Goals as goal
 use Rattle.cil_counters.proofs.symbol_ranks.put_places.Goals.{in-Some+then-symbol-len, in-Some+else-symbol-len, in_default}

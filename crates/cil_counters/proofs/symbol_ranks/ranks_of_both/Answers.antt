@@ -1,5 +1,4 @@
-use Rattle.std.proofs.Common.{◌≡◌, arith, length, subst, sym}
-use Rattle.cil_counters.proofs.Common.{ArePlaces, names-apart}
+use Rattle.cil_counters.proofs.Common.{◌≡◌, arith, length, subst, sym, ArePlaces, names-apart}
 use Rattle.cil_counters.proofs.SymbolRankLemmas.{placed-by, ranks-kept, ranks-put}
 use Rattle.cil_counters.proofs.symbol_ranks.ranks_of_both.Goals as goal
 

@@ -1,5 +1,4 @@
-use Rattle.std.proofs.Common.{◌≡◌, ℕ, length, refl, slice_get, Some, All, get_or, ◌≤◌, subst, below_more}
-use Rattle.cil_dependence.proofs.Common.{slice_get_read, IsEdge}
+use Rattle.cil_dependence.proofs.Common.{◌≡◌, ℕ, length, refl, slice_get, Some, All, get_or, ◌≤◌, subst, below_more, slice_get_read, IsEdge}
 use Rattle.cil_dependence.proofs.LeadsLemmas.{edges-all, node-edges}
 use Rattle.cil_dependence.proofs.first.never_rises.Goals as goal
 

@@ -1,5 +1,4 @@
-use Rattle.std.proofs.Common.{subst, MatchOption, below_more, arith}
-use Rattle.cil_dependence.proofs.Common.{IsCircular, HasKnown, IsVisited, IsWalk}
+use Rattle.cil_dependence.proofs.Common.{subst, MatchOption, below_more, arith, IsCircular, HasKnown, IsVisited, IsWalk}
 use Rattle.cil_dependence.proofs.WalkLemmas.{walk-end}
 use Rattle.cil_dependence.proofs.order.order.Goals as goal
 

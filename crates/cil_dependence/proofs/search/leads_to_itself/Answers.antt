@@ -1,5 +1,4 @@
-use Rattle.std.proofs.Common.{◌≡◌, ◌<◌, true, false, ◌++◌, length, Some, slice_get, replicate, refl, sym, subst, arith}
-use Rattle.cil_dependence.proofs.Common.{nil_from_length, slice_get_read}
+use Rattle.cil_dependence.proofs.Common.{◌≡◌, ◌<◌, true, false, ◌++◌, length, Some, slice_get, replicate, refl, sym, subst, arith, nil_from_length, slice_get_read}
 use Rattle.cil_dependence.proofs.SearchLemmas.{extended, extended-empty, IsSearched, next-within, marked, searched-start, searched-skip, searched-step, searched-tells, search-less}
 use Rattle.cil_dependence.proofs.search.leads_to_itself.Goals as goal
 

@@ -1,5 +1,4 @@
-use Rattle.std.proofs.Common.{◌≡◌, ◌≢◌, ◌<◌, ◌≤◌, ℕ, length}
-use Rattle.cil_keyed_lines.proofs.Common.{count_now, SymbolKey, count_by, AreAmong, ArePaired}
+use Rattle.cil_keyed_lines.proofs.Common.{◌≡◌, ◌≢◌, ◌<◌, ◌≤◌, ℕ, length, count_now, SymbolKey, count_by, AreAmong, ArePaired}
 use Rattle.cil_keyed_lines.proofs.ended_lines.fill_place.Given as goal
 
 abbrev pub invariant-loop-lines : goal.invariant-loop-lines

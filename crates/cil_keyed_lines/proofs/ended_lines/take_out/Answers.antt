@@ -1,5 +1,4 @@
-use Rattle.std.proofs.Common.{◌≡◌, ◌∙◌, ◌-◌, length, ap, subst, arith}
-use Rattle.cil_keyed_lines.proofs.Common.{IsDistinct, is_key, count_now, lines_in}
+use Rattle.cil_keyed_lines.proofs.Common.{◌≡◌, ◌∙◌, ◌-◌, length, ap, subst, arith, IsDistinct, is_key, count_now, lines_in}
 use Rattle.cil_keyed_lines.proofs.EndLemmas.{among_taken, count_taken}
 use Rattle.cil_keyed_lines.proofs.KeyedLemmas.{same_eq}
 use Rattle.cil_keyed_lines.proofs.ended_lines.take_out.Goals as goal

@@ -1,5 +1,4 @@
-use Rattle.std.proofs.Common.{◌≡◌, ℕ, length}
-use Rattle.cil_keyed_lines.proofs.Common.{count_now, SymbolKey, count_by, AreAmong, AreCounted, ArePaired}
+use Rattle.cil_keyed_lines.proofs.Common.{◌≡◌, ℕ, length, count_now, SymbolKey, count_by, AreAmong, AreCounted, ArePaired}
 use Rattle.cil_keyed_lines.proofs.ended_lines.take_out_ended.Given as goal
 
 -- each line has a counter above 0, but for those of steps that are left

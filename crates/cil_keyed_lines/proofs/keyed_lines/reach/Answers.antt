@@ -1,5 +1,4 @@
-use Rattle.std.proofs.Common.{◌≡◌, ◌∙◌, ◌∷◌, ◌++◌, [], if◌then◌else◌, ap, sym, subst, false, rules}
-use Rattle.cil_keyed_lines.proofs.Common.{list_any, IsDistinct, is_key}
+use Rattle.cil_keyed_lines.proofs.Common.{◌≡◌, ◌∙◌, ◌∷◌, ◌++◌, [], if◌then◌else◌, ap, sym, subst, false, rules, list_any, IsDistinct, is_key}
 use Rattle.cil_keyed_lines.proofs.EndLemmas.{known, placed_new}
 use Rattle.cil_keyed_lines.proofs.KeyedLemmas.{same_eq}
 use Rattle.cil_keyed_lines.proofs.keyed_lines.reach.Goals as goal

@@ -1,5 +1,4 @@
-use Rattle.std.proofs.Common.{arith, ap}
-use Rattle.cil_keyed_lines.proofs.Common.{hit_nothing, hit_at}
+use Rattle.cil_keyed_lines.proofs.Common.{arith, ap, hit_nothing, hit_at}
 use Rattle.cil_keyed_lines.proofs.line_steps.raise.Goals as goal
 
 pub returns-then-mask-eq0-clause-now : goal.returns-then-mask-eq0-clause-now

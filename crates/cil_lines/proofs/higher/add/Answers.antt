@@ -1,5 +1,4 @@
-use Rattle.std.proofs.Common.{◌≡◌, ◌+◌, suc, ◌∙◌, ap, sym, subst, length, get_or, set, drop, ◌<◌, bit_and, bit_xor, arith}
-use Rattle.cil_lines.proofs.Common.{bits_of, HasRoom}
+use Rattle.cil_lines.proofs.Common.{◌≡◌, ◌+◌, suc, ◌∙◌, ap, sym, subst, length, get_or, set, drop, ◌<◌, bit_and, bit_xor, arith, bits_of, HasRoom}
 use Rattle.cil_lines.proofs.LineLemmas.{add_step, value-set_same, drop-set, room-next}
 use Rattle.cil_lines.proofs.PlaceLemmas.{limit-set}
 use Rattle.cil_lines.proofs.higher.add.Goals as goal

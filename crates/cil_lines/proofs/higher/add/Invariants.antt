@@ -1,5 +1,4 @@
-use Rattle.std.proofs.Common.{◌≡◌, ◌≤◌, ◌≢◌, ℕ, ◌+◌, ◌*◌, ◌^◌, drop}
-use Rattle.cil_lines.proofs.Common.{bit_at, limit, value, HasRoom}
+use Rattle.cil_lines.proofs.Common.{◌≡◌, ◌≤◌, ◌≢◌, ℕ, ◌+◌, ◌*◌, ◌^◌, drop, bit_at, limit, value, HasRoom}
 use Rattle.cil_lines.proofs.higher.add.Given as goal
 
 -- the carry has the weight of the digit that comes, and has room from there on

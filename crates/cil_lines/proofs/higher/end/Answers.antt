@@ -1,5 +1,4 @@
-use Rattle.std.proofs.Common.{◌≡◌, ◌-◌, suc, ap, drop, arith}
-use Rattle.cil_lines.proofs.Common.{Words, bits_of, total}
+use Rattle.cil_lines.proofs.Common.{◌≡◌, ◌-◌, suc, ap, drop, arith, Words, bits_of, total}
 use Rattle.cil_lines.proofs.LineLemmas.{total-drop}
 use Rattle.cil_lines.proofs.higher.end.Goals as goal
 

@@ -1,5 +1,4 @@
-use Rattle.std.proofs.Common.{◌≡◌, ◌≤◌, ◌≢◌, ℕ}
-use Rattle.cil_lines.proofs.Common.{limit, value}
+use Rattle.cil_lines.proofs.Common.{◌≡◌, ◌≤◌, ◌≢◌, ℕ, limit, value}
 use Rattle.cil_lines.proofs.higher.give_up.Given as goal
 
 abbrev pub invariant-loop-i : goal.invariant-loop-i

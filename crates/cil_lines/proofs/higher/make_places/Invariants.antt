@@ -1,5 +1,4 @@
-use Rattle.std.proofs.Common.{◌≡◌, ◌≤◌, ℕ, ◌++◌, List, take}
-use Rattle.cil_lines.proofs.Common.{Words, limit, value, HasRoom}
+use Rattle.cil_lines.proofs.Common.{◌≡◌, ◌≤◌, ℕ, ◌++◌, List, take, Words, limit, value, HasRoom}
 use Rattle.cil_lines.proofs.higher.make_places.Given as goal
 
 -- with room for the carry behind the digits so far there is room for the mask

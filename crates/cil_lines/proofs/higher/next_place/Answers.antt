@@ -1,5 +1,4 @@
-use Rattle.std.proofs.Common.{drop, arith}
-use Rattle.cil_lines.proofs.Common.{bits_of, total}
+use Rattle.cil_lines.proofs.Common.{drop, arith, bits_of, total}
 use Rattle.cil_lines.proofs.LineLemmas.{next_step}
 use Rattle.cil_lines.proofs.higher.next_place.Goals as goal
 

@@ -1,5 +1,4 @@
-use Rattle.std.proofs.Common.{◌≤◌, length, drop}
-use Rattle.cil_lines.proofs.Common.{IsNext, total}
+use Rattle.cil_lines.proofs.Common.{◌≤◌, length, drop, IsNext, total}
 use Rattle.cil_lines.proofs.higher.next_place.Given as goal
 
 -- the first place by the digits from i on

@@ -1,5 +1,4 @@
-use Rattle.std.proofs.Common.{◌≡◌, ◌≤◌, ℕ, min, length, drop}
-use Rattle.cil_lines.proofs.Common.{bit_at, value}
+use Rattle.cil_lines.proofs.Common.{◌≡◌, ◌≤◌, ℕ, min, length, drop, bit_at, value}
 use Rattle.cil_lines.proofs.higher.present.Given as goal
 
 -- the bits of the digits from i on

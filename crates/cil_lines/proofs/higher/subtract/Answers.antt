@@ -1,5 +1,4 @@
-use Rattle.std.proofs.Common.{◌≡◌, ◌≤◌, ◌<◌, ◌+◌, ◌^◌, suc, ◌∙◌, ap, sym, subst, length, get_or, set, drop, bit_and, bit_xor, arith, rules}
-use Rattle.cil_lines.proofs.Common.{drop_of_length-le, bit_at-zero, bit_at, bits_of, limit, value}
+use Rattle.cil_lines.proofs.Common.{◌≡◌, ◌≤◌, ◌<◌, ◌+◌, ◌^◌, suc, ◌∙◌, ap, sym, subst, length, get_or, set, drop, bit_and, bit_xor, arith, rules, drop_of_length-le, bit_at-zero, bit_at, bits_of, limit, value}
 use Rattle.cil_lines.proofs.LineLemmas.{value-set_same, drop-set}
 use Rattle.cil_lines.proofs.PlaceLemmas.{limit-set}
 use Rattle.cil_lines.proofs.StepLemmas.{subtract_step, borrow-place, borrow-below, borrow-above}

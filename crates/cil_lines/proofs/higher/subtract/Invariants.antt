@@ -1,5 +1,4 @@
-use Rattle.std.proofs.Common.{◌≡◌, ◌≢◌, ◌≤◌, ◌<◌, ℕ, ◌+◌, ◌*◌, ◌^◌, drop}
-use Rattle.cil_lines.proofs.Common.{bit_at, limit, value}
+use Rattle.cil_lines.proofs.Common.{◌≡◌, ◌≢◌, ◌≤◌, ◌<◌, ℕ, ◌+◌, ◌*◌, ◌^◌, drop, bit_at, limit, value}
 use Rattle.cil_lines.proofs.higher.subtract.Given as goal
 
 -- what is borrowed has the weight of the digit that comes, and is there from it on

@@ -1,5 +1,4 @@
-use Rattle.std.proofs.Common.{◌≡◌, ◌∙◌, ◌<◌, ◌+◌, None, Some, length, get_or, slice_get, ap, sym, subst}
-use Rattle.cil_matching.proofs.Common.{slice_get-get_or, IsInverse}
+use Rattle.cil_matching.proofs.Common.{◌≡◌, ◌∙◌, ◌<◌, ◌+◌, None, Some, length, get_or, slice_get, ap, sym, subst, slice_get-get_or, IsInverse}
 use Rattle.cil_matching.proofs.InverseLemmas.{inverse-next, inverse-all, noted-length}
 use Rattle.cil_matching.proofs.inverse.inverse.Goals as goal
 

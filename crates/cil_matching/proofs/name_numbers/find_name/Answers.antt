@@ -1,5 +1,4 @@
-use Rattle.std.proofs.Common.{◌≡◌, ◌∙◌, List, ℕ, [], slice_index_or, sym, subst, arith}
-use Rattle.cil_matching.proofs.Common.{slice_get-get_or, Ordering, name_cmp, name_total, sorted_from_names_rise, IsMissedAt}
+use Rattle.cil_matching.proofs.Common.{◌≡◌, ◌∙◌, List, ℕ, [], slice_index_or, sym, subst, arith, slice_get-get_or, Ordering, name_cmp, name_total, sorted_from_names_rise, IsMissedAt}
 use Rattle.cil_matching.proofs.MergedLemmas.{before-more, missed-at, missed-all}
 use Rattle.cil_matching.proofs.name_numbers.find_name.Goals as goal
 

@@ -1,5 +1,4 @@
-use Rattle.std.proofs.Common.{◌≡◌, ◌∙◌, ◌+◌, ◌<◌, List, ℕ, length, Some, None, sym, subst, arith}
-use Rattle.cil_matching.proofs.Common.{name_cmp, name_total, sorted_from_names_rise, ArePlaces, AreBefore, IsFoundAt, IsMissedAt}
+use Rattle.cil_matching.proofs.Common.{◌≡◌, ◌∙◌, ◌+◌, ◌<◌, List, ℕ, length, Some, None, sym, subst, arith, name_cmp, name_total, sorted_from_names_rise, ArePlaces, AreBefore, IsFoundAt, IsMissedAt}
 use Rattle.cil_matching.proofs.MatchedLemmas.{places-next}
 use Rattle.cil_matching.proofs.MergedLemmas.{before-next, before-past}
 use Rattle.cil_matching.proofs.NumberLemmas.{name-found, name-missed}

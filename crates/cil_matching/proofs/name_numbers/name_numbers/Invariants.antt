@@ -1,5 +1,4 @@
-use Rattle.std.proofs.Common.{◌≡◌, ℕ, List}
-use Rattle.cil_matching.proofs.Common.{name_cmp, ArePlaces, AreBefore}
+use Rattle.cil_matching.proofs.Common.{◌≡◌, ℕ, List, name_cmp, ArePlaces, AreBefore}
 use Rattle.cil_matching.proofs.name_numbers.name_numbers.Given as goal
 
 -- so many have their numbers, and so many of the new ones stand before the next

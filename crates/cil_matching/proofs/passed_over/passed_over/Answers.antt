@@ -1,5 +1,4 @@
-use Rattle.std.proofs.Common.{◌≡◌, ◌∙◌, ℕ, ◌+◌, ◌∷◌, [], ◌++◌, true≢false, map, slice_get, None, Some, is_some, sym, ap, subst, arith}
-use Rattle.cil_matching.proofs.Common.{sets_in, ArePassed, set_spot, spot_of}
+use Rattle.cil_matching.proofs.Common.{◌≡◌, ◌∙◌, ℕ, ◌+◌, ◌∷◌, [], ◌++◌, true≢false, map, slice_get, None, Some, is_some, sym, ap, subst, arith, sets_in, ArePassed, set_spot, spot_of}
 use Rattle.cil_matching.proofs.ApartLemmas.{apart-sets}
 use Rattle.cil_matching.proofs.PassedLemmas.{new-known, passed-found-at, passed-more}
 use Rattle.cil_matching.proofs.passed_over.passed_over.Goals.{then-is_none+in_ok-push+in_ok-add, else-is_none}

@@ -1,5 +1,4 @@
-use Rattle.std.proofs.Common.{map}
-use Rattle.cil_matching.proofs.Common.{sets_in, ArePassed, set_spot}
+use Rattle.cil_matching.proofs.Common.{map, sets_in, ArePassed, set_spot}
 use Rattle.cil_matching.proofs.passed_over.passed_over.Given as goal
 
 -- those of so many places are known

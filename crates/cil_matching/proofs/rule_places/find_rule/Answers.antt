@@ -1,5 +1,4 @@
-use Rattle.std.proofs.Common.{◌∙◌, sym, subst, arith}
-use Rattle.cil_matching.proofs.Common.{rule_total, rule_cmp, meaning_in, IsMissedAt, rule_spot, spot_of}
+use Rattle.cil_matching.proofs.Common.{◌∙◌, sym, subst, arith, rule_total, rule_cmp, meaning_in, IsMissedAt, rule_spot, spot_of}
 use Rattle.cil_matching.proofs.MatchedLemmas.{from-mapped}
 use Rattle.cil_matching.proofs.MergedLemmas.{before-more, missed-at, missed-all}
 use Rattle.cil_matching.proofs.PlaceLemmas.{spots-tell}

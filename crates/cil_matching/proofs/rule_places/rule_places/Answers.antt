@@ -1,5 +1,4 @@
-use Rattle.std.proofs.Common.{◌≡◌, ◌∙◌, ◌+◌, None, sym, subst, arith}
-use Rattle.cil_matching.proofs.Common.{rule_total, IsSameRule, rule_cmp, meaning_in, ArePlaces, AreBefore, IsFoundAt, IsMissedAt}
+use Rattle.cil_matching.proofs.Common.{◌≡◌, ◌∙◌, ◌+◌, None, sym, subst, arith, rule_total, IsSameRule, rule_cmp, meaning_in, ArePlaces, AreBefore, IsFoundAt, IsMissedAt}
 use Rattle.cil_matching.proofs.MatchedLemmas.{places-next}
 use Rattle.cil_matching.proofs.MergedLemmas.{before-next, before-past}
 use Rattle.cil_matching.proofs.PlaceLemmas.{rule-missed}

@@ -1,5 +1,4 @@
-use Rattle.std.proofs.Common.{◌≡◌, ◌∙◌, true, false, true≢false, Option, is_some, refl, ℕ, ◌+◌, length, map, position, slice_get, None, Some, sym, ap, subst, arith}
-use Rattle.cil_matching.proofs.Common.{length-map, same_Some, slice_get-get_or, IsSameSet, sets_in, ArePassed, Spot, set_spot, same_spot, spot_of}
+use Rattle.cil_matching.proofs.Common.{◌≡◌, ◌∙◌, true, false, true≢false, Option, is_some, refl, ℕ, ◌+◌, length, map, position, slice_get, None, Some, sym, ap, subst, arith, length-map, same_Some, slice_get-get_or, IsSameSet, sets_in, ArePassed, Spot, set_spot, same_spot, spot_of}
 use Rattle.cil_matching.proofs.ApartLemmas.{sets-agree, apart-sets}
 use Rattle.cil_matching.proofs.FilledLemmas.{AreFilled, filled-set, filled-kept, filled-all, open-apart}
 use Rattle.cil_matching.proofs.MatchedLemmas.{right-below, right-apart}

@@ -1,5 +1,4 @@
-use Rattle.std.proofs.Common.{◌∙◌, sym, subst}
-use Rattle.cil_matching.proofs.Common.{same_Some, IsSameSet, sets_in, AreSameAt, set_spot}
+use Rattle.cil_matching.proofs.Common.{◌∙◌, sym, subst, same_Some, IsSameSet, sets_in, AreSameAt, set_spot}
 use Rattle.cil_matching.proofs.ApartLemmas.{sets-agree, apart-sets}
 use Rattle.cil_matching.proofs.MatchedLemmas.{none-same, found-same, found-other, mapped-there, tested-same}
 use Rattle.cil_matching.proofs.set_walk.same.Goals as goal

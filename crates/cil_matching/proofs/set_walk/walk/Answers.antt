@@ -1,5 +1,4 @@
-use Rattle.std.proofs.Common.{subst, arith}
-use Rattle.cil_matching.proofs.Common.{IsSameSet, sets_in, AreRight}
+use Rattle.cil_matching.proofs.Common.{subst, arith, IsSameSet, sets_in, AreRight}
 use Rattle.cil_matching.proofs.MatchedLemmas.{right-none, right-next}
 use Rattle.cil_matching.proofs.set_walk.walk.Goals as goal
 

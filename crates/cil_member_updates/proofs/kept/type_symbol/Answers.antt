@@ -1,5 +1,4 @@
-use Rattle.std.proofs.Common.{◌≡◌, ◌∙◌, Some, ap, rules, slice_get}
-use Rattle.cil_member_updates.proofs.Common.{meaning_in, name_in, no_declared}
+use Rattle.cil_member_updates.proofs.Common.{◌≡◌, ◌∙◌, Some, ap, rules, slice_get, meaning_in, name_in, no_declared}
 use Rattle.cil_member_updates.proofs.SymbolLemmas.{read-at, symbol-name}
 use Rattle.cil_member_updates.proofs.kept.type_symbol.Goals as goal
 

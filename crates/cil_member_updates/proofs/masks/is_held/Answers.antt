@@ -1,5 +1,4 @@
-use Rattle.std.proofs.Common.{◌≡◌, ◌∙◌, ℕ, Some, get_or, nat_lt, of_calls, rules, slice_get, sym}
-use Rattle.cil_member_updates.proofs.Common.{meaning_in, name_in, set_at, counts_at}
+use Rattle.cil_member_updates.proofs.Common.{◌≡◌, ◌∙◌, ℕ, Some, get_or, nat_lt, of_calls, rules, slice_get, sym, meaning_in, name_in, set_at, counts_at}
 use Rattle.cil_member_updates.proofs.PlaceLemmas.{set-there}
 use Rattle.cil_member_updates.proofs.NameLemmas.{holds-named, keeps-name, keeps-named}
 use Rattle.cil_member_updates.proofs.SymbolLemmas.{number-some, symbol-name, symbol-some, symbol-within}

@@ -1,5 +1,4 @@
-use Rattle.std.proofs.Common.{◌≡◌, ◌+◌, ◌*◌, ◌==◌, ◌∙◌, ap, bit_and, arith, refl, subst, sym}
-use Rattle.cil_member_updates.proofs.Common.{bit_at, eq-eqb, ne_eqb, shr_and_one, adjustments_in, evaluations_in, meaning_in, set_at, up_to, RisesBy, up_to-add, up_to-skip, AreBits, is_asked, holds, keeps}
+use Rattle.cil_member_updates.proofs.Common.{◌≡◌, ◌+◌, ◌*◌, ◌==◌, ◌∙◌, ap, bit_and, arith, refl, subst, sym, bit_at, eq-eqb, ne_eqb, shr_and_one, adjustments_in, evaluations_in, meaning_in, set_at, up_to, RisesBy, up_to-add, up_to-skip, AreBits, is_asked, holds, keeps}
 use Rattle.cil_sums.proofs.RiseLemmas.{rises-same}
 use Rattle.cil_member_updates.proofs.BitLemmas.{answer-bit, answer-other, held-add, held-skip, looked-kept, looked-past, looked-visit, HeldBelow}
 use Rattle.cil_member_updates.proofs.NameLemmas.{holds-kept}

@@ -1,5 +1,4 @@
-use Rattle.std.proofs.Common.{◌≡◌, ◌==◌}
-use Rattle.cil_member_updates.proofs.Common.{bit_at, adjustments_in, evaluations_in, meaning_in, set_at, up_to, RisesBy, holds}
+use Rattle.cil_member_updates.proofs.Common.{◌≡◌, ◌==◌, bit_at, adjustments_in, evaluations_in, meaning_in, set_at, up_to, RisesBy, holds}
 use Rattle.cil_member_updates.proofs.BitLemmas.{HeldBelow}
 use Rattle.cil_member_updates.proofs.masks.masked.Given as goal
 

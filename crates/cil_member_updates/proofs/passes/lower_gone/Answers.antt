@@ -1,5 +1,4 @@
-use Rattle.std.proofs.Common.{◌≡◌, ◌∙◌, length, refl, ap, subst, arith}
-use Rattle.cil_member_updates.proofs.Common.{count_before, count_now, evaluations_in, sets_in, set_at, sum_below, sum-none, within-first, within-next, EvaluatesGone, Goes, MayGo, given_by, gone}
+use Rattle.cil_member_updates.proofs.Common.{◌≡◌, ◌∙◌, length, refl, ap, subst, arith, count_before, count_now, evaluations_in, sets_in, set_at, sum_below, sum-none, within-first, within-next, EvaluatesGone, Goes, MayGo, given_by, gone}
 use Rattle.cil_member_updates.proofs.PassLemmas.{gone-counted, gone-more}
 use Rattle.cil_member_updates.proofs.SideLemmas.{counts-members, counts-sum}
 use Rattle.cil_member_updates.proofs.passes.lower_gone.Goals as goal

@@ -1,5 +1,4 @@
-use Rattle.std.proofs.Common.{◌≡◌, ◌+◌, ℕ, length}
-use Rattle.cil_member_updates.proofs.Common.{count_before, count_now, rows_in, adjustments_in, evaluations_in, sets_in, sum_below, EvaluatesGone, gone, given_by}
+use Rattle.cil_member_updates.proofs.Common.{◌≡◌, ◌+◌, ℕ, length, count_before, count_now, rows_in, adjustments_in, evaluations_in, sets_in, sum_below, EvaluatesGone, gone, given_by}
 use Rattle.cil_member_updates.proofs.passes.lower_gone.Given as goal
 
 -- those so far that went aren't counted any more

@@ -1,5 +1,4 @@
-use Rattle.std.proofs.Common.{refl, arith}
-use Rattle.cil_member_updates.proofs.Common.{none-some, on_ok_weaker, count_now, evaluations_in, meaning_in, set_at, alone-none, alone-some, within-none, within-weaker, Goes, IsHeld, IsKept, MayGo, nothing, AreMoved, given_by, given}
+use Rattle.cil_member_updates.proofs.Common.{refl, arith, none-some, on_ok_weaker, count_now, evaluations_in, meaning_in, set_at, alone-none, alone-some, within-none, within-weaker, Goes, IsHeld, IsKept, MayGo, nothing, AreMoved, given_by, given}
 use Rattle.cil_member_updates.proofs.passes.lower_gone_set.Goals as goal
 
 pub returns-in-Some-clause-now : goal.returns-in-Some-clause-now

@@ -1,5 +1,4 @@
-use Rattle.std.proofs.Common.{◌≡◌, ◌∙◌, length, refl, ap, subst, arith}
-use Rattle.cil_member_updates.proofs.Common.{count_now, evaluations_in, sets_in, sum_below, sum-none, within-first, within-next, Comes, EvaluatesNew, MayTurn, given_by, stayed}
+use Rattle.cil_member_updates.proofs.Common.{◌≡◌, ◌∙◌, length, refl, ap, subst, arith, count_now, evaluations_in, sets_in, sum_below, sum-none, within-first, within-next, Comes, EvaluatesNew, MayTurn, given_by, stayed}
 use Rattle.cil_member_updates.proofs.PassLemmas.{renewed-more, stayed-counted}
 use Rattle.cil_member_updates.proofs.SideLemmas.{renewed-tell, sum-counts}
 use Rattle.cil_member_updates.proofs.passes.renew.Goals as goal

@@ -1,5 +1,4 @@
-use Rattle.std.proofs.Common.{◌≡◌, ◌+◌, ℕ, length}
-use Rattle.cil_member_updates.proofs.Common.{count_before, count_now, rows_in, adjustments_in, evaluations_in, sets_in, sum_below, EvaluatesNew, given_by, stayed}
+use Rattle.cil_member_updates.proofs.Common.{◌≡◌, ◌+◌, ℕ, length, count_before, count_now, rows_in, adjustments_in, evaluations_in, sets_in, sum_below, EvaluatesNew, given_by, stayed}
 use Rattle.cil_member_updates.proofs.passes.renew.Given as goal
 
 -- The set statements so far count as in the new policy, and the others that stayed as in the old one.

@@ -1,5 +1,4 @@
-use Rattle.std.proofs.Common.{refl, inl, inr, arith}
-use Rattle.cil_member_updates.proofs.Common.{none-some, on_ok_weaker, count_before, count_now, evaluations_in, meaning_in, sets_in, no_set, set_at, across-none, across-some, within-weaker, Comes, IsHeld, IsKept, IsMovedAt, IsUnsettled, MayTurn, nothing, AreMoved, given_by, given}
+use Rattle.cil_member_updates.proofs.Common.{refl, inl, inr, arith, none-some, on_ok_weaker, count_before, count_now, evaluations_in, meaning_in, sets_in, no_set, set_at, across-none, across-some, within-weaker, Comes, IsHeld, IsKept, IsMovedAt, IsUnsettled, MayTurn, nothing, AreMoved, given_by, given}
 use Rattle.cil_member_updates.proofs.ComesLemmas.{comes-held, comes-moved}
 use Rattle.cil_member_updates.proofs.RenewLemmas.{same-at, same-attribute}
 use Rattle.cil_member_updates.proofs.SideLemmas.{counts-members}

@@ -1,5 +1,4 @@
-use Rattle.std.proofs.Common.{◌∙◌, ◌+◌, ◌/◌, ◌<◌, ◌≤◌, ℕ, length, slice_index, refl, sym, inl, inr, arith}
-use Rattle.cil_member_updates.proofs.Common.{cases_lt, count_before, count_now, evaluations_in, meaning_in, set_at, IsMovedAt, IsUnsettled, given}
+use Rattle.cil_member_updates.proofs.Common.{◌∙◌, ◌+◌, ◌/◌, ◌<◌, ◌≤◌, ℕ, length, slice_index, refl, sym, inl, inr, arith, cases_lt, count_before, count_now, evaluations_in, meaning_in, set_at, IsMovedAt, IsUnsettled, given}
 use Rattle.cil_member_updates.proofs.EvaluatedLemmas.{moved-within, words-all, words-from, words-next}
 use Rattle.cil_member_updates.proofs.GivenLemmas.{tell-same}
 use Rattle.cil_member_updates.proofs.MovedLemmas.{moved-from, moved-more, moved-all, moved-other}

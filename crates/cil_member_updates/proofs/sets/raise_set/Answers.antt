@@ -1,5 +1,4 @@
-use Rattle.std.proofs.Common.{◌∙◌, refl, sym, arith}
-use Rattle.cil_member_updates.proofs.Common.{count_now, evaluations_in, meaning_in, set_at, IsHeld, IsKept, nothing, given}
+use Rattle.cil_member_updates.proofs.Common.{◌∙◌, refl, sym, arith, count_now, evaluations_in, meaning_in, set_at, IsHeld, IsKept, nothing, given}
 use Rattle.cil_member_updates.proofs.EvaluatedLemmas.{holds-within, words-all, words-first, words-next}
 use Rattle.cil_member_updates.proofs.GivenLemmas.{tell-same}
 use Rattle.cil_member_updates.proofs.MovedLemmas.{moved-none, moved-more, moved-all, moved-other}

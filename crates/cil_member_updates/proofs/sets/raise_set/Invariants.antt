@@ -1,5 +1,4 @@
-use Rattle.std.proofs.Common.{◌≡◌, ℕ}
-use Rattle.cil_member_updates.proofs.Common.{count_before, count_now, rows_in, adjustments_in, evaluations_in, meaning_in, set_at, RisesWithin, nothing, IsHeld, IsKept, given}
+use Rattle.cil_member_updates.proofs.Common.{◌≡◌, ℕ, count_before, count_now, rows_in, adjustments_in, evaluations_in, meaning_in, set_at, RisesWithin, nothing, IsHeld, IsKept, given}
 use Rattle.cil_member_updates.proofs.EvaluatedLemmas.{Beneath}
 use Rattle.cil_member_updates.proofs.MovedLemmas.{MovedBelow}
 use Rattle.cil_member_updates.proofs.sets.raise_set.Given as goal

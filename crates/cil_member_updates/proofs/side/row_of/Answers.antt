@@ -1,5 +1,4 @@
-use Rattle.std.proofs.Common.{◌≡◌, ◌∙◌, Some, ap, rules, slice_get}
-use Rattle.cil_member_updates.proofs.Common.{name_in, sets_in, no_set}
+use Rattle.cil_member_updates.proofs.Common.{◌≡◌, ◌∙◌, Some, ap, rules, slice_get, name_in, sets_in, no_set}
 use Rattle.cil_member_updates.proofs.SymbolLemmas.{read-at, symbol-name}
 use Rattle.cil_member_updates.proofs.side.row_of.Goals as goal
 

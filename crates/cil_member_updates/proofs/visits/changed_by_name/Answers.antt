@@ -1,5 +1,4 @@
-use Rattle.std.proofs.Common.{◌≡◌, Some, rules, slice_get, subst, sym}
-use Rattle.cil_member_updates.proofs.Common.{count_before, count_now, element_of, name_in, IsTurnedAt, IsUnchanged}
+use Rattle.cil_member_updates.proofs.Common.{◌≡◌, Some, rules, slice_get, subst, sym, count_before, count_now, element_of, name_in, IsTurnedAt, IsUnchanged}
 use Rattle.cil_member_updates.proofs.NameLemmas.{unchanged-row}
 use Rattle.cil_member_updates.proofs.SymbolLemmas.{symbol-name}
 use Rattle.cil_member_updates.proofs.TurnedLemmas.{turned-none, turned-row}

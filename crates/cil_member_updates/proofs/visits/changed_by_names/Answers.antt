@@ -1,5 +1,4 @@
-use Rattle.std.proofs.Common.{◌<◌, ℕ, get_or, length, subst, arith}
-use Rattle.cil_member_updates.proofs.Common.{Contains, Contains-get_or, «Type», count_before, count_now, element_of, set_at, leaves, IsUnchanged}
+use Rattle.cil_member_updates.proofs.Common.{◌<◌, ℕ, get_or, length, subst, arith, Contains, Contains-get_or, «Type», count_before, count_now, element_of, set_at, leaves, IsUnchanged}
 use Rattle.cil_member_updates.proofs.PlaceLemmas.{set-there}
 use Rattle.cil_sums.proofs.PairLemmas.{mapped}
 use Rattle.cil_member_updates.proofs.NameLemmas.{unchanged-more}

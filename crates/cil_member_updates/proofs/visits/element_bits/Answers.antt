@@ -1,5 +1,5 @@
-use Rattle.std.proofs.Common.{◌≡◌, Contains, Some, rules, slice_get, subst, sym}
-use Rattle.cil_member_updates.proofs.Common.{leaves, element_of, meaning_in, name_in, set_at, Cover, element_holds, counts_at}
+use Rattle.cil_member_updates.proofs.Common.{◌≡◌, Some, rules, slice_get, subst, sym, leaves, element_of, meaning_in, name_in, set_at, Cover, element_holds, counts_at}
+use Rattle.std.proofs.Common.{Contains}
 use Rattle.cil_member_updates.proofs.NameLemmas.{cover-attribute, cover-type, there-mentioned}
 use Rattle.cil_member_updates.proofs.SymbolLemmas.{symbol-name}
 use Rattle.cil_member_updates.proofs.visits.element_bits.Goals as goal

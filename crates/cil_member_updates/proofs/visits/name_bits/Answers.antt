@@ -1,5 +1,4 @@
-use Rattle.std.proofs.Common.{get_or, subst, arith}
-use Rattle.cil_member_updates.proofs.Common.{«Type», element_of, meaning_in, set_at, leaves, Cover, element_holds}
+use Rattle.cil_member_updates.proofs.Common.{get_or, subst, arith, «Type», element_of, meaning_in, set_at, leaves, Cover, element_holds}
 use Rattle.cil_member_updates.proofs.PlaceLemmas.{set-there}
 use Rattle.cil_member_updates.proofs.BitLemmas.{cover-more}
 use Rattle.cil_member_updates.proofs.SymbolLemmas.{place-of}

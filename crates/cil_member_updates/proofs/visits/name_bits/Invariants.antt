@@ -1,5 +1,4 @@
-use Rattle.std.proofs.Common.{◌<◌, ℕ, get_or}
-use Rattle.cil_member_updates.proofs.Common.{«Type», element_of, meaning_in, Cover, element_holds}
+use Rattle.cil_member_updates.proofs.Common.{◌<◌, ℕ, get_or, «Type», element_of, meaning_in, Cover, element_holds}
 use Rattle.cil_member_updates.proofs.visits.name_bits.Given as goal
 
 -- the names so far are covered

@@ -1,5 +1,4 @@
-use Rattle.std.proofs.Common.{◌∙◌, sym, subst}
-use Rattle.cil_member_updates.proofs.Common.{meaning_in, set_at, AreBits, keeps}
+use Rattle.cil_member_updates.proofs.Common.{◌∙◌, sym, subst, meaning_in, set_at, AreBits, keeps}
 use Rattle.cil_member_updates.proofs.PlaceLemmas.{set-there}
 use Rattle.cil_member_updates.proofs.NameLemmas.{cover-kept, cover-reach}
 use Rattle.cil_member_updates.proofs.visits.reached.Goals as goal

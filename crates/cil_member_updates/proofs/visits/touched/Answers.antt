@@ -1,5 +1,4 @@
-use Rattle.std.proofs.Common.{◌≡◌, ℕ, List, IsTrue, Some, arith, bit_or, bit_xor, slice_get, subst, sym}
-use Rattle.cil_member_updates.proofs.Common.{Contains-get_or, bit_at_or, bit_at_xor, bit_at-lt, an_attribute, mentions, count_before, count_now, meaning_in, sets_in, no_set, set_at, AreBits, keeps}
+use Rattle.cil_member_updates.proofs.Common.{◌≡◌, ℕ, List, IsTrue, Some, arith, bit_or, bit_xor, slice_get, subst, sym, Contains-get_or, bit_at_or, bit_at_xor, bit_at-lt, an_attribute, mentions, count_before, count_now, meaning_in, sets_in, no_set, set_at, AreBits, keeps}
 use Rattle.cil_member_updates.proofs.NameLemmas.{cover-stayed, mention-there, unchanged-first}
 use Rattle.cil_member_updates.proofs.RenewLemmas.{same-expr}
 use Rattle.cil_member_updates.proofs.SymbolLemmas.{symbol-of}

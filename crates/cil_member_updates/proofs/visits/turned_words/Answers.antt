@@ -1,5 +1,4 @@
-use Rattle.std.proofs.Common.{◌≡◌, ℕ, List, IsTrue, Some, ap, slice_get, slice_index}
-use Rattle.cil_member_updates.proofs.Common.{bit_at, Contains-get_or, an_attribute, mentions, count_before, count_now, meaning_in, sets_in, no_set, set_at}
+use Rattle.cil_member_updates.proofs.Common.{◌≡◌, ℕ, List, IsTrue, Some, ap, slice_get, slice_index, bit_at, Contains-get_or, an_attribute, mentions, count_before, count_now, meaning_in, sets_in, no_set, set_at}
 use Rattle.cil_member_updates.proofs.NameLemmas.{cover-stayed, mention-there}
 use Rattle.cil_member_updates.proofs.RenewLemmas.{same-expr}
 use Rattle.cil_member_updates.proofs.SymbolLemmas.{symbol-of}

@@ -1,5 +1,4 @@
-use Rattle.std.proofs.Common.{subst}
-use Rattle.cil_member_updates.proofs.Common.{meaning_in, set_at, differ, Cover, AreUnsettledAt, holds}
+use Rattle.cil_member_updates.proofs.Common.{subst, meaning_in, set_at, differ, Cover, AreUnsettledAt, holds}
 use Rattle.cil_member_updates.proofs.BitLemmas.{cover-either, set-among}
 use Rattle.cil_member_updates.proofs.visits.unsettled.Goals as goal
 

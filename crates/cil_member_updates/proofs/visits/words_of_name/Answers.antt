@@ -1,5 +1,4 @@
-use Rattle.std.proofs.Common.{◌≡◌, Some, rules, slice_get, subst, sym}
-use Rattle.cil_member_updates.proofs.Common.{count_before, count_now, IsOutside, element_of, name_in, IsUnchanged}
+use Rattle.cil_member_updates.proofs.Common.{◌≡◌, Some, rules, slice_get, subst, sym, count_before, count_now, IsOutside, element_of, name_in, IsUnchanged}
 use Rattle.cil_member_updates.proofs.StayLemmas.{unchanged-word}
 use Rattle.cil_member_updates.proofs.SymbolLemmas.{symbol-name}
 use Rattle.cil_member_updates.proofs.visits.words_of_name.Goals as goal

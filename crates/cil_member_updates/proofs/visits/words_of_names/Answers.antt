@@ -1,5 +1,4 @@
-use Rattle.std.proofs.Common.{ℕ, get_or, subst, arith, below_more}
-use Rattle.cil_member_updates.proofs.Common.{«Type», count_before, count_now, IsOutside, element_of, set_at, leaves, IsUnchanged}
+use Rattle.cil_member_updates.proofs.Common.{ℕ, get_or, subst, arith, below_more, «Type», count_before, count_now, IsOutside, element_of, set_at, leaves, IsUnchanged}
 use Rattle.cil_member_updates.proofs.PlaceLemmas.{set-there}
 use Rattle.cil_member_updates.proofs.SymbolLemmas.{place-of}
 use Rattle.cil_member_updates.proofs.visits.words_of_names.Goals as goal

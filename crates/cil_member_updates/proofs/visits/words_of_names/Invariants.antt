@@ -1,5 +1,4 @@
-use Rattle.std.proofs.Common.{◌<◌, ℕ, get_or}
-use Rattle.cil_member_updates.proofs.Common.{«Type», count_before, count_now, IsOutside, element_of, IsUnchanged}
+use Rattle.cil_member_updates.proofs.Common.{◌<◌, ℕ, get_or, «Type», count_before, count_now, IsOutside, element_of, IsUnchanged}
 use Rattle.cil_member_updates.proofs.visits.words_of_names.Given as goal
 
 -- outside the words nothing changed of the names so far

@@ -1,5 +1,4 @@
-use Rattle.std.proofs.Common.{refl, arith, slice_index}
-use Rattle.cil_member_updates.proofs.Common.{slice_get_within, on_ok_weaker, count_now, evaluations_in, meaning_in, set_at, IsKept, holds, keeps, given}
+use Rattle.cil_member_updates.proofs.Common.{refl, arith, slice_index, slice_get_within, on_ok_weaker, count_now, evaluations_in, meaning_in, set_at, IsKept, holds, keeps, given}
 use Rattle.cil_member_updates.proofs.BitLemmas.{held-zero}
 use Rattle.cil_member_updates.proofs.EvaluatedLemmas.{word-none, word-once}
 use Rattle.cil_member_updates.proofs.NameLemmas.{holds-keeps}

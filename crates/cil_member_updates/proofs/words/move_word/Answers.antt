@@ -1,5 +1,4 @@
-use Rattle.std.proofs.Common.{◌≡◌, ◌∙◌, Some, slice_get, slice_index, refl, ap, sym, arith}
-use Rattle.cil_member_updates.proofs.Common.{slice_get_within, on_ok_weaker, count_now, evaluations_in, meaning_in, set_at, differ, IsUnsettled, holds, keeps, given}
+use Rattle.cil_member_updates.proofs.Common.{◌≡◌, ◌∙◌, Some, slice_get, slice_index, refl, ap, sym, arith, slice_get_within, on_ok_weaker, count_now, evaluations_in, meaning_in, set_at, differ, IsUnsettled, holds, keeps, given}
 use Rattle.cil_member_updates.proofs.BitLemmas.{held-zero}
 use Rattle.cil_member_updates.proofs.EvaluatedLemmas.{word-none, word-twice}
 use Rattle.cil_member_updates.proofs.NameLemmas.{holds-keeps}

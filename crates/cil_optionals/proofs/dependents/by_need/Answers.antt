@@ -1,5 +1,4 @@
-use Rattle.std.proofs.Common.{◌≡◌, ◌+◌, ◌++◌, [], ◌∷◌, length, sym, subst, arith, take, get_or, None}
-use Rattle.cil_optionals.proofs.Common.{take_more, take_all, length-take, AreDependents, Need}
+use Rattle.cil_optionals.proofs.Common.{◌≡◌, ◌+◌, ◌++◌, [], ◌∷◌, length, sym, subst, arith, take, get_or, None, take_more, take_all, length-take, AreDependents, Need}
 use Rattle.cil_optionals.proofs.DependentLemmas.{dependents-push, dependents-within}
 use Rattle.cil_optionals.proofs.dependents.by_need.Goals as goal
 

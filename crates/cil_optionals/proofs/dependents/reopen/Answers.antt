@@ -1,5 +1,4 @@
-use Rattle.std.proofs.Common.{ltb, leb, get_or, arith, rules}
-use Rattle.cil_optionals.proofs.Common.{IsPartitionPoint-from_clause, IsPartitionedBy-leb, IsPartitionedBy-ltb, slice_get-get_or, node_of, Dependent}
+use Rattle.cil_optionals.proofs.Common.{ltb, leb, get_or, arith, rules, IsPartitionPoint-from_clause, IsPartitionedBy-leb, IsPartitionedBy-ltb, slice_get-get_or, node_of, Dependent}
 use Rattle.cil_optionals.proofs.DependentLemmas.{opened-more, opened-all, IsStart, IsEnd}
 use Rattle.cil_optionals.proofs.dependents.reopen.Goals as goal
 

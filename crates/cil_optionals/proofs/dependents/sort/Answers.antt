@@ -1,5 +1,4 @@
-use Rattle.std.proofs.Common.{rules}
-use Rattle.cil_optionals.proofs.Common.{IsNonDecreasingBy-from_sort_by_key, on_ok_weaker, node_of}
+use Rattle.cil_optionals.proofs.Common.{rules, IsNonDecreasingBy-from_sort_by_key, on_ok_weaker, node_of}
 use Rattle.cil_optionals.proofs.dependents.sort.Goals as goal
 
 pub returns-clause-sorted : goal.returns-clause-sorted

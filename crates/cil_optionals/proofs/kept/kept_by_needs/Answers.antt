@@ -1,5 +1,4 @@
-use Rattle.std.proofs.Common.{◌≡◌, ◌<◌, ◌+◌, ◌++◌, false, length, get_or, sym, ap, ◌∙◌, subst, arith}
-use Rattle.cil_optionals.proofs.Common.{list_all, get_or-take, rows-length, are_met, is_need_below, ShowsKept}
+use Rattle.cil_optionals.proofs.Common.{◌≡◌, ◌<◌, ◌+◌, ◌++◌, false, length, get_or, sym, ap, ◌∙◌, subst, arith, list_all, get_or-take, rows-length, are_met, is_need_below, ShowsKept}
 use Rattle.cil_optionals.proofs.KeptLemmas.{rows-there, all-below, shows-kept, shows-taken}
 use Rattle.cil_optionals.proofs.kept.kept_by_needs.Goals as goal
 

@@ -1,5 +1,4 @@
-use Rattle.std.proofs.Common.{◌≡◌, ◌+◌, true, false, not, length, get_or, sym, ap, ◌∙◌, subst, arith}
-use Rattle.cil_optionals.proofs.Common.{list_all, get_or-replicate, length-replicate, IfOk-weaker, ShowsKept}
+use Rattle.cil_optionals.proofs.Common.{◌≡◌, ◌+◌, true, false, not, length, get_or, sym, ap, ◌∙◌, subst, arith, list_all, get_or-replicate, length-replicate, IfOk-weaker, ShowsKept}
 use Rattle.cil_optionals.proofs.KeptLemmas.{shows-all}
 use Rattle.cil_optionals.proofs.kept.kept_optionals.Goals as goal
 

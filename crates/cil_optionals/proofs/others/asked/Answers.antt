@@ -1,5 +1,4 @@
-use Rattle.std.proofs.Common.{◌<◌, length, sym, ◌∙◌, subst, None, arith}
-use Rattle.cil_optionals.proofs.Common.{same_Some, AddsNeed, IsOf, optional_at, IsReady}
+use Rattle.cil_optionals.proofs.Common.{◌<◌, length, sym, ◌∙◌, subst, None, arith, same_Some, AddsNeed, IsOf, optional_at, IsReady}
 use Rattle.cil_optionals.proofs.AsksLemmas.{row-one, around-low}
 use Rattle.cil_optionals.proofs.ProviderLemmas.{row-of}
 use Rattle.cil_optionals.proofs.OthersLemmas.{of-row, module-low, asks-there, asks-lacking}

@@ -1,5 +1,4 @@
-use Rattle.std.proofs.Common.{◌+◌, ◌&&◌, ap, subst}
-use Rattle.cil_optionals.proofs.Common.{restricted, references, named_permissions, are_found, are_there, row_optional, Asks}
+use Rattle.cil_optionals.proofs.Common.{◌+◌, ◌&&◌, ap, subst, restricted, references, named_permissions, are_found, are_there, row_optional, Asks}
 use Rattle.cil_optionals.proofs.ProviderLemmas.{row-of}
 use Rattle.cil_optionals.proofs.OthersLemmas.{others-skip, others-asks}
 use Rattle.cil_optionals.proofs.others.need_at.Goals as goal

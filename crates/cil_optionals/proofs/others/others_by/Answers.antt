@@ -1,5 +1,4 @@
-use Rattle.std.proofs.Common.{◌≤◌, length, refl, sym, ◌∙◌, subst, arith}
-use Rattle.cil_optionals.proofs.Common.{rows-length, permissions_in, HavePermissions}
+use Rattle.cil_optionals.proofs.Common.{◌≤◌, length, refl, sym, ◌∙◌, subst, arith, rows-length, permissions_in, HavePermissions}
 use Rattle.cil_optionals.proofs.OthersLemmas.{others-none, others-all}
 use Rattle.cil_optionals.proofs.others.others_by.Goals as goal
 

@@ -1,5 +1,4 @@
-use Rattle.std.proofs.Common.{◌≡◌, List}
-use Rattle.cil_optionals.proofs.Common.{Placed, permissions_in, AreOthersTo, HavePermissions, IsReady}
+use Rattle.cil_optionals.proofs.Common.{◌≡◌, List, Placed, permissions_in, AreOthersTo, HavePermissions, IsReady}
 use Rattle.cil_optionals.proofs.others.others_by.Given as goal
 
 -- so many rows

@@ -1,5 +1,4 @@
-use Rattle.std.proofs.Common.{sym, subst}
-use Rattle.cil_optionals.proofs.Common.{IfOk-weaker, permissions_in, HavePermissions}
+use Rattle.cil_optionals.proofs.Common.{sym, subst, IfOk-weaker, permissions_in, HavePermissions}
 use Rattle.cil_optionals.proofs.others.others_by_listed.Goals as goal
 
 pub returns : goal.returns

@@ -1,5 +1,4 @@
-use Rattle.std.proofs.Common.{◌≤◌, length, sym, ◌∙◌, arith}
-use Rattle.cil_optionals.proofs.Common.{take_all, bytes_eq-Decides}
+use Rattle.cil_optionals.proofs.Common.{◌≤◌, length, sym, ◌∙◌, arith, take_all, bytes_eq-Decides}
 use Rattle.cil_optionals.proofs.permissions.is_same.Goals as goal
 
 pub returns : goal.returns

@@ -1,5 +1,4 @@
-use Rattle.std.proofs.Common.{sym, subst}
-use Rattle.cil_optionals.proofs.Common.{word_at, table_of, IsLead, further_out}
+use Rattle.cil_optionals.proofs.Common.{sym, subst, word_at, table_of, IsLead, further_out}
 use Rattle.cil_bind.proofs.LookupLemmas.{around}
 use Rattle.cil_optionals.proofs.providers.further_out.Goals as goal
 

@@ -1,5 +1,4 @@
-use Rattle.std.proofs.Common.{◌+◌, ◌∷◌, sym, ap, ◌∙◌, subst, arith}
-use Rattle.cil_optionals.proofs.Common.{same_Some, option_to_list, rows-length, alternatives, IsDeclaration, AreProviders}
+use Rattle.cil_optionals.proofs.Common.{◌+◌, ◌∷◌, sym, ap, ◌∙◌, subst, arith, same_Some, option_to_list, rows-length, alternatives, IsDeclaration, AreProviders}
 use Rattle.cil_optionals.proofs.ProviderLemmas.{providers-skip, providers-next, row-nothing, row-scopes, row-of, row-next}
 use Rattle.cil_optionals.proofs.providers.provide.Goals as goal
 

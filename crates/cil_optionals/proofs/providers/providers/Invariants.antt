@@ -1,5 +1,4 @@
-use Rattle.std.proofs.Common.{List}
-use Rattle.cil_optionals.proofs.Common.{Placed, NamedModule, IsReady, AreProviders}
+use Rattle.cil_optionals.proofs.Common.{List, Placed, NamedModule, IsReady, AreProviders}
 use Rattle.cil_optionals.proofs.providers.providers.Given as goal
 
 -- the names of so many rows

@@ -1,5 +1,4 @@
-use Rattle.std.proofs.Common.{◌≡◌, List, Some, slice_get, take}
-use Rattle.cil_optionals.proofs.Common.{Placed, restricted, references, NamedModule, IsReady, are_found, optional_at, Asks, IsOf}
+use Rattle.cil_optionals.proofs.Common.{◌≡◌, List, Some, slice_get, take, Placed, restricted, references, NamedModule, IsReady, are_found, optional_at, Asks, IsOf}
 use Rattle.cil_optionals.proofs.references.references.Given as goal
 
 -- so many references

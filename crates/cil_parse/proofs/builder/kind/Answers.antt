@@ -1,5 +1,4 @@
-use Rattle.std.proofs.Common.{◌∙◌, ap, sym, map}
-use Rattle.cil_parse.proofs.Common.{word_of, form_of, kind_of}
+use Rattle.cil_parse.proofs.Common.{◌∙◌, ap, sym, map, word_of, form_of, kind_of}
 use Rattle.cil_parse.proofs.builder.kind.Goals as goal
 
 pub returns-in-Rule : goal.returns-in-Rule

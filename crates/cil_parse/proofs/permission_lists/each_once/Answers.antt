@@ -1,5 +1,4 @@
-use Rattle.std.proofs.Common.{◌∙◌, [], ◌∷◌, ◌++◌, map, take, ap, sym, subst, arith}
-use Rattle.cil_parse.proofs.Common.{take_more, take_all, seen, AreNumbersOf}
+use Rattle.cil_parse.proofs.Common.{◌∙◌, [], ◌∷◌, ◌++◌, map, take, ap, sym, subst, arith, take_more, take_all, seen, AreNumbersOf}
 use Rattle.cil_parse.proofs.LexiconLemmas.{number-pushed}
 use Rattle.cil_parse.proofs.permission_lists.each_once.Goals as goal
 

@@ -1,5 +1,4 @@
-use Rattle.std.proofs.Common.{◌≡◌, ◌∙◌, ◌⊎◌, inl, inr, ℕ, List, Bool, true, false, true≢false, [], codes, Option, Some, unwrap_or, ap, sym, subst}
-use Rattle.cil_program.proofs.Common.{IfOk-weaker, Row, Text, rows_of, CompilesFiles, Content, IsReportAsked, IsReportFor, IsToBeWritten, files_asked}
+use Rattle.cil_program.proofs.Common.{◌≡◌, ◌∙◌, ◌⊎◌, inl, inr, ℕ, List, Bool, true, false, true≢false, [], codes, Option, Some, unwrap_or, ap, sym, subst, IfOk-weaker, Row, Text, rows_of, CompilesFiles, Content, IsReportAsked, IsReportFor, IsToBeWritten, files_asked}
 use Rattle.clap.specs.Matches.{found_of}
 use Rattle.clap.proofs.WalkLemmas.{one_text-rows, raw_values-rows}
 use Rattle.cil_program.proofs.CommandLineLemmas.{on-err}

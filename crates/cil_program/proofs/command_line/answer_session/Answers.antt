@@ -1,5 +1,4 @@
-use Rattle.std.proofs.Common.{◌≡◌, ◌≢◌, ◌∙◌, ◌⊎◌, inl, inr, Result, Ok, Err, OnOk, IfOk, refl, sym, subst}
-use Rattle.cil_program.proofs.Common.{IfOk-weaker, Store, exit_status_of, Leaves, LeavesByRead, LeavesByWrite, SessionFault, Read, Write, Status}
+use Rattle.cil_program.proofs.Common.{◌≡◌, ◌≢◌, ◌∙◌, ◌⊎◌, inl, inr, Result, Ok, Err, OnOk, IfOk, refl, sym, subst, IfOk-weaker, Store, exit_status_of, Leaves, LeavesByRead, LeavesByWrite, SessionFault, Read, Write, Status}
 use Rattle.cil_program.specs.declared.script.session.Status.TheVariants.{Clean, Refused, Script}
 use Rattle.cil_program.proofs.command_line.answer_session.Goals as goal
 

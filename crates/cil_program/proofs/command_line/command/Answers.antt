@@ -1,6 +1,5 @@
-use Rattle.std.proofs.Common.{◌≡◌, ◌∙◌, ◌⊎◌, ◌≤◌, ◌<◌, inl, inr, ℕ, List, [], Result, Ok, Err, Option, IfOk, OnErr, option_map, unwrap_or, ap, sym, subst, arith}
+use Rattle.cil_program.proofs.Common.{◌≡◌, ◌∙◌, ◌⊎◌, ◌≤◌, ◌<◌, inl, inr, ℕ, List, [], Result, Ok, Err, Option, IfOk, OnErr, option_map, unwrap_or, ap, sym, subst, arith, IfOk-weaker, Row, rows_of, Gains, GainsFront, HasFailed, failed-later, for_memory, refusal_line, untold, IsToBeWritten}
 use Rattle.std.proofs.Math.Nat.{eq-or-lt_of_le}
-use Rattle.cil_program.proofs.Common.{IfOk-weaker, Row, rows_of, Gains, GainsFront, HasFailed, failed-later, for_memory, refusal_line, untold, IsToBeWritten}
 use Rattle.clap.specs.Matches.{found_of}
 use Rattle.cil_program.proofs.CommandLineLemmas.{front-all, on-err}
 use Rattle.cil_program.proofs.command_line.command.Goals as goal

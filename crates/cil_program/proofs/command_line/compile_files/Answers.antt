@@ -1,5 +1,4 @@
-use Rattle.std.proofs.Common.{◌∙◌, ℕ, List, [], ◌∷◌, All, map, ap, refl, sym, subst}
-use Rattle.cil_program.proofs.Common.{AllZip, IfOk-weaker, Gains, GainsFront, gains-none, Entry, for_memory, refusal_line, entry_of, Content, IsEntryAt, IsEntryFor, IsReadOf, compiles, is_unreadable, is_not_held, unreadable_line}
+use Rattle.cil_program.proofs.Common.{◌∙◌, ℕ, List, [], ◌∷◌, All, map, ap, refl, sym, subst, AllZip, IfOk-weaker, Gains, GainsFront, gains-none, Entry, for_memory, refusal_line, entry_of, Content, IsEntryAt, IsEntryFor, IsReadOf, compiles, is_unreadable, is_not_held, unreadable_line}
 use Rattle.std.proofs.lemmas.List.Elements.{All-head, All-tail}
 use Rattle.cil_specs.proofs.NamesLemmas.{contains-map}
 use Rattle.cil_program.proofs.CommandLineLemmas.{front-none, on-err}

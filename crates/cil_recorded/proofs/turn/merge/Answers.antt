@@ -1,5 +1,4 @@
-use Rattle.std.proofs.Common.{◌≡◌, ◌≤◌, ℕ, length, refl, ap, get_or, take_all, arith}
-use Rattle.cil_recorded.proofs.Common.{get_or_default, sum_by_more, sum_by_push, Turn, balance_of, turn_key, key_of}
+use Rattle.cil_recorded.proofs.Common.{◌≡◌, ◌≤◌, ℕ, length, refl, ap, get_or, take_all, arith, get_or_default, sum_by_more, sum_by_push, Turn, balance_of, turn_key, key_of}
 use Rattle.cil_recorded.proofs.LogLemmas.{hit_nothing}
 use Rattle.cil_recorded.proofs.TurnLemmas.{ascends-push, next-push}
 use Rattle.cil_recorded.proofs.turn.merge.Goals as goal

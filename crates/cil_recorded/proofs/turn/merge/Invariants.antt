@@ -1,5 +1,4 @@
-use Rattle.std.proofs.Common.{◌≡◌, ◌+◌, ◌%◌, ◌<◌, ◌≤◌, ℕ, length, take, get_or}
-use Rattle.cil_recorded.proofs.Common.{Turn, Ascends, balance_at, balance_of, turn_key}
+use Rattle.cil_recorded.proofs.Common.{◌≡◌, ◌+◌, ◌%◌, ◌<◌, ◌≤◌, ℕ, length, take, get_or, Turn, Ascends, balance_at, balance_of, turn_key}
 use Rattle.cil_recorded.proofs.TurnLemmas.{next}
 use Rattle.cil_recorded.proofs.turn.merge.Given as goal
 

@@ -1,5 +1,4 @@
-use Rattle.std.proofs.Common.{◌∙◌, ap, arith}
-use Rattle.cil_recorded.proofs.Common.{with_items_is, balance_at}
+use Rattle.cil_recorded.proofs.Common.{◌∙◌, ap, arith, with_items_is, balance_at}
 use Rattle.cil_recorded.proofs.TurnLemmas.{IfOk-map}
 use Rattle.cil_recorded.proofs.turn.net_turns.Goals as goal
 

@@ -1,5 +1,4 @@
-use Rattle.std.proofs.Common.{◌≡◌, ◌≤◌, ◌*◌, ℕ, length, ap, get_or, take_all, Bool, true, false, if◌then◌else◌, arith}
-use Rattle.cil_recorded.proofs.Common.{sum_by_more, sum_by_push, Step, balance_of, hit_at, turned_by}
+use Rattle.cil_recorded.proofs.Common.{◌≡◌, ◌≤◌, ◌*◌, ℕ, length, ap, get_or, take_all, Bool, true, false, if◌then◌else◌, arith, sum_by_more, sum_by_push, Step, balance_of, hit_at, turned_by}
 use Rattle.cil_recorded.proofs.LogLemmas.{hit_nothing}
 use Rattle.cil_recorded.proofs.turn.turns_of.Goals as goal
 use Rattle.cil_recorded.proofs.turn.turns_of.Goals.{then-step-ne0+in_ok-turn_of+in_ok-push, else-step-ne0}

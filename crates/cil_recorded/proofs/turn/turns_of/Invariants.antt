@@ -1,5 +1,4 @@
-use Rattle.std.proofs.Common.{◌≡◌, ℕ, take}
-use Rattle.cil_recorded.proofs.Common.{balance_at, turned_in}
+use Rattle.cil_recorded.proofs.Common.{◌≡◌, ℕ, take, balance_at, turned_in}
 use Rattle.cil_recorded.proofs.turn.turns_of.Given as goal
 
 abbrev pub invariant-loop-step : goal.invariant-loop-step

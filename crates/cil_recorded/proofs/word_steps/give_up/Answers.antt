@@ -1,5 +1,4 @@
-use Rattle.std.proofs.Common.{◌∙◌, [], ap}
-use Rattle.cil_recorded.proofs.Common.{get_or_default, Counters, count_of}
+use Rattle.cil_recorded.proofs.Common.{◌∙◌, [], ap, get_or_default, Counters, count_of}
 use Rattle.cil_recorded.proofs.LogLemmas.{set_kept}
 use Rattle.cil_recorded.proofs.word_steps.give_up.Goals as goal
 

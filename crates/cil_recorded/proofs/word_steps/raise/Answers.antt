@@ -1,5 +1,4 @@
-use Rattle.std.proofs.Common.{◌+◌, ◌∙◌, [], ap}
-use Rattle.cil_recorded.proofs.Common.{get_or_default, Counters, count_of, hit}
+use Rattle.cil_recorded.proofs.Common.{◌+◌, ◌∙◌, [], ap, get_or_default, Counters, count_of, hit}
 use Rattle.cil_recorded.proofs.LogLemmas.{set_raised}
 use Rattle.cil_recorded.proofs.word_steps.raise.Goals as goal
 

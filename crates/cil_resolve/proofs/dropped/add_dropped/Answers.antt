@@ -1,5 +1,4 @@
-use Rattle.std.proofs.Common.{◌≡◌, ◌++◌, [], ◌∷◌, map, sym, ap, ◌∙◌, arith, append-nil}
-use Rattle.cil_resolve.proofs.Common.{map-append, rows-length, there-at, dropped_if, modules_of, dropped_with}
+use Rattle.cil_resolve.proofs.Common.{◌≡◌, ◌++◌, [], ◌∷◌, map, sym, ap, ◌∙◌, arith, append-nil, map-append, rows-length, there-at, dropped_if, modules_of, dropped_with}
 use Rattle.cil_resolve.proofs.DroppedLemmas.{row-here, row-optional, one-dropped, kept-none, other-none}
 use Rattle.cil_resolve.proofs.dropped.add_dropped.Goals as goal
 use Rattle.cil_resolve.proofs.dropped.add_dropped.Goals.{else-row-via-then-row+else-not-is_marked, else-row-via-else-row}

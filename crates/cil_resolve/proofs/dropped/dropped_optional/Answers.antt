@@ -1,5 +1,4 @@
-use Rattle.std.proofs.Common.{◌<◌, length, arith, rules, sym, ap, ◌∙◌}
-use Rattle.cil_resolve.proofs.Common.{length-map, none-some, declared_in, scopes, full_name, word_text, texts_of, is-there, from-within}
+use Rattle.cil_resolve.proofs.Common.{◌<◌, length, arith, rules, sym, ap, ◌∙◌, length-map, none-some, declared_in, scopes, full_name, word_text, texts_of, is-there, from-within}
 use Rattle.cil_parse.specs.Kinds.{table_of}
 use Rattle.cil_bind.proofs.ScopeLemmas.{read-text, read-within}
 use Rattle.cil_bind.proofs.TwiceLemmas.{declares-one}

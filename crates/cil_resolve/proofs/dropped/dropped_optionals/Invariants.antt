@@ -1,5 +1,4 @@
-use Rattle.std.proofs.Common.{◌≡◌, List, map, take, flat_map}
-use Rattle.cil_resolve.proofs.Common.{Placed, Optionals, IsBoundTo, dropped_if, HaveMarks, modules_of, dropped_with}
+use Rattle.cil_resolve.proofs.Common.{◌≡◌, List, map, take, flat_map, Placed, Optionals, IsBoundTo, dropped_if, HaveMarks, modules_of, dropped_with}
 use Rattle.cil_resolve.proofs.dropped.dropped_optionals.Given as goal
 
 abbrev pub invariant-loop-i : goal.invariant-loop-i

@@ -1,5 +1,4 @@
-use Rattle.std.proofs.Common.{◌∙◌, ◌+◌, length, sym, ap, subst, arith}
-use Rattle.cil_resolve.proofs.Common.{length_push, slice_get_within}
+use Rattle.cil_resolve.proofs.Common.{◌∙◌, ◌+◌, length, sym, ap, subst, arith, length_push, slice_get_within}
 use Rattle.cil_resolve.proofs.ElementLemmas.{HaveElementsBelow, elements-next}
 use Rattle.cil_resolve.proofs.elements.elements.Goals as goal
 

@@ -1,5 +1,4 @@
-use Rattle.std.proofs.Common.{◌≡◌, ℕ, List, length}
-use Rattle.cil_resolve.proofs.Common.{Placed, IsFaultless, HavePlaces}
+use Rattle.cil_resolve.proofs.Common.{◌≡◌, ℕ, List, length, Placed, IsFaultless, HavePlaces}
 use Rattle.cil_check.specs.Checker.{IsNoted}
 use Rattle.cil_resolve.proofs.ElementLemmas.{HaveElementsBelow}
 use Rattle.cil_resolve.proofs.elements.elements.Given as goal

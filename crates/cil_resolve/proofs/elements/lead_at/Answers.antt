@@ -1,5 +1,4 @@
-use Rattle.std.proofs.Common.{sym, subst}
-use Rattle.cil_resolve.proofs.Common.{leads, IsLead, seen-lead}
+use Rattle.cil_resolve.proofs.Common.{sym, subst, leads, IsLead, seen-lead}
 use Rattle.cil_resolve.proofs.elements.lead_at.Goals as goal
 
 pub returns : goal.returns

@@ -1,5 +1,4 @@
-use Rattle.std.proofs.Common.{◌<◌, ◌++◌, ◌∷◌, length, [], map, arith, sym, ap, ◌∙◌}
-use Rattle.cil_resolve.proofs.Common.{there-at, full_name_of}
+use Rattle.cil_resolve.proofs.Common.{◌<◌, ◌++◌, ◌∷◌, length, [], map, arith, sym, ap, ◌∙◌, there-at, full_name_of}
 use Rattle.cil_resolve.proofs.StatementLemmas.{map-one}
 use Rattle.cil_resolve.proofs.full_names.full_names.Goals as goal
 

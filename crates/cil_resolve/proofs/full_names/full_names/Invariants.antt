@@ -1,5 +1,4 @@
-use Rattle.std.proofs.Common.{◌≡◌, [], List, map, take}
-use Rattle.cil_resolve.proofs.Common.{Placed, IsOf, full_name_of}
+use Rattle.cil_resolve.proofs.Common.{◌≡◌, [], List, map, take, Placed, IsOf, full_name_of}
 use Rattle.cil_resolve.proofs.full_names.full_names.Given as goal
 
 abbrev pub invariant-loop-i : goal.invariant-loop-i

@@ -1,5 +1,4 @@
-use Rattle.std.proofs.Common.{◌∙◌, sym, ap}
-use Rattle.cil_resolve.proofs.Common.{seen-kind, seen-word, is_numbered_kind}
+use Rattle.cil_resolve.proofs.Common.{◌∙◌, sym, ap, seen-kind, seen-word, is_numbered_kind}
 use Rattle.cil_resolve.proofs.FullNamesLemmas.{numbered-first}
 use Rattle.cil_resolve.proofs.full_names.numbered_word.Goals as goal
 

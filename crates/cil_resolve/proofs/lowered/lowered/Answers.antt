@@ -1,5 +1,4 @@
-use Rattle.std.proofs.Common.{rules, ◌≡◌, ◌∙◌, [], ◌<◌, ◌^◌, length, map, IsTrue, sym, ap, subst}
-use Rattle.cil_resolve.proofs.Common.{list_all, AllPairs, IsStrictlySortedBy, length-map, HasSoundSets, meaning_of, are_rules_of, are_placed_in, HaveElements, modules_of, HavePlaces, declared_of, class_of, set_of, dropped_with, HasNoCircle, is_set_below}
+use Rattle.cil_resolve.proofs.Common.{rules, ◌≡◌, ◌∙◌, [], ◌<◌, ◌^◌, length, map, IsTrue, sym, ap, subst, list_all, AllPairs, IsStrictlySortedBy, length-map, HasSoundSets, meaning_of, are_rules_of, are_placed_in, HaveElements, modules_of, HavePlaces, declared_of, class_of, set_of, dropped_with, HasNoCircle, is_set_below}
 use Rattle.cil_resolve.specs.Numbers.{rule_of}
 use Rattle.cil_resolve.proofs.ConsistentLemmas.{rules-declared}
 use Rattle.cil_resolve.proofs.PlacedLemmas.{from-named, all-placed}

@@ -1,5 +1,4 @@
-use Rattle.std.proofs.Common.{◌∙◌, ◌||◌, [], fold, get_or, sym, ap}
-use Rattle.cil_resolve.proofs.Common.{on_ok_weaker, with_name, lists_own, there-at, full_name_of, is_numbered_kind}
+use Rattle.cil_resolve.proofs.Common.{◌∙◌, ◌||◌, [], fold, get_or, sym, ap, on_ok_weaker, with_name, lists_own, there-at, full_name_of, is_numbered_kind}
 use Rattle.cil_resolve.proofs.NumberLemmas.{none-brought}
 use Rattle.cil_resolve.proofs.StatementLemmas.{mapped-at}
 use Rattle.cil_resolve.proofs.numbering.insert_names_at.Goals as goal

@@ -1,5 +1,4 @@
-use Rattle.std.proofs.Common.{◌≡◌, List, fold, map, take, Some}
-use Rattle.cil_resolve.proofs.Common.{Word, with_name, texts, read, texts_of}
+use Rattle.cil_resolve.proofs.Common.{◌≡◌, List, fold, map, take, Some, Word, with_name, texts, read, texts_of}
 use Rattle.cil_resolve.proofs.numbering.insert_words.Given as goal
 
 abbrev pub invariant-loop-word : goal.invariant-loop-word

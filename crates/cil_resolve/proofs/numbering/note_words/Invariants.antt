@@ -1,5 +1,4 @@
-use Rattle.std.proofs.Common.{◌≡◌, ◌++◌, ℕ, List, length, map, take, Some, bytes_eq}
-use Rattle.cil_resolve.proofs.Common.{AllByRecursion, IsDistinct, Word, texts, read, texts_of, IsOneName, HavePermissionsOf}
+use Rattle.cil_resolve.proofs.Common.{◌≡◌, ◌++◌, ℕ, List, length, map, take, Some, bytes_eq, AllByRecursion, IsDistinct, Word, texts, read, texts_of, IsOneName, HavePermissionsOf}
 use Rattle.cil_parse.specs.Lexicon.{AreNumbersOf}
 use Rattle.cil_parse.specs.Parsed.{names_of}
 use Rattle.cil_resolve.proofs.numbering.note_words.Given as goal

@@ -1,5 +1,4 @@
-use Rattle.std.proofs.Common.{◌≡◌, ◌≤◌, ◌+◌, ◌++◌, ◌∙◌, length, take, sym, ap, subst, arith, append-nil}
-use Rattle.cil_resolve.proofs.Common.{AllByRecursion, take_all, has_name, texts, own_permissions, permissions_in, texts_of, IsOneName, lists_own, own-listed, none-listed, there-at, names_with, listed_names, HavePermissionsOf}
+use Rattle.cil_resolve.proofs.Common.{◌≡◌, ◌≤◌, ◌+◌, ◌++◌, ◌∙◌, length, take, sym, ap, subst, arith, append-nil, AllByRecursion, take_all, has_name, texts, own_permissions, permissions_in, texts_of, IsOneName, lists_own, own-listed, none-listed, there-at, names_with, listed_names, HavePermissionsOf}
 use Rattle.cil_resolve.proofs.NumberLemmas.{has-words, named-in, own-named}
 use Rattle.cil_resolve.proofs.StatementLemmas.{at-place, flat-one}
 use Rattle.cil_resolve.proofs.numbering.permission_numbers.Goals as goal

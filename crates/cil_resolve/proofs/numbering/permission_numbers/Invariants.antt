@@ -1,5 +1,4 @@
-use Rattle.std.proofs.Common.{◌≡◌, List, length, take}
-use Rattle.cil_resolve.proofs.Common.{Placed, IsOf, listed_names, HavePermissionsOf}
+use Rattle.cil_resolve.proofs.Common.{◌≡◌, List, length, take, Placed, IsOf, listed_names, HavePermissionsOf}
 use Rattle.cil_resolve.proofs.numbering.permission_numbers.Given as goal
 
 abbrev pub invariant-loop-i : goal.invariant-loop-i

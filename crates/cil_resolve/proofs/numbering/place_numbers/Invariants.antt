@@ -1,5 +1,5 @@
-use Rattle.std.proofs.Common.{◌≡◌, ◌<◌, ℕ, List, length, map, slice_get, Some, IsTrue, get_or}
-use Rattle.cil_resolve.proofs.Common.{Placed, IsOf, is_numbered, full_name_of, number_in}
+use Rattle.cil_resolve.proofs.Common.{◌≡◌, ◌<◌, ℕ, List, length, map, Some, IsTrue, get_or, Placed, IsOf, is_numbered, full_name_of, number_in}
+use Rattle.std.proofs.Common.{slice_get}
 use Rattle.cil_resolve.proofs.numbering.place_numbers.Given as goal
 
 abbrev pub invariant-loop-i : goal.invariant-loop-i

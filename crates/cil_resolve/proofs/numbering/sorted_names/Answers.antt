@@ -1,5 +1,4 @@
-use Rattle.std.proofs.Common.{◌≤◌, ◌∙◌, [], fold, take, length, sym, ap, arith}
-use Rattle.cil_resolve.proofs.Common.{take_all, fold-append, with_name, distinct, there-at, names_with, names_of}
+use Rattle.cil_resolve.proofs.Common.{◌≤◌, ◌∙◌, [], fold, take, length, sym, ap, arith, take_all, fold-append, with_name, distinct, there-at, names_with, names_of}
 use Rattle.cil_resolve.proofs.NumberLemmas.{names-sorted}
 use Rattle.cil_resolve.proofs.StatementLemmas.{flat-one}
 use Rattle.cil_resolve.proofs.numbering.sorted_names.Goals as goal

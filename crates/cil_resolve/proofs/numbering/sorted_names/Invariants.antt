@@ -1,5 +1,4 @@
-use Rattle.std.proofs.Common.{◌≡◌, List, map, take}
-use Rattle.cil_resolve.proofs.Common.{Placed, distinct, IsOf, full_name_of, names_of}
+use Rattle.cil_resolve.proofs.Common.{◌≡◌, List, map, take, Placed, distinct, IsOf, full_name_of, names_of}
 use Rattle.cil_resolve.proofs.numbering.sorted_names.Given as goal
 
 abbrev pub invariant-loop-i : goal.invariant-loop-i

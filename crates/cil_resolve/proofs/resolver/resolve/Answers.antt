@@ -1,5 +1,4 @@
-use Rattle.std.proofs.Common.{ap}
-use Rattle.cil_resolve.proofs.Common.{err_from_is_err_and, joined, restricted, IsFirstFault, IsLeast, IsFaultIn, meaning_in}
+use Rattle.cil_resolve.proofs.Common.{ap, err_from_is_err_and, joined, restricted, IsFirstFault, IsLeast, IsFaultIn, meaning_in}
 use Rattle.cil_resolve.proofs.FaultLemmas.{fault-weaker}
 use Rattle.cil_resolve.proofs.JudgedLemmas.{judged-in-order, judged-first, kept-means}
 use Rattle.cil_resolve.proofs.resolver.resolve.Goals as goal

@@ -1,5 +1,4 @@
-use Rattle.std.proofs.Common.{◌≡◌, ◌↔◌, ℕ, length, take}
-use Rattle.cil_resolve.proofs.Common.{IsEdge, IsNext}
+use Rattle.cil_resolve.proofs.Common.{◌≡◌, ◌↔◌, ℕ, length, take, IsEdge, IsNext}
 use Rattle.cil_resolve.proofs.set_order.graph.Given as goal
 
 -- the statements gone over have their edges

@@ -1,5 +1,4 @@
-use Rattle.std.proofs.Common.{◌∙◌, length, sym, subst}
-use Rattle.cil_resolve.proofs.Common.{eqb-true, IsSetOrder}
+use Rattle.cil_resolve.proofs.Common.{◌∙◌, length, sym, subst, eqb-true, IsSetOrder}
 use Rattle.cil_resolve.proofs.SetOrderLemmas.{none-in-order}
 use Rattle.cil_resolve.proofs.set_order.order.Goals as goal
 

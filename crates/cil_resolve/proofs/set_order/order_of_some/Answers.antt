@@ -1,6 +1,6 @@
-use Rattle.std.proofs.Common.{◌∙◌, ◌↔◌, ◌<◌, ℕ, All, AllPairs, length, ap, subst, sym}
+use Rattle.cil_resolve.proofs.Common.{◌∙◌, ◌↔◌, ◌<◌, ℕ, All, length, ap, subst, sym, IsEdge, attributes_in, IsNext, IsSetOrder}
 use Rattle.cil_dependence.specs.Dependence.{IsDependence}
-use Rattle.cil_resolve.proofs.Common.{IsEdge, attributes_in, IsNext, IsSetOrder}
+use Rattle.std.proofs.Common.{AllPairs}
 use Rattle.cil_dependence.specs.Items.{AreEachOnce, ComesBefore}
 use Rattle.cil_dependence.proofs.ItemsLemmas.{order-length, order-once}
 use Rattle.cil_resolve.proofs.SetOrderLemmas.{attributes-below, both-ok, graph-nodes, no-circle, set-order}

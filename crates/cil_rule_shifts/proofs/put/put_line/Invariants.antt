@@ -1,5 +1,4 @@
-use Rattle.std.proofs.Common.{ℕ, ◌≡◌, ◌+◌, cond, take}
-use Rattle.cil_rule_shifts.proofs.Common.{count_now, is_key, steps_in, SymbolKey, hits_of}
+use Rattle.cil_rule_shifts.proofs.Common.{ℕ, ◌≡◌, ◌+◌, cond, take, count_now, is_key, steps_in, SymbolKey, hits_of}
 use Rattle.cil_rule_shifts.proofs.put.put_line.Given as goal
 
 -- the targets of the pieces so far are counted

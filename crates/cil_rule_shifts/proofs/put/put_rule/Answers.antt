@@ -1,5 +1,4 @@
-use Rattle.std.proofs.Common.{◌∙◌, ap, arith, sym, true}
-use Rattle.cil_rule_shifts.proofs.Common.{has_target, one_if, rises-none}
+use Rattle.cil_rule_shifts.proofs.Common.{◌∙◌, ap, arith, sym, true, has_target, one_if, rises-none}
 use Rattle.cil_rule_shifts.specs.declared.pieces.Pieces.{Pieces}
 use Rattle.cil_rule_shifts.proofs.PieceLemmas.{put-first, put_up_to, source-put, source-within, sources-done, sources-step}
 use Rattle.cil_rule_shifts.proofs.ShiftLemmas.{short-source}

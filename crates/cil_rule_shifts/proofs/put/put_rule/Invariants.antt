@@ -1,5 +1,4 @@
-use Rattle.std.proofs.Common.{ℕ, ◌≡◌, ◌+◌, ◌-◌, ◌^◌, false}
-use Rattle.cil_rule_shifts.proofs.Common.{count_now, steps_in, SymbolKey, has_target, ArePieces, one_if, takes, RisesBy}
+use Rattle.cil_rule_shifts.proofs.Common.{ℕ, ◌≡◌, ◌+◌, ◌-◌, ◌^◌, false, count_now, steps_in, SymbolKey, has_target, ArePieces, one_if, takes, RisesBy}
 use Rattle.cil_rule_shifts.proofs.PieceLemmas.{put_up_to}
 use Rattle.cil_rule_shifts.proofs.put.put_rule.Given as goal
 

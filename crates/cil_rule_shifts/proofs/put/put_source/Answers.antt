@@ -1,5 +1,4 @@
-use Rattle.std.proofs.Common.{◌&&◌, ap, arith, refl, slice_index_or}
-use Rattle.cil_rule_shifts.proofs.Common.{is_key, has_target, put_for, one_if, rises-none}
+use Rattle.cil_rule_shifts.proofs.Common.{◌&&◌, ap, arith, refl, slice_index_or, is_key, has_target, put_for, one_if, rises-none}
 use Rattle.cil_rule_shifts.proofs.PieceLemmas.{put-step}
 use Rattle.cil_rule_shifts.proofs.ShiftLemmas.{head-more, head-within, of_head, first, no-permission}
 use Rattle.cil_rule_shifts.proofs.put.put_source.Goals as goal

@@ -1,5 +1,4 @@
-use Rattle.std.proofs.Common.{ℕ, ◌≡◌, ◌+◌, ◌&&◌}
-use Rattle.cil_rule_shifts.proofs.Common.{count_now, steps_in, SymbolKey, has_target, put_for, is_line, one_if, RisesBy}
+use Rattle.cil_rule_shifts.proofs.Common.{ℕ, ◌≡◌, ◌+◌, ◌&&◌, count_now, steps_in, SymbolKey, has_target, put_for, is_line, one_if, RisesBy}
 use Rattle.cil_rule_shifts.proofs.ShiftLemmas.{first}
 use Rattle.cil_rule_shifts.proofs.put.put_source.Given as goal
 

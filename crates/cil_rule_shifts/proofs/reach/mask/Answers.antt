@@ -1,5 +1,4 @@
-use Rattle.std.proofs.Common.{◌+◌, ◌*◌, ◌∙◌, ap, sym}
-use Rattle.cil_rule_shifts.proofs.Common.{bit_at_or, bit_at_xor, bit_at, goes_over, has_source, one_if}
+use Rattle.cil_rule_shifts.proofs.Common.{◌+◌, ◌*◌, ◌∙◌, ap, sym, bit_at_or, bit_at_xor, bit_at, goes_over, has_source, one_if}
 use Rattle.cil_rule_shifts.proofs.MoveLemmas.{bit-either, bit-turned}
 use Rattle.cil_rule_shifts.proofs.ReachLemmas.{present-one}
 use Rattle.cil_rule_shifts.proofs.reach.mask.Goals as goal

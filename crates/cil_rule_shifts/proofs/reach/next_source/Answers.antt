@@ -1,5 +1,4 @@
-use Rattle.std.proofs.Common.{◌^◌, ◌<◌, arith, subst, sym, MatchOption}
-use Rattle.cil_rule_shifts.proofs.Common.{has_either, IsNext, NoneFrom}
+use Rattle.cil_rule_shifts.proofs.Common.{◌^◌, ◌<◌, arith, subst, sym, MatchOption, has_either, IsNext, NoneFrom}
 use Rattle.cil_rule_shifts.proofs.ReachLemmas.{fits-next, next-here, next-there, none-here, none-there}
 use Rattle.cil_rule_shifts.proofs.ShiftLemmas.{short-either}
 use Rattle.cil_rule_shifts.proofs.reach.next_source.Goals as goal

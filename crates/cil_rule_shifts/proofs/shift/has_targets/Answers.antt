@@ -1,6 +1,5 @@
-use Rattle.std.proofs.Common.{◌&&◌, ◌<◌, ◌∙◌, ap, arith, sym}
+use Rattle.cil_rule_shifts.proofs.Common.{◌&&◌, ◌<◌, ◌∙◌, ap, arith, sym, ltb-true, count_of, has_source, takes}
 use Rattle.std.proofs.Math.Bool.{and-false}
-use Rattle.cil_rule_shifts.proofs.Common.{ltb-true, count_of, has_source, takes}
 use Rattle.cil_rule_shifts.proofs.ReachLemmas.{present-some, takes-nothing}
 use Rattle.cil_rule_shifts.proofs.shift.has_targets.Goals as goal
 

@@ -1,5 +1,4 @@
-use Rattle.std.proofs.Common.{◌<◌, ◌^◌, ◌∙◌, ◌/◌, arith, refl, slice_index_or, true, w64, ap, subst, []}
-use Rattle.cil_rule_shifts.proofs.Common.{bit_not, count_now, is_key, takes, one_if, turns, rises-none, RisesBy}
+use Rattle.cil_rule_shifts.proofs.Common.{◌<◌, ◌^◌, ◌∙◌, ◌/◌, arith, refl, slice_index_or, true, w64, ap, subst, [], bit_not, count_now, is_key, takes, one_if, turns, rises-none, RisesBy}
 use Rattle.cil_rule_shifts.proofs.MoveLemmas.{line-step, line-done, moves_in_words}
 use Rattle.cil_rule_shifts.proofs.ShiftLemmas.{above-word, hit-keyed, hit-line, line-more, no-word}
 use Rattle.std.proofs.lemmas.List.{take_all}

@@ -1,5 +1,4 @@
-use Rattle.std.proofs.Common.{ℕ, ◌≡◌, ◌+◌, ◌&&◌, take}
-use Rattle.cil_rule_shifts.proofs.Common.{count_before, count_now, is_key, SymbolKey, has_word, one_if, takes, RisesBy}
+use Rattle.cil_rule_shifts.proofs.Common.{ℕ, ◌≡◌, ◌+◌, ◌&&◌, take, count_before, count_now, is_key, SymbolKey, has_word, one_if, takes, RisesBy}
 use Rattle.cil_rule_shifts.proofs.MoveLemmas.{moves_in_words}
 use Rattle.cil_rule_shifts.proofs.shift.shift_line.Given as goal
 

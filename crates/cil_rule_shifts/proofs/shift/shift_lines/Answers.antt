@@ -1,5 +1,4 @@
-use Rattle.std.proofs.Common.{◌∙◌, slice_index_or, refl, arith, ap}
-use Rattle.cil_rule_shifts.proofs.Common.{count_now, takes, one_if, moves_for, turns, rises-none}
+use Rattle.cil_rule_shifts.proofs.Common.{◌∙◌, slice_index_or, refl, arith, ap, count_now, takes, one_if, moves_for, turns, rises-none}
 use Rattle.cil_rule_shifts.proofs.MoveLemmas.{lines-step}
 use Rattle.cil_rule_shifts.proofs.ShiftLemmas.{above-line, head-more, head-within, of_head, first, no-permission}
 use Rattle.cil_rule_shifts.proofs.shift.shift_lines.Goals as goal

@@ -1,5 +1,4 @@
-use Rattle.std.proofs.Common.{ℕ, ◌≡◌, ◌+◌, ◌&&◌}
-use Rattle.cil_rule_shifts.proofs.Common.{count_before, count_now, SymbolKey, moves_for, is_line, one_if, takes, RisesBy}
+use Rattle.cil_rule_shifts.proofs.Common.{ℕ, ◌≡◌, ◌+◌, ◌&&◌, count_before, count_now, SymbolKey, moves_for, is_line, one_if, takes, RisesBy}
 use Rattle.cil_rule_shifts.proofs.ShiftLemmas.{first}
 use Rattle.cil_rule_shifts.proofs.shift.shift_lines.Given as goal
 

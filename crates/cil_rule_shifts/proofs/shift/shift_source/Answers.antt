@@ -1,7 +1,6 @@
-use Rattle.std.proofs.Common.{◌≤◌, ◌∙◌, refl, subst, sym}
+use Rattle.cil_rule_shifts.proofs.Common.{◌≤◌, ◌∙◌, refl, subst, sym, count_now, AreTurned, AreTurnedForAll, one_if, takes}
 use Rattle.std.specs.Option.{IfSome}
 use Rattle.std.proofs.lemmas.Result.{IfOk-weaker}
-use Rattle.cil_rule_shifts.proofs.Common.{count_now, AreTurned, AreTurnedForAll, one_if, takes}
 use Rattle.cil_rule_shifts.proofs.MoveLemmas.{source-moves}
 use Rattle.cil_rule_shifts.proofs.ReachLemmas.{takes-nothing}
 use Rattle.cil_rule_shifts.proofs.ShiftLemmas.{source-gives}

@@ -1,5 +1,4 @@
-use Rattle.std.proofs.Common.{ℕ, ◌≡◌, ◌+◌, ◌-◌, ◌^◌, ◌&&◌, nat_lt}
-use Rattle.cil_rule_shifts.proofs.Common.{count_before, count_now, SymbolKey, gives, one_if, RisesBy}
+use Rattle.cil_rule_shifts.proofs.Common.{ℕ, ◌≡◌, ◌+◌, ◌-◌, ◌^◌, ◌&&◌, nat_lt, count_before, count_now, SymbolKey, gives, one_if, RisesBy}
 use Rattle.cil_rule_shifts.proofs.MoveLemmas.{moves_up_to}
 use Rattle.cil_rule_shifts.proofs.shift.shift_sources.Given as goal
 

@@ -1,5 +1,4 @@
-use Rattle.std.proofs.Common.{◌<◌, ◌&&◌, ◌≡◌, ◌∙◌, ap, arith, sym}
-use Rattle.cil_rule_shifts.proofs.Common.{count_of, takes}
+use Rattle.cil_rule_shifts.proofs.Common.{◌<◌, ◌&&◌, ◌≡◌, ◌∙◌, ap, arith, sym, count_of, takes}
 use Rattle.cil_rule_shifts.proofs.ReachLemmas.{present-none, present-some}
 use Rattle.cil_rule_shifts.proofs.shift.targets_of.Goals as goal
 

@@ -1,5 +1,4 @@
-use Rattle.std.proofs.Common.{◌≡◌, Bool, true, false, not, vec_len, refl, subst, sym, ◌∙◌}
-use Rattle.cil_rule_shifts.proofs.Common.{eqb-true, HasNone}
+use Rattle.cil_rule_shifts.proofs.Common.{◌≡◌, Bool, true, false, not, vec_len, refl, subst, sym, ◌∙◌, eqb-true, HasNone}
 use Rattle.cil_rule_shifts.proofs.turned.may_differ.Goals as goal
 
 pub returns-in-Some : goal.returns-in-Some

@@ -1,5 +1,4 @@
-use Rattle.std.proofs.Common.{◌≡◌, ◌∙◌, ◌++◌, [], codes, get_or, ap, subst}
-use Rattle.cil_rules.proofs.Common.{get_or_read, GainsFront, on_err, gains-pieces_front, name_text}
+use Rattle.cil_rules.proofs.Common.{◌≡◌, ◌∙◌, ◌++◌, [], codes, get_or, ap, subst, get_or_read, GainsFront, on_err, gains-pieces_front, name_text}
 use Rattle.cil_rules.proofs.listing.write_names.Goals as goal
 
 pub returns-in_err-write_permission-clause-err : goal.returns-in_err-write_permission-clause-err

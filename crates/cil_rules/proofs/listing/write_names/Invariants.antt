@@ -1,5 +1,4 @@
-use Rattle.std.proofs.Common.{◌≤◌, take}
-use Rattle.cil_rules.proofs.Common.{flat_map, Gains, name_text}
+use Rattle.cil_rules.proofs.Common.{◌≤◌, take, flat_map, Gains, name_text}
 use Rattle.cil_rules.proofs.listing.write_names.Given as goal
 
 abbrev pub invariant-loop-number : goal.invariant-loop-number

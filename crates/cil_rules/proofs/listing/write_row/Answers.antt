@@ -1,5 +1,4 @@
-use Rattle.std.proofs.Common.{codes, subst}
-use Rattle.cil_rules.proofs.Common.{flat_map, on_ok_weaker, on_err_weaker, Gains, GainsFront, on_err, atom_at, row_head, chunk_text}
+use Rattle.cil_rules.proofs.Common.{codes, subst, flat_map, on_ok_weaker, on_err_weaker, Gains, GainsFront, on_err, atom_at, row_head, chunk_text}
 use Rattle.cil_rules.proofs.ListingLemmas.{permissions-within, row-line-is, front-in_first, front-in_second, front-in_third, gains-three}
 use Rattle.cil_rules.proofs.listing.write_row.Goals as goal
 

@@ -1,5 +1,4 @@
-use Rattle.std.proofs.Common.{[], refl, ◌≡◌, ◌∙◌, ◌++◌, ◌∷◌, map, length, cond, ap, sym, arith, rules}
-use Rattle.cil_rules.proofs.Common.{flat_map, row_line, is_listed, gains-none, gains-both, on_err, rule_kind_of, IsWithin, atom_at, rows_of, row_at}
+use Rattle.cil_rules.proofs.Common.{[], refl, ◌≡◌, ◌∙◌, ◌++◌, ◌∷◌, map, length, cond, ap, sym, arith, rules, flat_map, row_line, is_listed, gains-none, gains-both, on_err, rule_kind_of, IsWithin, atom_at, rows_of, row_at}
 use Rattle.cil_rules.proofs.GroupLemmas.{parts-length, row-all, later-all, first-all, rows-parts}
 use Rattle.cil_rules.proofs.ListingLemmas.{text-more, front-in_row}
 use Rattle.cil_accesses.specs.Rows.{accesses_in}

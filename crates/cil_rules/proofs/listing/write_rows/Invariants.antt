@@ -1,5 +1,4 @@
-use Rattle.std.proofs.Common.{◌≡◌, ◌≤◌, ◌+◌, ◌++◌, ℕ, List, length, map}
-use Rattle.cil_rules.proofs.Common.{All, flat_map, row_line, Gains, IsWithin, atom_at, rows_of}
+use Rattle.cil_rules.proofs.Common.{◌≡◌, ◌≤◌, ◌+◌, ◌++◌, ℕ, List, length, map, All, flat_map, row_line, Gains, IsWithin, atom_at, rows_of}
 use Rattle.cil_rules.proofs.listing.write_rows.Given as goal
 
 abbrev pub invariant-loop-row : goal.invariant-loop-row

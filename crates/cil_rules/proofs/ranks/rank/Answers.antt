@@ -1,5 +1,4 @@
-use Rattle.std.proofs.Common.{◌≡◌, ◌∙◌, ◌++◌, ◌∷◌, [], ℕ, List, length, ap, refl, arith, rules}
-use Rattle.cil_rules.proofs.Common.{get_or_read, name_at}
+use Rattle.cil_rules.proofs.Common.{◌≡◌, ◌∙◌, ◌++◌, ◌∷◌, [], ℕ, List, length, ap, refl, arith, rules, get_or_read, name_at}
 use Rattle.cil_rules.proofs.RankLemmas.{none-merged, merges-next_first, merges-next_second, merges-next_both, merged-all}
 use Rattle.cil_rules.proofs.ranks.rank.Goals as goal
 

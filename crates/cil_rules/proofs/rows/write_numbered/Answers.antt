@@ -1,5 +1,4 @@
-use Rattle.std.proofs.Common.{subst, rules}
-use Rattle.cil_rules.proofs.Common.{row_line, Gains, GainsFront, on_err, gains-pieces_more, gains-pieces_front, line_by}
+use Rattle.cil_rules.proofs.Common.{subst, rules, row_line, Gains, GainsFront, on_err, gains-pieces_more, gains-pieces_front, line_by}
 use Rattle.cil_rules.proofs.NumberedRowLemmas.{no_row}
 use Rattle.cil_rules.proofs.rows.write_numbered.Goals as goal
 

@@ -1,5 +1,4 @@
-use Rattle.std.proofs.Common.{◌≤◌, take}
-use Rattle.cil_rules.proofs.Common.{flat_map, Gains, line_by}
+use Rattle.cil_rules.proofs.Common.{◌≤◌, take, flat_map, Gains, line_by}
 use Rattle.cil_rules.proofs.rows.write_numbered.Given as goal
 
 abbrev pub invariant-loop-row : goal.invariant-loop-row

@@ -1,5 +1,4 @@
-use Rattle.std.proofs.Common.{◌≡◌, IfErr, None, ap, sym, subst}
-use Rattle.cil_store.proofs.Common.{install, store_refusal, edit_of, name_of, priority_of, refusal_of, store_refusal_of, IsRefusalOf, IsRefusedEdit}
+use Rattle.cil_store.proofs.Common.{◌≡◌, IfErr, None, ap, sym, subst, install, store_refusal, edit_of, name_of, priority_of, refusal_of, store_refusal_of, IsRefusalOf, IsRefusedEdit}
 use Rattle.cil_store.proofs.StepLemmas.{store-refused, edit-refused}
 use Rattle.cil_store.proofs.admitted.admit.Goals as goal
 

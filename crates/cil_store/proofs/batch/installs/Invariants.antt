@@ -1,5 +1,4 @@
-use Rattle.std.proofs.Common.{◌≡◌, map, take}
-use Rattle.cil_store.proofs.Common.{install_of, edit_of, entry_of}
+use Rattle.cil_store.proofs.Common.{◌≡◌, map, take, install_of, edit_of, entry_of}
 use Rattle.cil_store.proofs.batch.installs.Given as goal
 
 abbrev pub invariant-loop-entry : goal.invariant-loop-entry

@@ -1,5 +1,4 @@
-use Rattle.std.proofs.Common.{◌≡◌, ◌*◌, ◌≤◌, map, take, sum_by}
-use Rattle.cil_store.proofs.Common.{held_bytes, edit_of}
+use Rattle.cil_store.proofs.Common.{◌≡◌, ◌*◌, ◌≤◌, map, take, sum_by, held_bytes, edit_of}
 use Rattle.cil_store.proofs.batch.is_too_long.Given as goal
 
 -- so many edits are counted

@@ -1,5 +1,4 @@
-use Rattle.std.proofs.Common.{map}
-use Rattle.cil_store.proofs.Common.{err_from_is_err_and, edit_of, refusal_of}
+use Rattle.cil_store.proofs.Common.{map, err_from_is_err_and, edit_of, refusal_of}
 use Rattle.cil_store.proofs.BatchLemmas.{policy-refused-all, stopped-refused}
 use Rattle.cil_store.proofs.batch.judge.Goals as goal
 

@@ -1,5 +1,4 @@
-use Rattle.std.proofs.Common.{◌∙◌, map, refl, sym}
-use Rattle.cil_store.proofs.Common.{IfErr-weaker, batch_word, edit_of, refusal_of}
+use Rattle.cil_store.proofs.Common.{◌∙◌, map, refl, sym, IfErr-weaker, batch_word, edit_of, refusal_of}
 use Rattle.cil_store.proofs.BatchLemmas.{refused-batch, refused-long}
 use Rattle.cil_store.proofs.batch.judge_batch.Goals as goal
 

@@ -1,5 +1,4 @@
-use Rattle.std.proofs.Common.{map, take}
-use Rattle.cil_store.proofs.Common.{AreTaken, edit_of}
+use Rattle.cil_store.proofs.Common.{map, take, AreTaken, edit_of}
 use Rattle.cil_store.proofs.batch.take_all.Given as goal
 
 abbrev pub invariant-loop-edit : goal.invariant-loop-edit

@@ -1,5 +1,4 @@
-use Rattle.std.proofs.Common.{◌<◌, ◌+◌, ◌∙◌, [], filter, take, length, sym, subst, arith}
-use Rattle.cil_store.proofs.Common.{take_all, entry_at, is_active, AreParsedOf}
+use Rattle.cil_store.proofs.Common.{◌<◌, ◌+◌, ◌∙◌, [], filter, take, length, sym, subst, arith, take_all, entry_at, is_active, AreParsedOf}
 use Rattle.cil_store.proofs.JoinLemmas.{active-more, active-same}
 use Rattle.cil_store.proofs.join.active_modules.Goals as goal
 

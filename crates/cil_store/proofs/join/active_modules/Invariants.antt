@@ -1,5 +1,4 @@
-use Rattle.std.proofs.Common.{filter, take}
-use Rattle.cil_store.proofs.Common.{is_active, AreParsedOf}
+use Rattle.cil_store.proofs.Common.{filter, take, is_active, AreParsedOf}
 use Rattle.cil_store.proofs.join.active_modules.Given as goal
 
 abbrev pub invariant-loop-i : goal.invariant-loop-i

@@ -1,5 +1,4 @@
-use Rattle.std.proofs.Common.{sym, subst}
-use Rattle.cil_store.proofs.Common.{IsStrictlySortedBy, name_cmp, IsStore, active, active-ascend, AreParsedOf}
+use Rattle.cil_store.proofs.Common.{sym, subst, IsStrictlySortedBy, name_cmp, IsStore, active, active-ascend, AreParsedOf}
 use Rattle.cil_store.proofs.JoinLemmas.{parsed-names, distinct-from_sorted, permutation-one}
 use Rattle.cil_store.proofs.join.join.Goals as goal
 

@@ -1,5 +1,4 @@
-use Rattle.std.proofs.Common.{ap}
-use Rattle.cil_store.proofs.Common.{Meaning, meaning_in}
+use Rattle.cil_store.proofs.Common.{ap, Meaning, meaning_in}
 use Rattle.cil_resolve.specs.Sets.{sets_in}
 use Rattle.cil_store.proofs.CountedPolicyLemmas.{none-listed}
 use Rattle.cil_store.proofs.policy.violations_of.Goals as goal

@@ -1,5 +1,4 @@
-use Rattle.std.proofs.Common.{ap, refl, sym, subst}
-use Rattle.cil_store.proofs.Common.{changed_by, refused, printed, violated, dropped_optionals, lists, prints, tells_violations, tells_dropped, Step, call_of, refusal_of}
+use Rattle.cil_store.proofs.Common.{ap, refl, sym, subst, changed_by, refused, printed, violated, dropped_optionals, lists, prints, tells_violations, tells_dropped, Step, call_of, refusal_of}
 use Rattle.cil_store_specs.specs.Run.{listed}
 use Rattle.cil_store.proofs.runs.answer.Goals as goal
 

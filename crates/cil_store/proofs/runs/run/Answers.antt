@@ -1,5 +1,4 @@
-use Rattle.std.proofs.Common.{◌≡◌, ◌∙◌, ◌++◌, ◌∷◌, ◌+◌, ◌<◌, ℕ, List, [], ap, subst, sym, take, map, length, get_or, is_ok, if◌then◌else◌, rules}
-use Rattle.cil_store.proofs.Common.{take_more, map-append, Step, Run, Store, call_of, reply_of}
+use Rattle.cil_store.proofs.Common.{◌≡◌, ◌∙◌, ◌++◌, ◌∷◌, ◌+◌, ◌<◌, ℕ, List, [], ap, subst, sym, take, map, length, get_or, is_ok, if◌then◌else◌, rules, take_more, map-append, Step, Run, Store, call_of, reply_of}
 use Rattle.cil_store_specs.proofs.RunLemmas.{run-more}
 use Rattle.cil_store.specs.declared.call.Call.{Call}
 use Rattle.cil_store.specs.declared.call.Reply.{Reply}

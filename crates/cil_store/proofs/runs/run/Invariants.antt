@@ -1,6 +1,5 @@
-use Rattle.std.proofs.Common.{◌≡◌, ◌≤◌, take, map, length, vec_len}
+use Rattle.cil_store.proofs.Common.{◌≡◌, ◌≤◌, take, map, length, vec_len, Run, call_of, reply_of}
 use Rattle.std.specs.Vec.{vec_capacity}
-use Rattle.cil_store.proofs.Common.{Run, call_of, reply_of}
 use Rattle.cil_store.proofs.runs.run.Given as goal
 
 abbrev pub invariant-loop-call : goal.invariant-loop-call

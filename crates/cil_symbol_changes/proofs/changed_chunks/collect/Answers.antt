@@ -1,5 +1,4 @@
-use Rattle.std.proofs.Common.{◌∙◌, length, subst, sym}
-use Rattle.cil_symbol_changes.proofs.Common.{count_before, count_now, IsNew, AreAllPlaces}
+use Rattle.cil_symbol_changes.proofs.Common.{◌∙◌, length, subst, sym, count_before, count_now, IsNew, AreAllPlaces}
 use Rattle.cil_symbol_changes.proofs.ChangeLemmas.{known-appeared, known-gone, new-appeared, new-gone}
 use Rattle.cil_symbol_changes.proofs.GainedLemmas.{gained-all, gained-short}
 use Rattle.cil_symbol_changes.proofs.changed_chunks.collect.Goals as goal

@@ -1,5 +1,4 @@
-use Rattle.std.proofs.Common.{take}
-use Rattle.cil_symbol_changes.proofs.Common.{AreGained, HasAppeared, HasGone, IsAmong}
+use Rattle.cil_symbol_changes.proofs.Common.{take, AreGained, HasAppeared, HasGone, IsAmong}
 use Rattle.cil_symbol_changes.proofs.changed_chunks.push_source.Given as goal
 
 -- the changes so far are taken

@@ -1,5 +1,4 @@
-use Rattle.std.proofs.Common.{arith}
-use Rattle.cil_symbol_changes.proofs.Common.{count_now, has_come}
+use Rattle.cil_symbol_changes.proofs.Common.{arith, count_now, has_come}
 use Rattle.cil_symbol_changes.proofs.CountLemmas.{so-many}
 use Rattle.cil_symbol_changes.proofs.PresentCountLemmas.{lines-present}
 use Rattle.cil_symbol_changes.proofs.counted_accesses.count_accesses.Goals as goal

@@ -1,5 +1,4 @@
-use Rattle.std.proofs.Common.{◌-◌, ◌^◌}
-use Rattle.cil_symbol_changes.proofs.Common.{now_at, RisesBy}
+use Rattle.cil_symbol_changes.proofs.Common.{◌-◌, ◌^◌, now_at, RisesBy}
 use Rattle.cil_symbol_changes.proofs.PresentCountLemmas.{is_before}
 use Rattle.cil_symbol_changes.proofs.counted_accesses.with_line.Given as goal
 

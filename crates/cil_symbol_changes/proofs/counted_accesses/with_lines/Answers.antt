@@ -1,5 +1,4 @@
-use Rattle.std.proofs.Common.{nat_lt}
-use Rattle.cil_symbol_changes.proofs.Common.{now_at, rises-next}
+use Rattle.cil_symbol_changes.proofs.Common.{nat_lt, now_at, rises-next}
 use Rattle.cil_symbol_changes.proofs.counted_accesses.with_lines.Goals as goal
 
 pub loop-place-preserved : goal.loop-place-preserved

@@ -1,5 +1,4 @@
-use Rattle.std.proofs.Common.{nat_lt}
-use Rattle.cil_symbol_changes.proofs.Common.{now_at, below, RisesBy}
+use Rattle.cil_symbol_changes.proofs.Common.{nat_lt, now_at, below, RisesBy}
 use Rattle.cil_symbol_changes.proofs.counted_accesses.with_lines.Given as goal
 
 -- the targets of the lines so far are counted

@@ -1,5 +1,4 @@
-use Rattle.std.proofs.Common.{◌≡◌, ◌<◌, ◌^◌, ap, arith, cond, count_ones, get_or, false}
-use Rattle.cil_symbol_changes.proofs.Common.{All-more, sum_by_more, Step, came, went}
+use Rattle.cil_symbol_changes.proofs.Common.{◌≡◌, ◌<◌, ◌^◌, ap, arith, cond, count_ones, get_or, false, All-more, sum_by_more, Step, came, went}
 use Rattle.cil_symbol_changes.proofs.counted_changes.count_steps.Goals as goal
 use Rattle.cil_symbol_changes.proofs.counted_changes.count_steps.Goals.{then-step, else-step}
 

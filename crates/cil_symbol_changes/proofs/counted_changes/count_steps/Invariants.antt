@@ -1,5 +1,4 @@
-use Rattle.std.proofs.Common.{◌≡◌, ◌*◌, ◌^◌, ◌<◌, ◌≤◌, count_ones, take}
-use Rattle.cil_symbol_changes.proofs.Common.{All, sum_by, Step, came, went}
+use Rattle.cil_symbol_changes.proofs.Common.{◌≡◌, ◌*◌, ◌^◌, ◌<◌, ◌≤◌, count_ones, take, All, sum_by, Step, came, went}
 use Rattle.cil_symbol_changes.proofs.counted_changes.count_steps.Given as goal
 
 -- the steps so far are counted

@@ -1,5 +1,4 @@
-use Rattle.std.proofs.Common.{◌<◌, ◌^◌, arith, count_ones}
-use Rattle.cil_symbol_changes.proofs.Common.{All-more, sum_by_more, Change}
+use Rattle.cil_symbol_changes.proofs.Common.{◌<◌, ◌^◌, arith, count_ones, All-more, sum_by_more, Change}
 use Rattle.cil_symbol_changes.proofs.counted_changes.count_targets.Goals as goal
 
 pub loop-change-preserved : goal.loop-change-preserved

@@ -1,5 +1,4 @@
-use Rattle.std.proofs.Common.{◌≡◌, ◌*◌, ◌^◌, ◌<◌, ◌≤◌, count_ones, take}
-use Rattle.cil_symbol_changes.proofs.Common.{All, sum_by, Change}
+use Rattle.cil_symbol_changes.proofs.Common.{◌≡◌, ◌*◌, ◌^◌, ◌<◌, ◌≤◌, count_ones, take, All, sum_by, Change}
 use Rattle.cil_symbol_changes.proofs.counted_changes.count_targets.Given as goal
 
 -- the changes so far are counted

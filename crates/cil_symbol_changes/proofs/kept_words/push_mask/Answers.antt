@@ -1,5 +1,4 @@
-use Rattle.std.proofs.Common.{◌≡◌, ◌<◌, ◌++◌, ◌∷◌, [], ◌∙◌, ℕ, List, ap, arith, length, slice_index, subst, sym}
-use Rattle.cil_symbol_changes.proofs.Common.{Chunk, hit, AreGained, IsTo}
+use Rattle.cil_symbol_changes.proofs.Common.{◌≡◌, ◌<◌, ◌++◌, ◌∷◌, [], ◌∙◌, ℕ, List, ap, arith, length, slice_index, subst, sym, Chunk, hit, AreGained, IsTo}
 use Rattle.cil_symbol_changes.proofs.GainedLemmas.{gained-kept, known-mask}
 use Rattle.cil_symbol_changes.proofs.kept_words.push_mask.Goals as goal
 

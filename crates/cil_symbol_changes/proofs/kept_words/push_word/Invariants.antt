@@ -1,5 +1,4 @@
-use Rattle.std.proofs.Common.{take}
-use Rattle.cil_symbol_changes.proofs.Common.{AreGained, IsAmong, IsAtWord}
+use Rattle.cil_symbol_changes.proofs.Common.{take, AreGained, IsAmong, IsAtWord}
 use Rattle.cil_symbol_changes.proofs.kept_words.push_word.Given as goal
 
 -- the lines so far are taken

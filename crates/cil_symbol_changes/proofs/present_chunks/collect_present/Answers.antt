@@ -1,5 +1,4 @@
-use Rattle.std.proofs.Common.{subst, sym}
-use Rattle.cil_symbol_changes.proofs.Common.{count_now, listed, IsPresent, AreListedPlaces}
+use Rattle.cil_symbol_changes.proofs.Common.{subst, sym, count_now, listed, IsPresent, AreListedPlaces}
 use Rattle.cil_symbol_changes.proofs.GainedLemmas.{gained-all, gained-short}
 use Rattle.cil_symbol_changes.proofs.PresentLemmas.{in-present, known-now}
 use Rattle.cil_symbol_changes.proofs.present_chunks.collect_present.Goals as goal

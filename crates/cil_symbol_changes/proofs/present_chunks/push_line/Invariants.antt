@@ -1,5 +1,4 @@
-use Rattle.std.proofs.Common.{◌-◌, length}
-use Rattle.cil_symbol_changes.proofs.Common.{now_at, AreGained, IsTo}
+use Rattle.cil_symbol_changes.proofs.Common.{◌-◌, length, now_at, AreGained, IsTo}
 use Rattle.cil_symbol_changes.proofs.PresentLemmas.{IsBefore}
 use Rattle.cil_symbol_changes.proofs.present_chunks.push_line.Given as goal
 

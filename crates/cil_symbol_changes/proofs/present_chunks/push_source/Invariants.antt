@@ -1,5 +1,4 @@
-use Rattle.std.proofs.Common.{take}
-use Rattle.cil_symbol_changes.proofs.Common.{AreGained, IsAmong, IsAt}
+use Rattle.cil_symbol_changes.proofs.Common.{take, AreGained, IsAmong, IsAt}
 use Rattle.cil_symbol_changes.proofs.present_chunks.push_source.Given as goal
 
 -- the lines so far are taken

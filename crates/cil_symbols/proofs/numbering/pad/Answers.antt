@@ -1,5 +1,4 @@
-use Rattle.std.proofs.Common.{◌∙◌, arith, ap, cond, false, subst, sym, ◌∷◌, []}
-use Rattle.cil_symbols.proofs.Common.{sum_by-append, used_in, IsUsed}
+use Rattle.cil_symbols.proofs.Common.{◌∙◌, arith, ap, cond, false, subst, sym, ◌∷◌, [], sum_by-append, used_in, IsUsed}
 use Rattle.cil_symbols.proofs.InUseLemmas.{used-past}
 use Rattle.cil_symbols.proofs.numbering.pad.Goals as goal
 

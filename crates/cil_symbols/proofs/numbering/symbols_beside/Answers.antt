@@ -1,6 +1,5 @@
-use Rattle.std.proofs.Common.{◌≡◌, ◌∙◌, ◌+◌, ◌<◌, ◌≤◌, [], Some, length, max, slice_get, take, sym, ap, subst, inl, inr, arith, append-nil}
+use Rattle.cil_symbols.proofs.Common.{◌≡◌, ◌∙◌, ◌+◌, ◌<◌, ◌≤◌, [], Some, length, max, slice_get, take, sym, ap, subst, inl, inr, arith, append-nil, AreNumbersOf, used_in, IsUsed}
 use Rattle.std.proofs.Math.Nat.{le-max_left, le-max_right, max-le}
-use Rattle.cil_symbols.proofs.Common.{AreNumbersOf, used_in, IsUsed}
 use Rattle.cil_bind.proofs.WordLemmas.{numbers-next}
 use Rattle.cil_optionals.proofs.DependentLemmas.{got-push}
 use Rattle.cil_symbols.proofs.InUseLemmas.{numbers-kept}

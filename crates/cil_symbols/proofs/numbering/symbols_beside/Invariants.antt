@@ -1,5 +1,4 @@
-use Rattle.std.proofs.Common.{◌≡◌, ◌+◌, ◌≤◌, ℕ, length, max, slice_get, take}
-use Rattle.cil_symbols.proofs.Common.{AreNumbersOf, used_in, AreUsed, IsUsed}
+use Rattle.cil_symbols.proofs.Common.{◌≡◌, ◌+◌, ◌≤◌, ℕ, length, max, slice_get, take, AreNumbersOf, used_in, AreUsed, IsUsed}
 use Rattle.cil_symbols.proofs.numbering.symbols_beside.Given as goal
 
 -- So many names have their symbols, which are in use. The names of the symbols that were in use before stay.

@@ -1,5 +1,4 @@
-use Rattle.std.proofs.Common.{◌≡◌, ◌<◌, ◌+◌, ◌∙◌, [], Some, length, take, get_or, sym, ap, subst, arith}
-use Rattle.cil_symbols.proofs.Common.{fold_more, with_name, AreNumbersOf}
+use Rattle.cil_symbols.proofs.Common.{◌≡◌, ◌<◌, ◌+◌, ◌∙◌, [], Some, length, take, get_or, sym, ap, subst, arith, fold_more, with_name, AreNumbersOf}
 use Rattle.cil_bind.proofs.WordLemmas.{numbers-next}
 use Rattle.cil_symbols.proofs.NumberLemmas.{name-more, grown-by}
 use Rattle.cil_symbols.proofs.numbering.symbols_of.Goals as goal

@@ -1,5 +1,4 @@
-use Rattle.std.proofs.Common.{◌≡◌, fold, take}
-use Rattle.cil_symbols.proofs.Common.{with_name, AreNumbersOf}
+use Rattle.cil_symbols.proofs.Common.{◌≡◌, fold, take, with_name, AreNumbersOf}
 use Rattle.cil_symbols.proofs.numbering.symbols_of.Given as goal
 
 -- so many names have their symbols

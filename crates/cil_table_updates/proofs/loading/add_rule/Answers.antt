@@ -1,5 +1,4 @@
-use Rattle.std.proofs.Common.{◌≡◌, ◌==◌, ◌∙◌, ℕ, ap, arith, refl, slice_index}
-use Rattle.cil_table_updates.proofs.Common.{list_any, SymbolKey, adjustments_in, members_of, has_permission, one_if, RuleHead, gives_it, gives_by, lists}
+use Rattle.cil_table_updates.proofs.Common.{◌≡◌, ◌==◌, ◌∙◌, ℕ, ap, arith, refl, slice_index, list_any, SymbolKey, adjustments_in, members_of, has_permission, one_if, RuleHead, gives_it, gives_by, lists}
 use Rattle.cil_rule_shifts.specs.Reach.{gives}
 use Rattle.cil_table_updates.proofs.AdjustedLemmas.{counter-rises}
 use Rattle.cil_table_updates.proofs.MoveLemmas.{gives-covered, gives-listed}

@@ -1,5 +1,4 @@
-use Rattle.std.proofs.Common.{◌∙◌, refl, ap, arith, length, subst, sym, ◌<◌, nat_lt}
-use Rattle.cil_table_updates.proofs.Common.{adjustments_in, rises-first, rises-next, rises-same, sum-more, sum-none, sum-part, comes, gives_it, given}
+use Rattle.cil_table_updates.proofs.Common.{◌∙◌, refl, ap, arith, length, subst, sym, ◌<◌, nat_lt, adjustments_in, rises-first, rises-next, rises-same, sum-more, sum-none, sum-part, comes, gives_it, given}
 use Rattle.cil_table_updates.proofs.AdjustedLemmas.{counted-some}
 use Rattle.cil_table_updates.proofs.GivenLemmas.{given-rule}
 use Rattle.cil_table_updates.proofs.PlaceLemmas.{read-at}

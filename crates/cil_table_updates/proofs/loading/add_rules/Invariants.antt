@@ -1,5 +1,4 @@
-use Rattle.std.proofs.Common.{◌≡◌, ◌+◌, ℕ}
-use Rattle.cil_table_updates.proofs.Common.{adjustments_in, evaluations_in, below, RisesBy, sum_below, SymbolKey, count_now, steps_in, comes, given}
+use Rattle.cil_table_updates.proofs.Common.{◌≡◌, ◌+◌, ℕ, adjustments_in, evaluations_in, below, RisesBy, sum_below, SymbolKey, count_now, steps_in, comes, given}
 use Rattle.cil_table_updates.proofs.loading.add_rules.Given as goal
 
 -- what the rules so far give is added

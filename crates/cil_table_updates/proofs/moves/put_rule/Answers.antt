@@ -1,5 +1,4 @@
-use Rattle.std.proofs.Common.{ap, arith}
-use Rattle.cil_table_updates.proofs.Common.{on_ok_weaker, adjustments_in, covers_by, members_of, one_if}
+use Rattle.cil_table_updates.proofs.Common.{ap, arith, on_ok_weaker, adjustments_in, covers_by, members_of, one_if}
 use Rattle.cil_table_updates.proofs.AdjustedLemmas.{put-rises}
 use Rattle.cil_table_updates.proofs.MoveLemmas.{gives-covered, gives-nothing}
 use Rattle.cil_table_updates.proofs.moves.put_rule.Goals as goal

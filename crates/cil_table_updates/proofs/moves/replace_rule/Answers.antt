@@ -1,5 +1,4 @@
-use Rattle.std.proofs.Common.{◌≡◌, ◌∙◌, ℕ, ap, arith}
-use Rattle.cil_table_updates.proofs.Common.{on_ok_weaker, SymbolKey, adjustments_in, covers_by, members_of, one_if, gives_by, gives_as}
+use Rattle.cil_table_updates.proofs.Common.{◌≡◌, ◌∙◌, ℕ, ap, arith, on_ok_weaker, SymbolKey, adjustments_in, covers_by, members_of, one_if, gives_by, gives_as}
 use Rattle.cil_table_updates.proofs.AdjustedLemmas.{replace-rises}
 use Rattle.cil_table_updates.proofs.MoveLemmas.{covered-alike, gives-covered}
 use Rattle.cil_table_updates.proofs.moves.replace_rule.Goals as goal

@@ -1,5 +1,4 @@
-use Rattle.std.proofs.Common.{◌≡◌, ◌==◌, ◌∙◌, ℕ, ap, arith, refl, slice_index}
-use Rattle.cil_table_updates.proofs.Common.{list_any, adjustments_in, differs, moves_where, has_permission, one_if, RuleHead, shifts, lists}
+use Rattle.cil_table_updates.proofs.Common.{◌≡◌, ◌==◌, ◌∙◌, ℕ, ap, arith, refl, slice_index, list_any, adjustments_in, differs, moves_where, has_permission, one_if, RuleHead, shifts, lists}
 use Rattle.cil_table_updates.proofs.AdjustedLemmas.{counter-rises}
 use Rattle.cil_table_updates.proofs.MoveLemmas.{gives-listed}
 use Rattle.cil_table_updates.proofs.moves.shift_as.Goals as goal

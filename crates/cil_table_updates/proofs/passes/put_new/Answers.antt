@@ -1,5 +1,4 @@
-use Rattle.std.proofs.Common.{◌∙◌, refl, arith, length, subst, ◌<◌}
-use Rattle.cil_table_updates.proofs.Common.{adjustments_in, across, rises-first, rises-next, sum-more, sum-none, sum-part, turns, given}
+use Rattle.cil_table_updates.proofs.Common.{◌∙◌, refl, arith, length, subst, ◌<◌, adjustments_in, across, rises-first, rises-next, sum-more, sum-none, sum-part, turns, given}
 use Rattle.cil_table_updates.proofs.passes.put_new.Goals as goal
 
 pub loop-j-init : goal.loop-j-init

@@ -1,5 +1,4 @@
-use Rattle.std.proofs.Common.{◌≡◌, ◌+◌, ◌≤◌, ◌==◌, ◌∙◌, false, sym, ap, add-zero, arith, length, not, slice_get, subst, Some}
-use Rattle.cil_table_updates.proofs.Common.{on_ok_weaker, is_rule_below, adjustments_in, rises-same, across-none, across-some, count_now, gives_it, swaps, turns, given}
+use Rattle.cil_table_updates.proofs.Common.{◌≡◌, ◌+◌, ◌≤◌, ◌==◌, ◌∙◌, false, sym, ap, add-zero, arith, length, not, slice_get, subst, Some, on_ok_weaker, is_rule_below, adjustments_in, rises-same, across-none, across-some, count_now, gives_it, swaps, turns, given}
 use Rattle.cil_table_updates.proofs.AdjustedLemmas.{counted-other}
 use Rattle.cil_table_updates.proofs.GivenLemmas.{given-rule}
 use Rattle.cil_table_updates.proofs.PlaceLemmas.{never, passes-at, read-at}

@@ -1,5 +1,4 @@
-use Rattle.std.proofs.Common.{◌≡◌, ◌+◌, ◌≤◌, ◌<◌, ◌==◌, ◌∙◌, sym, ap, arith, length, not, subst}
-use Rattle.cil_table_updates.proofs.Common.{same_Some, slice_get_within, on_ok_weaker, is_rule_below, adjustments_in, covers_by, one_if, rises-none, rises-same, count_now, gives_it, replaces, swaps, given, HaveSameHead}
+use Rattle.cil_table_updates.proofs.Common.{◌≡◌, ◌+◌, ◌≤◌, ◌<◌, ◌==◌, ◌∙◌, sym, ap, arith, length, not, subst, same_Some, slice_get_within, on_ok_weaker, is_rule_below, adjustments_in, covers_by, one_if, rises-none, rises-same, count_now, gives_it, replaces, swaps, given, HaveSameHead}
 use Rattle.cil_member_rows.specs.Rows.{count_before, count_now as members_now}
 use Rattle.cil_table_updates.proofs.AdjustedLemmas.{counted-other, no-other}
 use Rattle.cil_table_updates.proofs.GivenLemmas.{given-rule}

@@ -1,5 +1,4 @@
-use Rattle.std.proofs.Common.{◌+◌, ◌∙◌, refl, ap, add-zero, arith, length, subst, ◌<◌}
-use Rattle.cil_table_updates.proofs.Common.{adjustments_in, alone, rises-first, rises-next, sum-more, sum-none, sum-part, count_now, goes, given}
+use Rattle.cil_table_updates.proofs.Common.{◌+◌, ◌∙◌, refl, ap, add-zero, arith, length, subst, ◌<◌, adjustments_in, alone, rises-first, rises-next, sum-more, sum-none, sum-part, count_now, goes, given}
 use Rattle.cil_table_updates.proofs.passes.take_gone.Goals as goal
 
 pub loop-i-init : goal.loop-i-init

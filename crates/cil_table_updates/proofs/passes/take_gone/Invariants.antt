@@ -1,5 +1,4 @@
-use Rattle.std.proofs.Common.{◌≡◌, ◌+◌, ℕ}
-use Rattle.cil_table_updates.proofs.Common.{adjustments_in, evaluations_in, below, RisesBy, alone, sum_below, SymbolKey, count_now, goes, given}
+use Rattle.cil_table_updates.proofs.Common.{◌≡◌, ◌+◌, ℕ, adjustments_in, evaluations_in, below, RisesBy, alone, sum_below, SymbolKey, count_now, goes, given}
 use Rattle.cil_keyed_lines.specs.Keyed.{count_before}
 use Rattle.cil_table_updates.proofs.passes.take_gone.Given as goal
 

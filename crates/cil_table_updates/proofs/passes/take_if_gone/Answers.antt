@@ -1,5 +1,4 @@
-use Rattle.std.proofs.Common.{◌≡◌, ◌+◌, ◌≤◌, ◌∙◌, ap, sym, add-zero, nat_lt, slice_get, subst, Some}
-use Rattle.cil_table_updates.proofs.Common.{on_ok_weaker, adjustments_in, rises-none, rises-same, alone-some, count_now, gives_it, goes, given}
+use Rattle.cil_table_updates.proofs.Common.{◌≡◌, ◌+◌, ◌≤◌, ◌∙◌, ap, sym, add-zero, nat_lt, slice_get, subst, Some, on_ok_weaker, adjustments_in, rises-none, rises-same, alone-some, count_now, gives_it, goes, given}
 use Rattle.cil_table_updates.proofs.AdjustedLemmas.{counted-some}
 use Rattle.cil_table_updates.proofs.GivenLemmas.{gone-rule}
 use Rattle.cil_table_updates.proofs.PlaceLemmas.{never, read-at}

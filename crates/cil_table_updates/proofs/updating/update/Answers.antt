@@ -1,5 +1,4 @@
-use Rattle.std.proofs.Common.{◌∙◌, arith, length, sym, ap, subst}
-use Rattle.cil_table_updates.proofs.Common.{on_ok_weaker, adjustments_in, meaning_in, count_now, AdjustsAtMost, given, AreReplaced, count_named}
+use Rattle.cil_table_updates.proofs.Common.{◌∙◌, arith, length, sym, ap, subst, on_ok_weaker, adjustments_in, meaning_in, count_now, AdjustsAtMost, given, AreReplaced, count_named}
 use Rattle.cil_matching.proofs.ApartLemmas.{apart-rules}
 use Rattle.cil_table_updates.proofs.DirtyLemmas.{on-ok-both, rises-at-least, update-at-most}
 use Rattle.cil_table_updates.proofs.GivenLemmas.{given-named}

@@ -1,5 +1,4 @@
-use Rattle.std.proofs.Common.{◌+◌, ◌++◌, drop, subst, sym, ap, ◌∙◌, map}
-use Rattle.cil_text.proofs.Common.{leaves, as_referred, expr_of, Checks}
+use Rattle.cil_text.proofs.Common.{◌+◌, ◌++◌, drop, subst, sym, ap, ◌∙◌, map, leaves, as_referred, expr_of, Checks}
 use Rattle.cil_text.proofs.Rows.{union_of}
 use Rattle.cil_text.proofs.FirstBad.{GoesOn, goes_first, goes_more, checks_error, checks_rest}
 use Rattle.cil_text.proofs.CheckLemmas.{of_expr, of_exprs, exprs_from, of_both}

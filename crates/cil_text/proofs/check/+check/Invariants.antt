@@ -1,5 +1,4 @@
-use Rattle.std.proofs.Common.{◌+◌, ◌*◌, max, map, drop}
-use Rattle.cil_text.proofs.Common.{leaves, as_referred, exprs_of}
+use Rattle.cil_text.proofs.Common.{◌+◌, ◌*◌, max, map, drop, leaves, as_referred, exprs_of}
 use Rattle.cil_text.specs.declared.statement.Expr.TheViews.{size-Expr}
 use Rattle.cil_text.proofs.FirstBad.{GoesOn}
 use Rattle.cil_text.proofs.check.+check.Given as goal

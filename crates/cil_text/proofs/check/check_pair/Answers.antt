@@ -1,5 +1,4 @@
-use Rattle.std.proofs.Common.{[], ◌∷◌}
-use Rattle.cil_text.proofs.Common.{as_referred, word_of}
+use Rattle.cil_text.proofs.Common.{[], ◌∷◌, as_referred, word_of}
 use Rattle.cil_text.proofs.FirstBad.{goes_first, checks_error}
 use Rattle.cil_text.proofs.check.check_pair.Goals as goal
 

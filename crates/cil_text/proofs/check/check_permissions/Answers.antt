@@ -1,5 +1,4 @@
-use Rattle.std.proofs.Common.{[], ◌∷◌, map}
-use Rattle.cil_text.proofs.Common.{as_declared, word_of}
+use Rattle.cil_text.proofs.Common.{[], ◌∷◌, map, as_declared, word_of}
 use Rattle.cil_text.proofs.FirstBad.{goes_first, checks_error}
 use Rattle.cil_text.proofs.check.check_permissions.Goals as goal
 

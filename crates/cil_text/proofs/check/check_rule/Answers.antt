@@ -1,5 +1,4 @@
-use Rattle.std.proofs.Common.{[], ◌∷◌, ◌++◌, map}
-use Rattle.cil_text.proofs.Common.{as_declared, as_referred, target_words, word_of, target_of}
+use Rattle.cil_text.proofs.Common.{[], ◌∷◌, ◌++◌, map, as_declared, as_referred, target_words, word_of, target_of}
 use Rattle.cil_text.proofs.FirstBad.{goes_first, goes_more, checks_error}
 use Rattle.cil_text.proofs.check.check_rule.Goals as goal
 

@@ -1,5 +1,4 @@
-use Rattle.std.proofs.Common.{[], ◌∷◌, map}
-use Rattle.cil_text.proofs.Common.{leaves, as_referred, word_of, expr_of}
+use Rattle.cil_text.proofs.Common.{[], ◌∷◌, map, leaves, as_referred, word_of, expr_of}
 use Rattle.cil_text.proofs.FirstBad.{goes_first, checks_error}
 use Rattle.cil_text.proofs.check.check_set.Goals as goal
 

@@ -1,5 +1,4 @@
-use Rattle.std.proofs.Common.{◌+◌, [], ◌∷◌, get_or, drop, subst}
-use Rattle.cil_text.proofs.Common.{word_of, role_of}
+use Rattle.cil_text.proofs.Common.{◌+◌, [], ◌∷◌, get_or, drop, subst, word_of, role_of}
 use Rattle.cil_text.proofs.FirstBad.{GoesOn, checks_error}
 use Rattle.cil_text.proofs.CheckLemmas.{in_role, words_from}
 use Rattle.cil_text.proofs.check.check_words.Goals as goal

@@ -1,5 +1,4 @@
-use Rattle.std.proofs.Common.{map, drop}
-use Rattle.cil_text.proofs.Common.{word_of, role_of}
+use Rattle.cil_text.proofs.Common.{map, drop, word_of, role_of}
 use Rattle.cil_text.proofs.FirstBad.{GoesOn}
 use Rattle.cil_text.proofs.check.check_words.Given as goal
 

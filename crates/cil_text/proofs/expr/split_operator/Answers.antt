@@ -1,5 +1,4 @@
-use Rattle.std.proofs.Common.{◌∙◌, sym, ap, subst, MatchOption}
-use Rattle.cil_text.proofs.Common.{a_word, HasNoOperator, place_of, trees_of, BeginsOperation}
+use Rattle.cil_text.proofs.Common.{◌∙◌, sym, ap, subst, MatchOption, a_word, HasNoOperator, place_of, trees_of, BeginsOperation}
 use Rattle.cil_text.proofs.Spells.{no_word_first}
 use Rattle.cil_text.proofs.expr.split_operator.Goals as goal
 

@@ -1,5 +1,4 @@
-use Rattle.std.proofs.Common.{◌∙◌, sym, subst}
-use Rattle.cil_text.proofs.Common.{true≢false, none, Expresses, put_same, trees_of, tree_then, word_of, expr_of, SpellsExpr}
+use Rattle.cil_text.proofs.Common.{◌∙◌, sym, subst, true≢false, none, Expresses, put_same, trees_of, tree_then, word_of, expr_of, SpellsExpr}
 use Rattle.cil_text.proofs.Elements.{one_tree}
 use Rattle.cil_text.proofs.form.attribute_and_set.Goals as goal
 

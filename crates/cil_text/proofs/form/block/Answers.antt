@@ -1,5 +1,4 @@
-use Rattle.std.proofs.Common.{refl, sym, ◌∙◌}
-use Rattle.cil_text.proofs.Common.{block, fits_from, trees_of, word_of, behind}
+use Rattle.cil_text.proofs.Common.{refl, sym, ◌∙◌, block, fits_from, trees_of, word_of, behind}
 use Rattle.cil_text.proofs.Fitting.{scope_operands}
 use Rattle.cil_text.proofs.form.block.Goals as goal
 

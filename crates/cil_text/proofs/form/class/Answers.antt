@@ -1,5 +1,4 @@
-use Rattle.std.proofs.Common.{subst, codes}
-use Rattle.cil_text.proofs.Common.{fits_parts, no_class, trees_of, AreWordAndList}
+use Rattle.cil_text.proofs.Common.{subst, codes, fits_parts, no_class, trees_of, AreWordAndList}
 use Rattle.cil_text.proofs.form.class.Goals as goal
 
 pub returns-in-None : goal.returns-in-None

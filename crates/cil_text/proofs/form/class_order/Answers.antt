@@ -1,5 +1,4 @@
-use Rattle.std.proofs.Common.{subst, codes}
-use Rattle.cil_text.proofs.Common.{fits_parts, no_class_order, trees_of, AreClasses}
+use Rattle.cil_text.proofs.Common.{subst, codes, fits_parts, no_class_order, trees_of, AreClasses}
 use Rattle.cil_text.proofs.form.class_order.Goals as goal
 
 pub returns-in-None : goal.returns-in-None

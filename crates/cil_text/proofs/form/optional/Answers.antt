@@ -1,5 +1,4 @@
-use Rattle.std.proofs.Common.{refl, sym, ◌∙◌}
-use Rattle.cil_text.proofs.Common.{optional, fits_from, trees_of, word_of, behind}
+use Rattle.cil_text.proofs.Common.{refl, sym, ◌∙◌, optional, fits_from, trees_of, word_of, behind}
 use Rattle.cil_text.proofs.Fitting.{scope_operands}
 use Rattle.cil_text.proofs.form.optional.Goals as goal
 

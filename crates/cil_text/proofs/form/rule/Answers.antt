@@ -1,5 +1,4 @@
-use Rattle.std.proofs.Common.{◌∙◌, sym, subst, refl, map}
-use Rattle.cil_text.proofs.Common.{none, rule_word, rule, IsTargetThen, IsClassAndPermissions, fits_parts, fits_from, put_same, no_rule, trees_of, word_of, rule_kind_of, target_of, AreClassAndPermissions}
+use Rattle.cil_text.proofs.Common.{◌∙◌, sym, subst, refl, map, none, rule_word, rule, IsTargetThen, IsClassAndPermissions, fits_parts, fits_from, put_same, no_rule, trees_of, word_of, rule_kind_of, target_of, AreClassAndPermissions}
 use Rattle.cil_text.proofs.Fitting.{rule_last}
 use Rattle.cil_text.proofs.form.rule.Goals as goal
 

@@ -1,5 +1,4 @@
-use Rattle.std.proofs.Common.{◌==◌, ◌∙◌, ap, rules, tests}
-use Rattle.cil_text.proofs.Common.{slice_split, list_any, any_from_yields_List, is_reserved}
+use Rattle.cil_text.proofs.Common.{◌==◌, ◌∙◌, ap, rules, tests, slice_split, list_any, any_from_yields_List, is_reserved}
 use Rattle.std.proofs.lemmas.Iterator.Splits.{YieldsList-from_slice_split}
 use Rattle.cil_text.proofs.NameLemmas.{components_split}
 use Rattle.cil_text.proofs.name.has_reserved.Goals as goal

@@ -1,5 +1,4 @@
-use Rattle.std.proofs.Common.{Some, None, if◌then◌else◌, ◌∙◌, sym, ap}
-use Rattle.cil_text.proofs.Common.{reserved, role_of}
+use Rattle.cil_text.proofs.Common.{Some, None, if◌then◌else◌, ◌∙◌, sym, ap, reserved, role_of}
 use Rattle.cil_text.proofs.NameLemmas.{fault-name}
 use Rattle.cil_text.proofs.name.name_fault.Goals as goal
 

@@ -1,5 +1,4 @@
-use Rattle.std.proofs.Common.{Ok, Err, IfErr, List, ℕ, Result}
-use Rattle.cil_text.proofs.Common.{IsReadingFault, Trees, Reads, no-fault, place_of, kind_of, shown, FaultIs, IsMemory}
+use Rattle.cil_text.proofs.Common.{Ok, Err, IfErr, List, ℕ, Result, IsReadingFault, Trees, Reads, no-fault, place_of, kind_of, shown, FaultIs, IsMemory}
 use Rattle.cil_text.specs.declared.fault.TextFault.{TextFault}
 use Rattle.cil_text.specs.declared.fault.TextFault.TheVariants.{Memory, Found}
 use Rattle.cil_text.proofs.reader.read.Goals as goal

@@ -1,5 +1,4 @@
-use Rattle.std.proofs.Common.{◌≡◌, ◌∙◌, ◌++◌, ◌∷◌, [], length, subst, ap, rules, arith}
-use Rattle.cil_text.proofs.Common.{IsReadingFault, unclosed, Reads, place_of, trees_in}
+use Rattle.cil_text.proofs.Common.{◌≡◌, ◌∙◌, ◌++◌, ◌∷◌, [], length, subst, ap, rules, arith, IsReadingFault, unclosed, Reads, place_of, trees_in}
 use Rattle.cil_specs.proofs.Order.{reading-lists, reading-in_order}
 use Rattle.cil_text.proofs.Ends.{goes-ahead, reads-more, reads-all, reads-unclosed}
 use Rattle.cil_text.proofs.reader.read_parts.Goals as goal

@@ -1,5 +1,4 @@
-use Rattle.std.proofs.Common.{◌≡◌, ◌-◌, List, length}
-use Rattle.cil_text.proofs.Common.{Part, IsPlaced, HasRead}
+use Rattle.cil_text.proofs.Common.{◌≡◌, ◌-◌, List, length, Part, IsPlaced, HasRead}
 use Rattle.cil_text.proofs.reader.read_parts.Given as goal
 
 abbrev pub invariant-loop-reader : goal.invariant-loop-reader

@@ -1,5 +1,4 @@
-use Rattle.std.proofs.Common.{◌≡◌, ◌+◌, drop}
-use Rattle.cil_text.proofs.Common.{prefix_len, is_word_byte}
+use Rattle.cil_text.proofs.Common.{◌≡◌, ◌+◌, drop, prefix_len, is_word_byte}
 use Rattle.cil_text.proofs.reader.word_len.Given as goal
 
 abbrev pub invariant-loop-i : goal.invariant-loop-i

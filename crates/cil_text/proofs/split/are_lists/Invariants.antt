@@ -1,5 +1,4 @@
-use Rattle.std.proofs.Common.{◌≡◌}
-use Rattle.cil_text.proofs.Common.{are_lists, trees_of}
+use Rattle.cil_text.proofs.Common.{◌≡◌, are_lists, trees_of}
 use Rattle.cil_text.proofs.Nodes.{tree_size}
 use Rattle.cil_text.proofs.split.are_lists.Given as goal
 

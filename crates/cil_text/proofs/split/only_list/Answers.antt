@@ -1,5 +1,4 @@
-use Rattle.std.proofs.Common.{sym, subst, MatchOption}
-use Rattle.cil_text.proofs.Common.{Trees, none, IsListThen, trees_of}
+use Rattle.cil_text.proofs.Common.{sym, subst, MatchOption, Trees, none, IsListThen, trees_of}
 use Rattle.cil_text.proofs.split.only_list.Goals as goal
 
 pub returns-in_err-items : goal.returns-in_err-items

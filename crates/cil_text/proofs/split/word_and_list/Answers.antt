@@ -1,5 +1,4 @@
-use Rattle.std.proofs.Common.{◌∙◌, sym, subst}
-use Rattle.cil_text.proofs.Common.{IsWordList, put_same, trees_of, word_of, AreWordList}
+use Rattle.cil_text.proofs.Common.{◌∙◌, sym, subst, IsWordList, put_same, trees_of, word_of, AreWordList}
 use Rattle.cil_text.proofs.split.word_and_list.Goals as goal
 
 pub returns-in-None : goal.returns-in-None

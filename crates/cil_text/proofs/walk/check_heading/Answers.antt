@@ -1,5 +1,4 @@
-use Rattle.std.proofs.Common.{◌≡◌, inl, inr, Result, Ok, Err, IsErrAnd, IfErr, sym, subst}
-use Rattle.cil_text.proofs.Common.{is_among, outside_optionals, form_of, IsHeadingFault}
+use Rattle.cil_text.proofs.Common.{◌≡◌, inl, inr, Result, Ok, Err, IsErrAnd, IfErr, sym, subst, is_among, outside_optionals, form_of, IsHeadingFault}
 use Rattle.cil_text.specs.Keyword.{spelling}
 use Rattle.cil_text.proofs.HeadingLemmas.{allowed_by, forbidden_by}
 use Rattle.cil_text.proofs.walk.check_heading.Goals as goal

@@ -1,5 +1,4 @@
-use Rattle.std.proofs.Common.{◌∙◌, sym, ap, subst, IsTrue}
-use Rattle.cil_text.proofs.Common.{is_among, keywords, outside_optionals, put_word, Fits, IsAllowed, place_of, word_of, trees_of, FaultIs, FitsAs, form_of, inner_of, IsFirstOf}
+use Rattle.cil_text.proofs.Common.{◌∙◌, sym, ap, subst, IsTrue, is_among, keywords, outside_optionals, put_word, Fits, IsAllowed, place_of, word_of, trees_of, FaultIs, FitsAs, form_of, inner_of, IsFirstOf}
 use Rattle.cil_text.proofs.HeadingLemmas.{spelling_is, no_first_word, unsupported_first, misfit_first, bad_heading_first, fits_word}
 use Rattle.cil_text.proofs.FirstBad.{handed_on}
 use Rattle.cil_text.proofs.walk.heading.Goals as goal

@@ -1,5 +1,4 @@
-use Rattle.std.proofs.Common.{◌≡◌, ◌∙◌, sym, ap, true, cond}
-use Rattle.cil_text.proofs.Common.{none, trees_of, form_of, has_body, behind}
+use Rattle.cil_text.proofs.Common.{◌≡◌, ◌∙◌, sym, ap, true, cond, none, trees_of, form_of, has_body, behind}
 use Rattle.cil_text.proofs.Bodies.{behind_first}
 use Rattle.cil_text.proofs.walk.inner_trees.Goals as goal
 

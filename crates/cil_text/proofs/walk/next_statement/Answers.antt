@@ -1,5 +1,4 @@
-use Rattle.std.proofs.Common.{◌∙◌, ℕ, [], ap, subst, false}
-use Rattle.cil_text.proofs.Common.{place_of, trees_of, tree_then, IsFirstOf, IsFirstAmong}
+use Rattle.cil_text.proofs.Common.{◌∙◌, ℕ, [], ap, subst, false, place_of, trees_of, tree_then, IsFirstOf, IsFirstAmong}
 use Rattle.cil_text.proofs.FirstBad.{handed_on, fault_weaker}
 use Rattle.cil_text.proofs.WalkLemmas.{AreFound, found_start, found_fault}
 use Rattle.cil_text.proofs.walk.next_statement.Goals as goal

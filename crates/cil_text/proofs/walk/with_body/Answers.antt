@@ -1,5 +1,4 @@
-use Rattle.std.proofs.Common.{◌≡◌, ◌∙◌, sym, ap, false}
-use Rattle.cil_text.proofs.Common.{statement, statements_of, form_of, at_of, has_body, body_of}
+use Rattle.cil_text.proofs.Common.{◌≡◌, ◌∙◌, sym, ap, false, statement, statements_of, form_of, at_of, has_body, body_of}
 use Rattle.cil_text.proofs.Rows.{block_then, optional_then}
 use Rattle.cil_text.proofs.Bodies.{leaf_form, leaf_then}
 use Rattle.cil_text.proofs.walk.with_body.Goals as goal

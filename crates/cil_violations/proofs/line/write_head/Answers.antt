@@ -1,6 +1,5 @@
-use Rattle.std.proofs.Common.{refl}
+use Rattle.cil_violations.proofs.Common.{refl, on_err, rule_seen, rule_text, access_text}
 use Rattle.std.proofs.lemmas.Result.{on_ok_weaker, on_err_weaker}
-use Rattle.cil_violations.proofs.Common.{on_err, rule_seen, rule_text, access_text}
 use Rattle.cil_violations.proofs.LineLemmas.{front-in_first, front-in_second, front-in_third, gains-three}
 use Rattle.cil_violations.proofs.line.write_head.Goals as goal
 

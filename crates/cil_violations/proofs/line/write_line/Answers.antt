@@ -1,6 +1,6 @@
-use Rattle.std.proofs.Common.{◌≡◌, codes, flat_map, refl}
+use Rattle.cil_violations.proofs.Common.{◌≡◌, codes, refl, on_err, rule_seen, head_text, shared_text}
 use Rattle.std.proofs.lemmas.Result.{on_ok_weaker, on_err_weaker}
-use Rattle.cil_violations.proofs.Common.{on_err, rule_seen, head_text, shared_text}
+use Rattle.std.proofs.Common.{flat_map}
 use Rattle.cil_violations.proofs.LineLemmas.{texts-of, texts-are, line-whole, front-in_first, front-in_second, front-in_third, gains-three}
 use Rattle.cil_violations.proofs.line.write_line.Goals as goal
 

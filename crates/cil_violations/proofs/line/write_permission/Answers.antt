@@ -1,5 +1,4 @@
-use Rattle.std.proofs.Common.{◌≡◌, ◌∙◌, ◌++◌, [], cond, codes, sym, ap, subst, OnErr}
-use Rattle.cil_violations.proofs.Common.{GainsFront, name_text, shared_text}
+use Rattle.cil_violations.proofs.Common.{◌≡◌, ◌∙◌, ◌++◌, [], cond, codes, sym, ap, subst, OnErr, GainsFront, name_text, shared_text}
 use Rattle.cil_violations.proofs.line.write_permission.Goals as goal
 
 pub returns-then-is_among-clause-err : goal.returns-then-is_among-clause-err

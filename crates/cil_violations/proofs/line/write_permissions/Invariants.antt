@@ -1,5 +1,4 @@
-use Rattle.std.proofs.Common.{◌≤◌, take}
-use Rattle.cil_violations.proofs.Common.{flat_map, Gains, shared_text}
+use Rattle.cil_violations.proofs.Common.{◌≤◌, take, flat_map, Gains, shared_text}
 use Rattle.cil_violations.proofs.line.write_permissions.Given as goal
 
 abbrev pub invariant-loop-permission : goal.invariant-loop-permission

@@ -1,5 +1,4 @@
-use Rattle.std.proofs.Common.{◌≡◌, ◌∙◌, ◌++◌, ◌∷◌, refl, [], length, get_or, ap, sym, subst, arith, length-append}
-use Rattle.cil_violations.proofs.Common.{slice_get_read, slice_get_within, IsOrdered}
+use Rattle.cil_violations.proofs.Common.{◌≡◌, ◌∙◌, ◌++◌, ◌∷◌, refl, [], length, get_or, ap, sym, subst, arith, length-append, slice_get_read, slice_get_within, IsOrdered}
 use Rattle.cil_violations.proofs.PermissionLemmas.{each-more}
 use Rattle.cil_violations.proofs.permissions.ordered_permissions.Goals as goal
 

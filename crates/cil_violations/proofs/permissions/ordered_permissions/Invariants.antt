@@ -1,5 +1,4 @@
-use Rattle.std.proofs.Common.{◌≡◌, ◌<◌, ℕ, [], length, slice_get, Some, get_or}
-use Rattle.cil_violations.proofs.Common.{NumberedRule, IsOrdered}
+use Rattle.cil_violations.proofs.Common.{◌≡◌, ◌<◌, ℕ, [], length, slice_get, Some, get_or, NumberedRule, IsOrdered}
 use Rattle.cil_violations.proofs.permissions.ordered_permissions.Given as goal
 
 abbrev pub invariant-loop-rule : goal.invariant-loop-rule

@@ -1,5 +1,4 @@
-use Rattle.std.proofs.Common.{◌∙◌, ◌++◌, length, map, sym, ap, subst}
-use Rattle.cil_violations.proofs.Common.{meaning_in, AreViolations, AreOrdered, IsSearch, tests_of, rules_in, all_rows, violation_by, AreRows, Search}
+use Rattle.cil_violations.proofs.Common.{◌∙◌, ◌++◌, length, map, sym, ap, subst, meaning_in, AreViolations, AreOrdered, IsSearch, tests_of, rules_in, all_rows, violation_by, AreRows, Search}
 use Rattle.cil_violations.proofs.ViolatesLemmas.{are-violations, are-rows}
 use Rattle.cil_violations.proofs.violations.find.Goals as goal
 

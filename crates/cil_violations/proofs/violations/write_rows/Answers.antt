@@ -1,5 +1,4 @@
-use Rattle.std.proofs.Common.{rules}
-use Rattle.cil_violations.proofs.Common.{on_err, gains-pieces_more, gains-pieces_front, line_by, RowNumbers}
+use Rattle.cil_violations.proofs.Common.{rules, on_err, gains-pieces_more, gains-pieces_front, line_by, RowNumbers}
 use Rattle.cil_violations.proofs.violations.write_rows.Goals as goal
 
 abbrev no_row : RowNumbers

@@ -1,5 +1,4 @@
-use Rattle.std.proofs.Common.{◌≤◌, take}
-use Rattle.cil_violations.proofs.Common.{flat_map, Gains, line_by}
+use Rattle.cil_violations.proofs.Common.{◌≤◌, take, flat_map, Gains, line_by}
 use Rattle.cil_violations.proofs.violations.write_rows.Given as goal
 
 abbrev pub invariant-loop-row : goal.invariant-loop-row

@@ -1,5 +1,4 @@
-use Rattle.std.proofs.Common.{◌∙◌, refl, ap, subst, sym}
-use Rattle.cil_accesses.proofs.Common.{RowPlace, accesses_of, AreChunks}
+use Rattle.cil_accesses.proofs.Common.{◌∙◌, refl, ap, subst, sym, RowPlace, accesses_of, AreChunks}
 use Rattle.cil_accesses.proofs.Moves.{start-place, start-is}
 use Rattle.cil_accesses.proofs.rows.Rows.of.Goals as goal
 

@@ -1,5 +1,4 @@
-use Rattle.std.proofs.Common.{subst, arith}
-use Rattle.cil_bind.proofs.Common.{HaveDeclared, IsOnce}
+use Rattle.cil_bind.proofs.Common.{subst, arith, HaveDeclared, IsOnce}
 use Rattle.cil_bind.proofs.DeclareLemmas.{taken-next, taken-twice, none-taken, all-taken}
 use Rattle.cil_bind.proofs.declarations.Declarations.of.Goals as goal
 

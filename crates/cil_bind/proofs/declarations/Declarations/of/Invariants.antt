@@ -1,5 +1,4 @@
-use Rattle.std.proofs.Common.{ℕ, List, take}
-use Rattle.cil_bind.proofs.Common.{Placed, HaveDeclared, AreRows, AreNumbered, IsOnce}
+use Rattle.cil_bind.proofs.Common.{ℕ, List, take, Placed, HaveDeclared, AreRows, AreNumbered, IsOnce}
 use Rattle.cil_bind.proofs.declarations.Declarations.of.Given as goal
 
 -- no name is declared twice so far, and the entries have what is declared

@@ -1,5 +1,4 @@
-use Rattle.std.proofs.Common.{ℕ, List, take}
-use Rattle.cil_bind.proofs.Common.{Placed, HaveDeclared, AreRows, AreNumbered, IsOnce}
+use Rattle.cil_bind.proofs.Common.{ℕ, List, take, Placed, HaveDeclared, AreRows, AreNumbered, IsOnce}
 use Rattle.cil_bind.proofs.declarations.Declarations.of_once.Given as goal
 
 -- the entries have what is declared so far

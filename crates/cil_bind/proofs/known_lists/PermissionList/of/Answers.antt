@@ -1,5 +1,4 @@
-use Rattle.std.proofs.Common.{[], slice_index_or, ap, ◌∙◌}
-use Rattle.cil_bind.proofs.Common.{texts, permissions_in}
+use Rattle.cil_bind.proofs.Common.{[], slice_index_or, ap, ◌∙◌, texts, permissions_in}
 use Rattle.cil_bind.specs.KnownLists.{lists_in}
 use Rattle.cil_bind.proofs.FromLemmas.{is-there}
 use Rattle.cil_bind.proofs.known_lists.PermissionList.of.Goals as goal

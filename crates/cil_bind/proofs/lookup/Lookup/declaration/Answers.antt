@@ -1,5 +1,4 @@
-use Rattle.std.proofs.Common.{ap, ◌∙◌}
-use Rattle.cil_bind.proofs.Common.{lookup, word_at, namespace_at, table_of, Key}
+use Rattle.cil_bind.proofs.Common.{ap, ◌∙◌, lookup, word_at, namespace_at, table_of, Key}
 use Rattle.cil_bind.proofs.LookupLemmas.{derived-key, declaration-lead}
 use Rattle.cil_bind.proofs.lookup.Lookup.declaration.Goals as goal
 

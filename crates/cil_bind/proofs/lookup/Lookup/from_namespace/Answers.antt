@@ -1,5 +1,4 @@
-use Rattle.std.proofs.Common.{sym, ap, ◌∙◌, subst}
-use Rattle.cil_bind.proofs.Common.{option_and_then, inside, namespace_at, path_of, table_of, IsLead}
+use Rattle.cil_bind.proofs.Common.{sym, ap, ◌∙◌, subst, option_and_then, inside, namespace_at, path_of, table_of, IsLead}
 use Rattle.cil_bind.proofs.LookupLemmas.{no-lead, within-at, from-one, from-more, path-first, path-rest}
 use Rattle.cil_bind.proofs.lookup.Lookup.from_namespace.Goals as goal
 

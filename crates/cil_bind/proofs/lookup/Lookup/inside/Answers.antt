@@ -1,5 +1,4 @@
-use Rattle.std.proofs.Common.{◌≡◌, ◌+◌, ◌<◌, length, get_or, drop, sym, ap, ◌∙◌, subst, arith}
-use Rattle.cil_bind.proofs.Common.{inside, namespace_at, path_of, table_of, IsLead}
+use Rattle.cil_bind.proofs.Common.{◌≡◌, ◌+◌, ◌<◌, length, get_or, drop, sym, ap, ◌∙◌, subst, arith, inside, namespace_at, path_of, table_of, IsLead}
 use Rattle.cil_bind.proofs.LookupLemmas.{no-lead, inside-step, inside-none, inside-last, within-at}
 use Rattle.cil_bind.proofs.lookup.Lookup.inside.Goals as goal
 

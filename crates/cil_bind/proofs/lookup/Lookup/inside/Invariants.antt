@@ -1,5 +1,4 @@
-use Rattle.std.proofs.Common.{◌≡◌, ◌<◌, ℕ, List, length, drop}
-use Rattle.cil_bind.proofs.Common.{Placed, inside, namespace_at, path_of, table_of, Knows, AreWithin}
+use Rattle.cil_bind.proofs.Common.{◌≡◌, ◌<◌, ℕ, List, length, drop, Placed, inside, namespace_at, path_of, table_of, Knows, AreWithin}
 use Rattle.cil_bind.proofs.lookup.Lookup.inside.Given as goal
 
 abbrev pub invariant-loop-i : goal.invariant-loop-i

@@ -1,5 +1,4 @@
-use Rattle.std.proofs.Common.{sym, ap, ◌∙◌, subst}
-use Rattle.cil_bind.proofs.Common.{inside, named, namespace_at, path_of, table_of, IsLead}
+use Rattle.cil_bind.proofs.Common.{sym, ap, ◌∙◌, subst, inside, named, namespace_at, path_of, table_of, IsLead}
 use Rattle.cil_bind.proofs.LookupLemmas.{none-fact, leads-global, leads-local}
 use Rattle.cil_bind.proofs.lookup.Lookup.leads.Goals as goal
 

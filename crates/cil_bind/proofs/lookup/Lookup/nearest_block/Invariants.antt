@@ -1,5 +1,4 @@
-use Rattle.std.proofs.Common.{◌≡◌, ◌<◌, ℕ, List, length}
-use Rattle.cil_bind.proofs.Common.{Placed, nearest_block, word_at, namespace_at, Knows}
+use Rattle.cil_bind.proofs.Common.{◌≡◌, ◌<◌, ℕ, List, length, Placed, nearest_block, word_at, namespace_at, Knows}
 use Rattle.cil_bind.proofs.lookup.Lookup.nearest_block.Given as goal
 
 abbrev pub invariant-loop-found : goal.invariant-loop-found

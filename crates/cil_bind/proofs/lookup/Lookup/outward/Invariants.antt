@@ -1,5 +1,4 @@
-use Rattle.std.proofs.Common.{◌≡◌, ◌<◌, ℕ, List, length}
-use Rattle.cil_bind.proofs.Common.{Placed, outward, word_at, namespace_at, table_of, Knows}
+use Rattle.cil_bind.proofs.Common.{◌≡◌, ◌<◌, ℕ, List, length, Placed, outward, word_at, namespace_at, table_of, Knows}
 use Rattle.cil_bind.proofs.lookup.Lookup.outward.Given as goal
 
 abbrev pub invariant-loop-found : goal.invariant-loop-found

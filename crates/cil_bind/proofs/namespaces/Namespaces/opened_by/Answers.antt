@@ -1,5 +1,4 @@
-use Rattle.std.proofs.Common.{◌-◌, ◌<◌, length, get_or, [], ap, sym, ◌∙◌, arith}
-use Rattle.cil_bind.proofs.Common.{spaces_of, Block}
+use Rattle.cil_bind.proofs.Common.{◌-◌, ◌<◌, length, get_or, [], ap, sym, ◌∙◌, arith, spaces_of, Block}
 use Rattle.cil_bind.proofs.NamespaceLemmas.{length-spaces_of, space-global, outer-of}
 use Rattle.cil_bind.proofs.namespaces.Namespaces.opened_by.Goals as goal
 

@@ -1,5 +1,4 @@
-use Rattle.std.proofs.Common.{◌<◌, ◌^◌, length, sym, ap, ◌∙◌, subst}
-use Rattle.cil_bind.proofs.Common.{length-map, kind_of, is_within, restricted, once-filtered, Knows, AreRows, AreFrom, AreWorded}
+use Rattle.cil_bind.proofs.Common.{◌<◌, ◌^◌, length, sym, ap, ◌∙◌, subst, length-map, kind_of, is_within, restricted, once-filtered, Knows, AreRows, AreFrom, AreWorded}
 use Rattle.cil_bind.proofs.BindingLemmas.{bound-length}
 use Rattle.cil_bind.proofs.DeclareLemmas.{rows-length}
 use Rattle.cil_bind.proofs.MoveLemmas.{places-long}

@@ -1,5 +1,4 @@
-use Rattle.std.proofs.Common.{◌<◌, length, rules, sym, subst}
-use Rattle.cil_bind.proofs.Common.{DeclareThat, AreAround}
+use Rattle.cil_bind.proofs.Common.{◌<◌, length, rules, sym, subst, DeclareThat, AreAround}
 use Rattle.cil_bind.proofs.TwiceLemmas.{twice-there, twice-within, first-again}
 use Rattle.cil_bind.proofs.policy.Policy.of_declared.Goals as goal
 

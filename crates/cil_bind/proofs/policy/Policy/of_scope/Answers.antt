@@ -1,5 +1,4 @@
-use Rattle.std.proofs.Common.{sym, subst}
-use Rattle.cil_bind.proofs.Common.{Knows, AreRows, AreFrom, AreWorded}
+use Rattle.cil_bind.proofs.Common.{sym, subst, Knows, AreRows, AreFrom, AreWorded}
 use Rattle.cil_bind.proofs.WordLemmas.{stands-opened}
 use Rattle.cil_bind.proofs.policy.Policy.of_scope.Goals as goal
 

@@ -1,5 +1,4 @@
-use Rattle.std.proofs.Common.{ap, sym, ◌∙◌}
-use Rattle.cil_bind.proofs.Common.{none-some, declared_in, texts_of}
+use Rattle.cil_bind.proofs.Common.{ap, sym, ◌∙◌, none-some, declared_in, texts_of}
 use Rattle.cil_parse.specs.Kinds.{table_of}
 use Rattle.cil_bind.proofs.FromLemmas.{is-there}
 use Rattle.cil_bind.proofs.ScopeLemmas.{read-text, read-within, read-place}

@@ -1,5 +1,4 @@
-use Rattle.std.proofs.Common.{◌≡◌, ◌++◌, List, ℕ, [], length, take}
-use Rattle.cil_bind.proofs.Common.{Statements, Placed, placed, Spells, StandsFor, AreFrom, AreAround, HaveModule, NamedModule}
+use Rattle.cil_bind.proofs.Common.{◌≡◌, ◌++◌, List, ℕ, [], length, take, Statements, Placed, placed, Spells, StandsFor, AreFrom, AreAround, HaveModule, NamedModule}
 use Rattle.cil_bind.proofs.scope.Scope.add.Given as goal
 
 -- so many statements of the module came

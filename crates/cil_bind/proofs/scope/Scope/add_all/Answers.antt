@@ -1,5 +1,4 @@
-use Rattle.std.proofs.Common.{◌<◌, ◌≤◌, length, take, subst, rules, [], sym, append-nil, arith}
-use Rattle.cil_bind.proofs.Common.{joined, Spells, AreFrom, AreAround, HaveModule}
+use Rattle.cil_bind.proofs.Common.{◌<◌, ◌≤◌, length, take, subst, rules, [], sym, append-nil, arith, joined, Spells, AreFrom, AreAround, HaveModule}
 use Rattle.cil_bind.proofs.PlaceLemmas.{module-next, joined-all, kept-next, spelt-at}
 use Rattle.cil_bind.proofs.AroundLemmas.{around-module, around-joined}
 use Rattle.cil_bind.proofs.FromLemmas.{from-module, from-joined}

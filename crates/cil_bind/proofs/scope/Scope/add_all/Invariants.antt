@@ -1,5 +1,4 @@
-use Rattle.std.proofs.Common.{◌≡◌, ◌++◌, List, ℕ, [], take}
-use Rattle.cil_bind.proofs.Common.{Module, joined, StandsFor, AreSpelt, AreFrom, AreAround}
+use Rattle.cil_bind.proofs.Common.{◌≡◌, ◌++◌, List, ℕ, [], take, Module, joined, StandsFor, AreSpelt, AreFrom, AreAround}
 use Rattle.cil_bind.proofs.scope.Scope.add_all.Given as goal
 
 -- so many modules came

@@ -1,5 +1,4 @@
-use Rattle.std.proofs.Common.{ℕ, ◌+◌, Bool, Option, ◌++◌, ◌∷◌, [], take, bytes_eq, sym, ap, ◌∙◌, subst}
-use Rattle.cil_bind.proofs.Common.{IsDistinct, placed, Opens, IsDeclared, Stands, Row}
+use Rattle.cil_bind.proofs.Common.{ℕ, ◌+◌, Bool, Option, ◌++◌, ◌∷◌, [], take, bytes_eq, sym, ap, ◌∙◌, subst, IsDistinct, placed, Opens, IsDeclared, Stands, Row}
 use Rattle.cil_parse.specs.declared.table.Table.{Table}
 use Rattle.cil_bind.proofs.PlaceLemmas.{flat-there, placed-next}
 use Rattle.cil_bind.proofs.AroundLemmas.{around-next}

@@ -1,5 +1,5 @@
-use Rattle.std.proofs.Common.{◌≡◌, ◌+◌, ◌<◌, ◌≤◌, Some, length, slice_get, sym, ap, ◌∙◌, subst, arith}
-use Rattle.cil_check.proofs.Common.{words_in, attribute_count, number_led}
+use Rattle.cil_check.proofs.Common.{◌≡◌, ◌+◌, ◌<◌, ◌≤◌, Some, length, sym, ap, ◌∙◌, subst, arith, words_in, attribute_count, number_led}
+use Rattle.std.proofs.Common.{slice_get}
 use Rattle.cil_check.proofs.AskedLemmas.{form-set, set-reference, shown-long, word-there}
 use Rattle.cil_check.proofs.GraphLemmas.{HasWords, number-within, words-next, words-skip, words-end}
 use Rattle.cil_check.proofs.MentionLemmas.{led-to}

@@ -1,5 +1,4 @@
-use Rattle.std.proofs.Common.{◌≡◌, List, length}
-use Rattle.cil_check.proofs.Common.{Placed, HaveNumbers, IsOf, IsSeen}
+use Rattle.cil_check.proofs.Common.{◌≡◌, List, length, Placed, HaveNumbers, IsOf, IsSeen}
 use Rattle.cil_check.proofs.GraphLemmas.{HasWords}
 use Rattle.cil_check.proofs.attribute_graph.AttributeNumbers.add_set.Given as goal
 

@@ -1,5 +1,4 @@
-use Rattle.std.proofs.Common.{◌≡◌, List, length, take}
-use Rattle.cil_check.proofs.Common.{Placed, HaveNumbers, IsOf}
+use Rattle.cil_check.proofs.Common.{◌≡◌, List, length, take, Placed, HaveNumbers, IsOf}
 use Rattle.cil_check.proofs.GraphLemmas.{HasEdges}
 use Rattle.cil_check.proofs.attribute_graph.AttributeNumbers.graph.Given as goal
 

@@ -1,5 +1,4 @@
-use Rattle.std.proofs.Common.{None, Some, take, get_or, sym, ap, ◌∙◌, subst, if◌then◌else◌}
-use Rattle.cil_check.proofs.Common.{slice_get_within, types, leads, IsLead, attribute_count}
+use Rattle.cil_check.proofs.Common.{None, Some, take, get_or, sym, ap, ◌∙◌, subst, if◌then◌else◌, slice_get_within, types, leads, IsLead, attribute_count}
 use Rattle.cil_check.proofs.SeenLemmas.{seen-lead}
 use Rattle.cil_check.proofs.WordLemmas.{led-at}
 use Rattle.cil_check.proofs.GraphLemmas.{nowhere-number, there-number, numbers-at}

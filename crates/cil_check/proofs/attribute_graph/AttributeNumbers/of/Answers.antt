@@ -1,5 +1,4 @@
-use Rattle.std.proofs.Common.{◌≡◌, ◌<◌, length, sym, ap, ◌∙◌, ◌++◌, ◌∷◌, [], arith}
-use Rattle.cil_check.proofs.Common.{is_attribute, is_kind}
+use Rattle.cil_check.proofs.Common.{◌≡◌, ◌<◌, length, sym, ap, ◌∙◌, ◌++◌, ◌∷◌, [], arith, is_attribute, is_kind}
 use Rattle.cil_check.specs.declared.kinds.Kind.TheVariants.{Attribute}
 use Rattle.cil_check.proofs.GraphLemmas.{places_with, numbers-next}
 use Rattle.cil_check.proofs.SeenLemmas.{there-at, kind-form}

@@ -1,5 +1,4 @@
-use Rattle.std.proofs.Common.{List}
-use Rattle.cil_check.proofs.Common.{Placed, HaveNumbers, IsOf}
+use Rattle.cil_check.proofs.Common.{List, Placed, HaveNumbers, IsOf}
 use Rattle.cil_check.proofs.attribute_graph.AttributeNumbers.of.Given as goal
 
 -- the statements gone over have their numbers, and the attributes that they declare their places

@@ -1,5 +1,4 @@
-use Rattle.std.proofs.Common.{◌≡◌, [], List}
-use Rattle.cil_check.proofs.Common.{Placed, IsOf}
+use Rattle.cil_check.proofs.Common.{◌≡◌, [], List, Placed, IsOf}
 use Rattle.cil_check.proofs.SetLemmas.{sets_before}
 use Rattle.cil_check.proofs.bound.BoundPolicy.has_sets.Given as goal
 

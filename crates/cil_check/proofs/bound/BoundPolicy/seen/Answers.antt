@@ -1,5 +1,4 @@
-use Rattle.std.proofs.Common.{◌<◌, length, arith, rules, subst, sym}
-use Rattle.cil_check.proofs.Common.{AreNumbersOf, names_of}
+use Rattle.cil_check.proofs.Common.{◌<◌, length, arith, rules, subst, sym, AreNumbersOf, names_of}
 use Rattle.cil_bind.proofs.WordLemmas.{worded-at, worded-long}
 use Rattle.cil_bind.proofs.FromLemmas.{is-there, from-within}
 use Rattle.cil_check.proofs.SeenLemmas.{is-long, bound-long, row-there, seen-there}

@@ -1,5 +1,5 @@
-use Rattle.std.proofs.Common.{get_or, slice_get, sym, ap, ◌∙◌, subst}
-use Rattle.cil_check.proofs.Common.{components, AreNumbersOf, texts_of, names_of}
+use Rattle.cil_check.proofs.Common.{get_or, sym, ap, ◌∙◌, subst, components, AreNumbersOf, texts_of, names_of}
+use Rattle.std.proofs.Common.{slice_get}
 use Rattle.cil_bind.proofs.ScopeLemmas.{read-within, read-text}
 use Rattle.cil_check.proofs.SeenLemmas.{number-of}
 use Rattle.cil_check.proofs.bound.Seen.number.Goals as goal

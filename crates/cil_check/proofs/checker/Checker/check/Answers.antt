@@ -1,5 +1,4 @@
-use Rattle.std.proofs.Common.{refl}
-use Rattle.cil_check.proofs.Common.{err_from_is_err_and, IfErr-weaker, circular, IsFaultOf, IsLeast, IsFaultIn}
+use Rattle.cil_check.proofs.Common.{refl, err_from_is_err_and, IfErr-weaker, circular, IsFaultOf, IsLeast, IsFaultIn}
 use Rattle.indexmap.proofs.MapLemmas.{OnOk-map}
 use Rattle.cil_check.proofs.CheckLemmas.{none-all, first-least, found-one, circular-alone, found-fault, fault-weaker}
 use Rattle.cil_check.proofs.checker.Checker.check.Goals as goal

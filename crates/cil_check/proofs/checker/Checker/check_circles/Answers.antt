@@ -1,5 +1,4 @@
-use Rattle.std.proofs.Common.{◌≡◌, ◌<◌, Some, None, MatchOption, length, sym, ◌∙◌, subst, true≢false, arith}
-use Rattle.cil_check.proofs.Common.{none-some, same_Some, slice_get_within, circular, IsFaultOf, type_attribute, IsLeast, IsGraphOf, fault_at}
+use Rattle.cil_check.proofs.Common.{◌≡◌, ◌<◌, Some, None, MatchOption, length, sym, ◌∙◌, subst, true≢false, arith, none-some, same_Some, slice_get_within, circular, IsFaultOf, type_attribute, IsLeast, IsGraphOf, fault_at}
 use Rattle.cil_dependence.specs.Dependence.{IsStraight, IsFirst}
 use Rattle.cil_check.proofs.AskedLemmas.{reads-word}
 use Rattle.cil_check.proofs.CheckLemmas.{found-is, found-fault}

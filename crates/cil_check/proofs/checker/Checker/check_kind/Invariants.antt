@@ -1,5 +1,4 @@
-use Rattle.std.proofs.Common.{List}
-use Rattle.cil_check.proofs.Common.{Placed, IsNoted, policy_kind_of}
+use Rattle.cil_check.proofs.Common.{List, Placed, IsNoted, policy_kind_of}
 use Rattle.cil_check.proofs.LeastLemmas.{NoneFaultyBelow}
 use Rattle.cil_check.proofs.checker.Checker.check_kind.Given as goal
 

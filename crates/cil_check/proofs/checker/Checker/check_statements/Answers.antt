@@ -1,5 +1,4 @@
-use Rattle.std.proofs.Common.{get_or}
-use Rattle.cil_check.proofs.Common.{err_from_is_err_and, IsFaultOf, policy_kind_of, IsLeast, IsFaultIn, Twice}
+use Rattle.cil_check.proofs.Common.{get_or, err_from_is_err_and, IsFaultOf, policy_kind_of, IsLeast, IsFaultIn, Twice}
 use Rattle.cil_check.proofs.CheckLemmas.{checked, checked-code, checked-once, checked-straight, none-first, none-next, none-fewer, first-least, found-weaker}
 use Rattle.cil_check.proofs.checker.Checker.check_statements.Goals as goal
 

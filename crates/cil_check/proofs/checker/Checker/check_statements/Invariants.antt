@@ -1,5 +1,4 @@
-use Rattle.std.proofs.Common.{List}
-use Rattle.cil_check.proofs.Common.{Placed, IsNoted}
+use Rattle.cil_check.proofs.Common.{List, Placed, IsNoted}
 use Rattle.cil_check.proofs.CheckLemmas.{NoneBelow}
 use Rattle.cil_check.proofs.checker.Checker.check_statements.Given as goal
 

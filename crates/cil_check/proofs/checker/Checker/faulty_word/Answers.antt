@@ -1,5 +1,5 @@
-use Rattle.std.proofs.Common.{take, slice_get, sym, ap, ◌∙◌}
-use Rattle.cil_check.proofs.Common.{slice_get_within, get_or_from_slice_get, missing_words, faulty_words, policy_kind_of}
+use Rattle.cil_check.proofs.Common.{take, sym, ap, ◌∙◌, slice_get_within, get_or_from_slice_get, missing_words, faulty_words, policy_kind_of}
+use Rattle.std.proofs.Common.{slice_get}
 use Rattle.cil_check.proofs.AskedLemmas.{reads-as}
 use Rattle.cil_check.proofs.CheckLemmas.{missing-at}
 use Rattle.cil_check.proofs.checker.Checker.faulty_word.Goals as goal

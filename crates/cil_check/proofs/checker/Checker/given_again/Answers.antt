@@ -1,5 +1,5 @@
-use Rattle.std.proofs.Common.{None, Some, slice_get, take, sym, ap, ◌∙◌, subst}
-use Rattle.cil_check.proofs.Common.{lt-ltb, le-ltb, Reads, again_words, is_before}
+use Rattle.cil_check.proofs.Common.{None, Some, take, sym, ap, ◌∙◌, subst, lt-ltb, le-ltb, Reads, again_words, is_before}
+use Rattle.std.proofs.Common.{slice_get}
 use Rattle.cil_check.proofs.AskedLemmas.{first_if, again-reads}
 use Rattle.cil_check.proofs.checker.Checker.given_again.Goals as goal
 

@@ -1,5 +1,4 @@
-use Rattle.std.proofs.Common.{◌<◌, length, sym, ◌∙◌, arith, rules}
-use Rattle.cil_check.proofs.Common.{slice_get_within, get_or_from_slice_get, lacking_words, has_list}
+use Rattle.cil_check.proofs.Common.{◌<◌, length, sym, ◌∙◌, arith, rules, slice_get_within, get_or_from_slice_get, lacking_words, has_list}
 use Rattle.cil_check.proofs.AskedLemmas.{reads-nothing}
 use Rattle.cil_check.proofs.KnownLemmas.{from-there, known-lacks-none, lacks-none-known}
 use Rattle.cil_check.proofs.MissingLemmas.{lacks-none}

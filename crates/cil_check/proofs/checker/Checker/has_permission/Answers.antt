@@ -1,5 +1,4 @@
-use Rattle.std.proofs.Common.{◌≤◌, ◌||◌, ◌+◌, length, drop, subst, sym, ap, ◌∙◌}
-use Rattle.cil_check.proofs.Common.{has_name, word_at, list_at, names_listed}
+use Rattle.cil_check.proofs.Common.{◌≤◌, ◌||◌, ◌+◌, length, drop, subst, sym, ap, ◌∙◌, has_name, word_at, list_at, names_listed}
 use Rattle.cil_check.proofs.MissingLemmas.{has-own, has-inherited, has-step, has-listed-past}
 use Rattle.cil_check.proofs.checker.Checker.has_permission.Goals as goal
 

@@ -1,5 +1,5 @@
-use Rattle.std.proofs.Common.{◌≡◌, ◌<◌, List, Some, length, drop, slice_get}
-use Rattle.cil_check.proofs.Common.{Placed, classes, has_name, permissions_of, word_at, IsFirstOf, IsNoted, list_at, names_listed}
+use Rattle.cil_check.proofs.Common.{◌≡◌, ◌<◌, List, Some, length, drop, Placed, classes, has_name, permissions_of, word_at, IsFirstOf, IsNoted, list_at, names_listed}
+use Rattle.std.proofs.Common.{slice_get}
 use Rattle.cil_check.proofs.checker.Checker.has_permission.Given as goal
 
 -- the class has the permission where a common that is left lists it

@@ -1,5 +1,4 @@
-use Rattle.std.proofs.Common.{◌<◌, ◌≤◌, [], length, fold, get_or, refl, ap, ◌∙◌, subst}
-use Rattle.cil_check.proofs.Common.{texts, distinct, own_permissions, with_number, list_at}
+use Rattle.cil_check.proofs.Common.{◌<◌, ◌≤◌, [], length, fold, get_or, refl, ap, ◌∙◌, subst, texts, distinct, own_permissions, with_number, list_at}
 use Rattle.cil_check.proofs.PermissionLemmas.{words-at}
 use Rattle.cil_check.proofs.TooManyLemmas.{count-own, common-there, count-next, count-end}
 use Rattle.cil_check.proofs.checker.Checker.has_too_many.Goals as goal

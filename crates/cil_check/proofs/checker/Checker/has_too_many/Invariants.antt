@@ -1,5 +1,5 @@
-use Rattle.std.proofs.Common.{◌≡◌, List, Some, take, fold, slice_get}
-use Rattle.cil_check.proofs.Common.{Placed, texts, distinct, with_name, own_permissions, AreNumbersOf, IsNoted, list_at, names_listed}
+use Rattle.cil_check.proofs.Common.{◌≡◌, List, Some, take, fold, Placed, texts, distinct, with_name, own_permissions, AreNumbersOf, IsNoted, list_at, names_listed}
+use Rattle.std.proofs.Common.{slice_get}
 use Rattle.cil_check.proofs.checker.Checker.has_too_many.Given as goal
 
 -- the first permissions of the class and of so many commons are counted

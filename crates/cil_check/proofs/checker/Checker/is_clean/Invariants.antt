@@ -1,5 +1,4 @@
-use Rattle.std.proofs.Common.{List}
-use Rattle.cil_check.proofs.Common.{Placed, IsNoted, has_list}
+use Rattle.cil_check.proofs.Common.{List, Placed, IsNoted, has_list}
 use Rattle.cil_bind.specs.KnownLists.{AreKnown}
 use Rattle.cil_check.proofs.CleanLemmas.{AreCleanBelow}
 use Rattle.cil_check.proofs.checker.Checker.is_clean.Given as goal

@@ -1,5 +1,4 @@
-use Rattle.std.proofs.Common.{get_or, take}
-use Rattle.cil_check.proofs.Common.{faulty_words, policy_kind_of, Twice}
+use Rattle.cil_check.proofs.Common.{get_or, take, faulty_words, policy_kind_of, Twice}
 use Rattle.cil_check.proofs.AskedLemmas.{reads-nothing}
 use Rattle.cil_check.proofs.CheckLemmas.{checked}
 use Rattle.cil_check.proofs.CleanLemmas.{clean-more, clean-at}

@@ -1,5 +1,5 @@
-use Rattle.std.proofs.Common.{◌≡◌, List, slice_get, Some}
-use Rattle.cil_check.proofs.Common.{Placed, AreNumbersOf, names_of, IsSeen, IsNoted}
+use Rattle.cil_check.proofs.Common.{◌≡◌, List, Some, Placed, AreNumbersOf, names_of, IsSeen, IsNoted}
+use Rattle.std.proofs.Common.{slice_get}
 use Rattle.cil_check.proofs.CleanLemmas.{IsCleanOf}
 use Rattle.cil_check.proofs.checker.Checker.is_clean_at.Given as goal
 

@@ -1,5 +1,4 @@
-use Rattle.std.proofs.Common.{map, filter}
-use Rattle.cil_check.proofs.Common.{references, is_unfound, alias_unset_words}
+use Rattle.cil_check.proofs.Common.{map, filter, references, is_unfound, alias_unset_words}
 use Rattle.cil_check.proofs.AskedLemmas.{reads-nothing}
 use Rattle.cil_check.proofs.KnownLemmas.{missing-neither}
 use Rattle.cil_check.proofs.checker.Checker.is_clean_rule.Goals as goal

@@ -1,5 +1,5 @@
-use Rattle.std.proofs.Common.{◌+◌, not, Some, None, map, slice_get, refl, sym, ap, ◌∙◌, arith}
-use Rattle.cil_check.proofs.Common.{option_or, option_map, read, permissions_in, texts_of, word_if, lacking_words}
+use Rattle.cil_check.proofs.Common.{◌+◌, not, Some, None, map, refl, sym, ap, ◌∙◌, arith, option_or, option_map, read, permissions_in, texts_of, word_if, lacking_words}
+use Rattle.std.proofs.Common.{slice_get}
 use Rattle.cil_check.proofs.PermissionLemmas.{no_word, word-read, as-many}
 use Rattle.cil_check.proofs.AskedLemmas.{first_from, from-at, from-past, reads-as}
 use Rattle.cil_check.proofs.MissingLemmas.{asked-at, lacks, lacks-none, lacking-first, class-named}

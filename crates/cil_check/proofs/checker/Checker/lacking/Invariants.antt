@@ -1,5 +1,4 @@
-use Rattle.std.proofs.Common.{◌≡◌, List, Contains, Some}
-use Rattle.cil_check.proofs.Common.{Word, Placed, permissions_in, AreNumbersOf, names_of, IsSeen, IsNoted, rule_class}
+use Rattle.cil_check.proofs.Common.{◌≡◌, List, Contains, Some, Word, Placed, permissions_in, AreNumbersOf, names_of, IsSeen, IsNoted, rule_class}
 use Rattle.cil_check.proofs.AskedLemmas.{first_from}
 use Rattle.cil_check.proofs.MissingLemmas.{lacks}
 use Rattle.cil_check.proofs.checker.Checker.lacking.Given as goal

@@ -1,5 +1,5 @@
-use Rattle.std.proofs.Common.{map, filter, slice_get, sym, subst}
-use Rattle.cil_check.proofs.Common.{option_or, references, is_unfound, missing_words, Reads, first_unfound, lacking_words}
+use Rattle.cil_check.proofs.Common.{map, filter, sym, subst, option_or, references, is_unfound, missing_words, Reads, first_unfound, lacking_words}
+use Rattle.std.proofs.Common.{slice_get}
 use Rattle.cil_check.proofs.PositionLemmas.{first-append}
 use Rattle.cil_check.proofs.AskedLemmas.{reads-or, reads-as}
 use Rattle.cil_check.proofs.checker.Checker.missing_word.Goals as goal

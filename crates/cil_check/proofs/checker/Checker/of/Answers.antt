@@ -1,5 +1,4 @@
-use Rattle.std.proofs.Common.{sym, subst, ◌∙◌}
-use Rattle.cil_check.proofs.Common.{IsOf, HaveListed, HaveWords}
+use Rattle.cil_check.proofs.Common.{sym, subst, ◌∙◌, IsOf, HaveListed, HaveWords}
 use Rattle.cil_check.proofs.checker.Checker.of.Goals as goal
 
 pub fill-requires : goal.fill-requires

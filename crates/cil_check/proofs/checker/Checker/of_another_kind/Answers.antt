@@ -1,5 +1,4 @@
-use Rattle.std.proofs.Common.{None, Some, not, get_or, refl, sym, ap, ◌∙◌, subst}
-use Rattle.cil_check.proofs.Common.{types, leads, is_of_another_kind, IsLead, Reads, test_of}
+use Rattle.cil_check.proofs.Common.{None, Some, not, get_or, refl, sym, ap, ◌∙◌, subst, types, leads, is_of_another_kind, IsLead, Reads, test_of}
 use Rattle.cil_check.proofs.SeenLemmas.{seen-lead, seen-word}
 use Rattle.cil_check.proofs.AskedLemmas.{reads-none, reads-some, nowhere-kind, there-kind}
 use Rattle.cil_check.proofs.checker.Checker.of_another_kind.Goals as goal

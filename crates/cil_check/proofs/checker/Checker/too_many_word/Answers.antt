@@ -1,5 +1,5 @@
-use Rattle.std.proofs.Common.{None, Some, slice_get, refl, sym, ap, ◌∙◌, subst}
-use Rattle.cil_check.proofs.Common.{has_too_many, too_many_words, is_class, words_in, Reads, word_if}
+use Rattle.cil_check.proofs.Common.{None, Some, refl, sym, ap, ◌∙◌, subst, has_too_many, too_many_words, is_class, words_in, Reads, word_if}
+use Rattle.std.proofs.Common.{slice_get}
 use Rattle.cil_check.proofs.SeenLemmas.{seen-kind, seen-word}
 use Rattle.cil_check.proofs.AskedLemmas.{reads-none, reads-some, reads-as}
 use Rattle.cil_check.proofs.WordLemmas.{once-first}

@@ -1,5 +1,4 @@
-use Rattle.std.proofs.Common.{◌+◌, ◌<◌, ◌≤◌, None, Some, length, refl, sym, ap, ◌∙◌, subst, arith}
-use Rattle.cil_check.proofs.Common.{option_or, references, Reads, first_unfound, word_if}
+use Rattle.cil_check.proofs.Common.{◌+◌, ◌<◌, ◌≤◌, None, Some, length, refl, sym, ap, ◌∙◌, subst, arith, option_or, references, Reads, first_unfound, word_if}
 use Rattle.cil_check.proofs.SeenLemmas.{seen-word}
 use Rattle.cil_check.proofs.AskedLemmas.{reads-as, bound-as-many, reference-there, bound-nowhere, unfound-at, unfound-past}
 use Rattle.cil_check.proofs.checker.Checker.unfound.Goals as goal

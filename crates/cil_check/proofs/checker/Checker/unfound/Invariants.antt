@@ -1,5 +1,4 @@
-use Rattle.std.proofs.Common.{◌≡◌, List}
-use Rattle.cil_check.proofs.Common.{Placed, references, IsSeen, first_unfound}
+use Rattle.cil_check.proofs.Common.{◌≡◌, List, Placed, references, IsSeen, first_unfound}
 use Rattle.cil_check.proofs.checker.Checker.unfound.Given as goal
 
 -- the first that leads nowhere stands no earlier

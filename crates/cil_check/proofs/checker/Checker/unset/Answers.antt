@@ -1,5 +1,4 @@
-use Rattle.std.proofs.Common.{None, Some, not, ◌&&◌, is_some, get_or, refl, sym, ap, ◌∙◌, subst}
-use Rattle.cil_check.proofs.Common.{types, leads, is_unset, IsLead, Reads, first_at, word_if}
+use Rattle.cil_check.proofs.Common.{None, Some, not, ◌&&◌, is_some, get_or, refl, sym, ap, ◌∙◌, subst, types, leads, is_unset, IsLead, Reads, first_at, word_if}
 use Rattle.cil_check.proofs.SeenLemmas.{seen-lead, seen-word}
 use Rattle.cil_check.proofs.WordLemmas.{unset-first}
 use Rattle.cil_check.proofs.AskedLemmas.{reads-none, reads-some, reads-as, nowhere-unset}

@@ -1,5 +1,4 @@
-use Rattle.std.proofs.Common.{◌+◌, ◌<◌, ◌≤◌, None, Some, length, refl, sym, ap, ◌∙◌, arith}
-use Rattle.cil_check.proofs.Common.{is_unset, words_in}
+use Rattle.cil_check.proofs.Common.{◌+◌, ◌<◌, ◌≤◌, None, Some, length, refl, sym, ap, ◌∙◌, arith, is_unset, words_in}
 use Rattle.cil_check.proofs.AskedLemmas.{first_from, from-at, from-past, first-here, first-behind, reads-as, shown-long, word-there, set-reference}
 use Rattle.cil_check.proofs.checker.Checker.unset_leaf.Goals as goal
 

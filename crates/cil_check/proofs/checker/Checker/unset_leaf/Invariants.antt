@@ -1,5 +1,4 @@
-use Rattle.std.proofs.Common.{◌≡◌, List}
-use Rattle.cil_check.proofs.Common.{Placed, is_unset, words_in, Word, WordExpr, attribute_set, IsSeen, IsNoted}
+use Rattle.cil_check.proofs.Common.{◌≡◌, List, Placed, is_unset, words_in, Word, WordExpr, attribute_set, IsSeen, IsNoted}
 use Rattle.cil_check.proofs.AskedLemmas.{first_from}
 use Rattle.cil_check.proofs.checker.Checker.unset_leaf.Given as goal
 

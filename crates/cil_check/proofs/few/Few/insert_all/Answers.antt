@@ -1,5 +1,4 @@
-use Rattle.std.proofs.Common.{take, drop, fold, sym, ap, ◌∙◌}
-use Rattle.cil_check.proofs.Common.{take-append-drop, fold-append, with_number}
+use Rattle.cil_check.proofs.Common.{take, drop, fold, sym, ap, ◌∙◌, take-append-drop, fold-append, with_number}
 use Rattle.cil_check.proofs.FewLemmas.{fold-over}
 use Rattle.cil_check.proofs.few.Few.insert_all.Goals as goal
 

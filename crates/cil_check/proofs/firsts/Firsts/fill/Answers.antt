@@ -1,5 +1,4 @@
-use Rattle.std.proofs.Common.{None, Some, ap, refl, subst, arith, length, ◌<◌}
-use Rattle.cil_check.proofs.Common.{take_all, IsLead, first_at, association_table, given_lead, HasFirstsOf}
+use Rattle.cil_check.proofs.Common.{None, Some, ap, refl, subst, arith, length, ◌<◌, take_all, IsLead, first_at, association_table, given_lead, HasFirstsOf}
 use Rattle.cil_check.proofs.FirstsLemmas.{firsts-next}
 use Rattle.cil_check.proofs.SeenLemmas.{there-at}
 use Rattle.cil_check.proofs.firsts.Firsts.fill.Goals as goal

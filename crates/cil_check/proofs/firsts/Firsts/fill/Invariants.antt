@@ -1,5 +1,4 @@
-use Rattle.std.proofs.Common.{List, take}
-use Rattle.cil_check.proofs.Common.{Placed, IsOf, HasFirstsOf}
+use Rattle.cil_check.proofs.Common.{List, take, Placed, IsOf, HasFirstsOf}
 use Rattle.cil_check.proofs.firsts.Firsts.fill.Given as goal
 
 -- the first statements among those gone over are noted

@@ -1,5 +1,5 @@
-use Rattle.std.proofs.Common.{None, Some, map, slice_get, option_map, sym, ap, ◌∙◌}
-use Rattle.cil_check.proofs.Common.{slice_get-map, list_at}
+use Rattle.cil_check.proofs.Common.{None, Some, map, sym, ap, ◌∙◌, slice_get-map, list_at}
+use Rattle.std.proofs.Common.{slice_get, option_map}
 use Rattle.cil_check.proofs.InheritedLemmas.{at-index, found-list}
 use Rattle.cil_check.proofs.groups.Groups.get.Goals as goal
 

@@ -1,5 +1,5 @@
-use Rattle.std.proofs.Common.{◌≡◌, ◌<◌, ◌+◌, length-append, ◌==◌, ◌++◌, ◌∷◌, [], None, length, map, set, position, option_map, sym, ap, ◌∙◌, subst, refl, arith}
-use Rattle.cil_check.proofs.Common.{slice_get_read, slice_get-map, map-append, map-set, length-map, length-set, list_at}
+use Rattle.cil_check.proofs.Common.{◌≡◌, ◌<◌, ◌+◌, ◌==◌, ◌++◌, ◌∷◌, [], None, length, map, set, position, sym, ap, ◌∙◌, subst, refl, arith, slice_get_read, slice_get-map, map-append, map-set, length-map, length-set, list_at}
+use Rattle.std.proofs.Common.{length-append, option_map}
 use Rattle.cil_check.proofs.InheritedLemmas.{noted-more, noted-new, with_one, inserted-last}
 use Rattle.cil_check.proofs.groups.Groups.insert.Goals as goal
 

@@ -1,5 +1,4 @@
-use Rattle.std.proofs.Common.{◌++◌, ◌∷◌, [], not, ap, sym, ◌∙◌, if◌then◌else◌}
-use Rattle.cil_check.proofs.Common.{list_any, is_listed, Listed}
+use Rattle.cil_check.proofs.Common.{◌++◌, ◌∷◌, [], not, ap, sym, ◌∙◌, if◌then◌else◌, list_any, is_listed, Listed}
 use Rattle.cil_check.proofs.PermissionLemmas.{listed-insert, told-new}
 use Rattle.cil_check.proofs.permissions.Permissions.add.Goals as goal
 

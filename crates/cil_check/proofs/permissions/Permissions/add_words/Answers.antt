@@ -1,5 +1,4 @@
-use Rattle.std.proofs.Common.{◌||◌, ◌&&◌, ◌==◌, Some, map, refl, ap, ◌∙◌, arith}
-use Rattle.cil_check.proofs.Common.{list_any, take_all, has_name, texts, distinct, texts_of, word_at, is_listed}
+use Rattle.cil_check.proofs.Common.{◌||◌, ◌&&◌, ◌==◌, Some, map, refl, ap, ◌∙◌, arith, list_any, take_all, has_name, texts, distinct, texts_of, word_at, is_listed}
 use Rattle.cil_check.proofs.PermissionLemmas.{no_word, words-next, word-read, as-many, one-name-at, nothing-more, open-first, open-next}
 use Rattle.cil_check.proofs.permissions.Permissions.add_words.Goals as goal
 

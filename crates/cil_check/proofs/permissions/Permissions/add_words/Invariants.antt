@@ -1,5 +1,4 @@
-use Rattle.std.proofs.Common.{◌≡◌, ◌<◌, ◌||◌, ◌&&◌, ◌==◌, ℕ, [], false, List, map, length, take, bytes_eq, Some}
-use Rattle.cil_check.proofs.Common.{list_any, AllByRecursion, IsDistinct, Word, has_name, texts, distinct, read, AreNumbersOf, texts_of, names_of, word_at, is_listed, IsOneName}
+use Rattle.cil_check.proofs.Common.{◌≡◌, ◌<◌, ◌||◌, ◌&&◌, ◌==◌, ℕ, [], false, List, map, length, take, bytes_eq, Some, list_any, AllByRecursion, IsDistinct, Word, has_name, texts, distinct, read, AreNumbersOf, texts_of, names_of, word_at, is_listed, IsOneName}
 use Rattle.cil_check.proofs.permissions.Permissions.add_words.Given as goal
 
 -- so many words are taken up

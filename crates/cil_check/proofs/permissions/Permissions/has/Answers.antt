@@ -1,5 +1,4 @@
-use Rattle.std.proofs.Common.{ap, ◌∙◌}
-use Rattle.cil_check.proofs.Common.{list_any, Listed}
+use Rattle.cil_check.proofs.Common.{ap, ◌∙◌, list_any, Listed}
 use Rattle.cil_check.proofs.PermissionLemmas.{derived-listed}
 use Rattle.cil_check.proofs.permissions.Permissions.has.Goals as goal
 

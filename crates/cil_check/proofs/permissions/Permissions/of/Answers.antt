@@ -1,5 +1,5 @@
-use Rattle.std.proofs.Common.{◌≡◌, ◌≤◌, ◌<◌, ◌+◌, ◌&&◌, ℕ, List, [], ◌∷◌, ◌++◌, Some, map, slice_get, length, sym, ap, ◌∙◌, subst, arith}
-use Rattle.cil_check.proofs.Common.{list_any, AllByRecursion, take_all, get_or_from_slice_get, has_name, texts, distinct, own_permissions, le-ltb, Placed, Form, word_at, permissions_in, kind_of, AreNumbersOf, texts_of, IsOf, IsOneName, is_listed, HaveWords, lists_own}
+use Rattle.cil_check.proofs.Common.{◌≡◌, ◌≤◌, ◌<◌, ◌+◌, ◌&&◌, ℕ, List, [], ◌∷◌, ◌++◌, Some, map, length, sym, ap, ◌∙◌, subst, arith, list_any, AllByRecursion, take_all, get_or_from_slice_get, has_name, texts, distinct, own_permissions, le-ltb, Placed, Form, word_at, permissions_in, kind_of, AreNumbersOf, texts_of, IsOf, IsOneName, is_listed, HaveWords, lists_own}
+use Rattle.std.proofs.Common.{slice_get}
 use Rattle.cil_check.proofs.SeenLemmas.{there-at}
 use Rattle.cil_check.proofs.PermissionLemmas.{HaveListedBelow, own-listed, none-listed, listed-next, listed-stay, listed-all, none-below, lists-next}
 use Rattle.cil_check.proofs.permissions.Permissions.of.Goals as goal

@@ -1,5 +1,4 @@
-use Rattle.std.proofs.Common.{◌≡◌, [], List, take}
-use Rattle.cil_check.proofs.Common.{Placed, IsOf, HaveWords}
+use Rattle.cil_check.proofs.Common.{◌≡◌, [], List, take, Placed, IsOf, HaveWords}
 use Rattle.cil_check.proofs.PermissionLemmas.{HaveListedBelow}
 use Rattle.cil_check.proofs.permissions.Permissions.of.Given as goal
 

@@ -1,6 +1,5 @@
-use Rattle.std.proofs.Common.{◌∙◌, ap, subst, sym}
+use Rattle.cil_counters.proofs.Common.{◌∙◌, ap, subst, sym, AreCounts, meaning_in, count_named, AreSymbolsOf}
 use Rattle.cil_member_rows.specs.Rows as member_rows
-use Rattle.cil_counters.proofs.Common.{AreCounts, meaning_in, count_named, AreSymbolsOf}
 use Rattle.cil_keyed_lines.specs.Keyed as access_tables
 use Rattle.cil_counters.proofs.CountedLemmas.{counted-by-alike}
 use Rattle.cil_counters.proofs.counters.Counters.bring_members.Goals as goal

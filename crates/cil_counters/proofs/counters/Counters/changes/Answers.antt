@@ -1,5 +1,4 @@
-use Rattle.std.proofs.Common.{subst, sym}
-use Rattle.cil_counters.proofs.Common.{IfOk-weaker, AreNumbersOf, meaning_in, is_in_table, AreChanges, AreRanks}
+use Rattle.cil_counters.proofs.Common.{subst, sym, IfOk-weaker, AreNumbersOf, meaning_in, is_in_table, AreChanges, AreRanks}
 use Rattle.cil_member_rows.specs.Rows as member_rows
 use Rattle.cil_keyed_lines.specs.Keyed as access_tables
 use Rattle.cil_counters.proofs.ChangedLemmas.{added-numbered, are-changes, numbered-before, numbered-now, removed-numbered}

@@ -1,6 +1,5 @@
-use Rattle.std.proofs.Common.{refl}
+use Rattle.cil_counters.proofs.Common.{refl, meaning_in, sets_in, names-apart}
 use Rattle.cil_member_rows.specs.Rows as member_rows
-use Rattle.cil_counters.proofs.Common.{meaning_in, sets_in, names-apart}
 use Rattle.cil_keyed_lines.specs.Keyed as access_tables
 use Rattle.cil_counters.proofs.ChangeCountLemmas.{changes-counted, none-went}
 use Rattle.cil_counters.proofs.CountedLemmas.{counted-none, none-of}

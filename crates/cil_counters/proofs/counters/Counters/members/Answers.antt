@@ -1,5 +1,4 @@
-use Rattle.std.proofs.Common.{◌≡◌, ◌∙◌, ◌++◌, ◌∷◌, Bool, ap, sym, ℕ, []}
-use Rattle.cil_counters.proofs.Common.{meaning_in, name_in, is_member, has_named}
+use Rattle.cil_counters.proofs.Common.{◌≡◌, ◌∙◌, ◌++◌, ◌∷◌, Bool, ap, sym, ℕ, [], meaning_in, name_in, is_member, has_named}
 use Rattle.cil_counters.proofs.HitLemmas.{hits-with, hits-without}
 use Rattle.cil_counters.proofs.counters.Counters.members.Goals as goal
 use Rattle.cil_counters.proofs.counters.Counters.members.Goals.{then-has+in_ok-push, else-has}

@@ -1,5 +1,4 @@
-use Rattle.std.proofs.Common.{◌≡◌}
-use Rattle.cil_counters.proofs.Common.{meaning_in, name_in, is_member}
+use Rattle.cil_counters.proofs.Common.{◌≡◌, meaning_in, name_in, is_member}
 use Rattle.cil_violations.specs.Rows.{hits}
 use Rattle.cil_counters.proofs.counters.Counters.members.Given as goal
 

@@ -1,6 +1,5 @@
-use Rattle.std.proofs.Common.{arith}
+use Rattle.cil_counters.proofs.Common.{arith, meaning_in, sets_in}
 use Rattle.cil_member_rows.specs.Rows as member_rows
-use Rattle.cil_counters.proofs.Common.{meaning_in, sets_in}
 use Rattle.cil_keyed_lines.specs.Keyed as access_tables
 use Rattle.cil_counters.proofs.CountedLemmas.{counted-none, none-of}
 use Rattle.cil_counters.proofs.counters.Counters.none.Goals as goal

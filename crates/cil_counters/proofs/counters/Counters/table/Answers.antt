@@ -1,5 +1,4 @@
-use Rattle.std.proofs.Common.{subst, sym}
-use Rattle.cil_counters.proofs.Common.{rc_value, IfOk-weaker, AreNumbersOf, meaning_in, is_in_table, AreAtoms, AreRanks}
+use Rattle.cil_counters.proofs.Common.{subst, sym, rc_value, IfOk-weaker, AreNumbersOf, meaning_in, is_in_table, AreAtoms, AreRanks}
 use Rattle.cil_member_rows.specs.Rows as member_rows
 use Rattle.cil_rules.specs.Rows.{listed}
 use Rattle.cil_keyed_lines.specs.Keyed as access_tables

@@ -1,5 +1,4 @@
-use Rattle.std.proofs.Common.{◌≡◌, arith, length, refl, subst, sym, true}
-use Rattle.cil_counters.proofs.Common.{list_all, is_rule_below, meaning_in}
+use Rattle.cil_counters.proofs.Common.{◌≡◌, arith, length, refl, subst, sym, true, list_all, is_rule_below, meaning_in}
 use Rattle.cil_delta_specs.specs.Work.{AdjustsFew, EvaluatesFew}
 use Rattle.cil_member_rows.specs.Rows as member_rows
 use Rattle.cil_resolve.specs.Meter.{adjustments_in, evaluations_in}

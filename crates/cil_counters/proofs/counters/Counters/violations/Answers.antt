@@ -1,5 +1,4 @@
-use Rattle.std.proofs.Common.{◌<◌, ◌^◌, subst, sym}
-use Rattle.cil_counters.proofs.Common.{rc_value, AreNumbersOf, meaning_in, sets_in, AreTheSame, HasSoundSets}
+use Rattle.cil_counters.proofs.Common.{◌<◌, ◌^◌, subst, sym, rc_value, AreNumbersOf, meaning_in, sets_in, AreTheSame, HasSoundSets}
 use Rattle.cil_member_rows.specs.Rows as member_rows
 use Rattle.cil_counters.proofs.CountedLemmas.{members-counted}
 use Rattle.cil_counters.proofs.counters.Counters.violations.Goals as goal

@@ -1,5 +1,4 @@
-use Rattle.std.proofs.Common.{◌<◌, ◌^◌, subst}
-use Rattle.cil_counters.proofs.Common.{rc_value, AreCounts, AreNumbersOf, meaning_in, sets_in, AreTheSame, HasSoundSets}
+use Rattle.cil_counters.proofs.Common.{◌<◌, ◌^◌, subst, rc_value, AreCounts, AreNumbersOf, meaning_in, sets_in, AreTheSame, HasSoundSets}
 use Rattle.cil_member_rows.specs.Rows as member_rows
 use Rattle.cil_counters.proofs.CountedLemmas.{members-counted}
 use Rattle.cil_counters.proofs.counters.Counters.violations_after.Goals as goal

@@ -1,5 +1,4 @@
-use Rattle.std.proofs.Common.{[], sym, ◌∙◌, append-nil}
-use Rattle.cil_expression.proofs.Common.{leaves, nodes_of}
+use Rattle.cil_expression.proofs.Common.{[], sym, ◌∙◌, append-nil, leaves, nodes_of}
 use Rattle.cil_expression.specs.Expression.{expr_in}
 use Rattle.cil_expression.proofs.expression.SetExpression.holds.Goals as goal
 

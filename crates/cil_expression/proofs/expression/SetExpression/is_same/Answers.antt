@@ -1,5 +1,4 @@
-use Rattle.std.proofs.Common.{◌≡◌, ◌&&◌, Contains, ap, sym, subst, ◌∙◌}
-use Rattle.cil_expression.proofs.Common.{leaves, all_same, same_node, nodes_of}
+use Rattle.cil_expression.proofs.Common.{◌≡◌, ◌&&◌, Contains, ap, sym, subst, ◌∙◌, leaves, all_same, same_node, nodes_of}
 use Rattle.cil_expression.specs.Expression.{expr_in}
 use Rattle.cil_expression.proofs.SameLemmas.{pointwise-nodes}
 use Rattle.cil_expression.proofs.expression.SetExpression.is_same.Goals as goal

@@ -1,5 +1,4 @@
-use Rattle.std.proofs.Common.{◌∙◌, ap, position, sym, subst}
-use Rattle.cil_keyed_lines.proofs.Common.{IsDistinct, is_key}
+use Rattle.cil_keyed_lines.proofs.Common.{◌∙◌, ap, position, sym, subst, IsDistinct, is_key}
 use Rattle.cil_keyed_lines.proofs.KeyedLemmas.{listed_at, placed_at, same_eq}
 use Rattle.cil_keyed_lines.proofs.keyed_lines.KeyedLines.place_of.Goals as goal
 

@@ -1,6 +1,5 @@
-use Rattle.std.proofs.Common.{◌∙◌, sym, ap, arith}
+use Rattle.cil_keyed_lines.proofs.Common.{◌∙◌, sym, ap, arith, has_line, count_now}
 use Rattle.cil_keyed_lines.proofs.KeyedLemmas.{count_same}
-use Rattle.cil_keyed_lines.proofs.Common.{has_line, count_now}
 use Rattle.cil_keyed_lines.proofs.keyed_lines.KeyedLines.settle.Goals as goal
 
 pub end-requires-clause-counted : goal.end-requires-clause-counted

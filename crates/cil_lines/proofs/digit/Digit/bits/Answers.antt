@@ -1,5 +1,4 @@
-use Rattle.std.proofs.Common.{◌<◌, ◌≤◌, ◌∙◌, ap, sym, length, arith, rules}
-use Rattle.cil_lines.proofs.Common.{get_or_default, Entry}
+use Rattle.cil_lines.proofs.Common.{◌<◌, ◌≤◌, ◌∙◌, ap, sym, length, arith, rules, get_or_default, Entry}
 use Rattle.cil_lines.proofs.EntryLemmas.{Rises-from, bits_in-entry, bits_in-gap}
 use Rattle.cil_lines.proofs.DigitLemmas.{dense_is, sparse_is}
 use Rattle.cil_lines.proofs.digit.Digit.bits.Goals as goal

@@ -1,5 +1,4 @@
-use Rattle.std.proofs.Common.{◌≡◌, ◌+◌, ◌-◌, ◌^◌, ◌<◌, ◌≤◌, ◌∙◌, ℕ, List, length, get_or, ap, arith, rules}
-use Rattle.cil_lines.proofs.Common.{get_or_default, Entry, Rises, bits_of}
+use Rattle.cil_lines.proofs.Common.{◌≡◌, ◌+◌, ◌-◌, ◌^◌, ◌<◌, ◌≤◌, ◌∙◌, ℕ, List, length, get_or, ap, arith, rules, get_or_default, Entry, Rises, bits_of}
 use Rattle.cil_lines.proofs.EntryLemmas.{Rises-above, Rises-below, Rises-last, Rises-to, bits_in-past}
 use Rattle.cil_lines.proofs.DigitLemmas.{sparse_is}
 use Rattle.cil_lines.proofs.digit.Digit.end.Goals as goal

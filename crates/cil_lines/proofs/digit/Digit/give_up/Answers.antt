@@ -1,5 +1,4 @@
-use Rattle.std.proofs.Common.{◌≡◌, ℕ, ◌+◌, ◌-◌, ◌≤◌, length, vec_len, arith, rules}
-use Rattle.cil_lines.proofs.Common.{length-take, IsEntry}
+use Rattle.cil_lines.proofs.Common.{◌≡◌, ℕ, ◌+◌, ◌-◌, ◌≤◌, length, vec_len, arith, rules, length-take, IsEntry}
 use Rattle.cil_lines.proofs.EntryLemmas.{Rises-from}
 use Rattle.cil_lines.proofs.GiveUpLemmas.{Rises-remove, bits-pop, bits-remove, kept-pop, kept-remove}
 use Rattle.cil_lines.proofs.digit.Digit.give_up.Goals as goal

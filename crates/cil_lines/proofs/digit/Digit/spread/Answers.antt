@@ -1,5 +1,4 @@
-use Rattle.std.proofs.Common.{◌≡◌, ◌≤◌, ◌<◌, ℕ, ◌∙◌, ap, refl, length, get_or, arith, rules, inl, inr}
-use Rattle.cil_lines.proofs.Common.{cases_lt, with_items_is, get_or-eq_default, Rises}
+use Rattle.cil_lines.proofs.Common.{◌≡◌, ◌≤◌, ◌<◌, ℕ, ◌∙◌, ap, refl, length, get_or, arith, rules, inl, inr, cases_lt, with_items_is, get_or-eq_default, Rises}
 use Rattle.cil_lines.proofs.EntryLemmas.{Rises-from}
 use Rattle.cil_lines.proofs.DigitLemmas.{bits-spread}
 use Rattle.cil_lines.proofs.PlaceLemmas.{kept-spread}

@@ -1,5 +1,4 @@
-use Rattle.std.proofs.Common.{◌+◌, ◌∙◌, ap, refl, arith}
-use Rattle.cil_lines.proofs.Common.{with_items_is, hit}
+use Rattle.cil_lines.proofs.Common.{◌+◌, ◌∙◌, ap, refl, arith, with_items_is, hit}
 use Rattle.cil_lines.proofs.LineLemmas.{same_now, add_now, OnErr-any}
 use Rattle.cil_lines.proofs.StepLemmas.{same_below, raised_below}
 use Rattle.cil_lines.proofs.line.Line.add.Goals as goal

@@ -1,5 +1,4 @@
-use Rattle.std.proofs.Common.{◌∙◌, sym}
-use Rattle.cil_lines.proofs.Common.{with_items_is, value}
+use Rattle.cil_lines.proofs.Common.{◌∙◌, sym, with_items_is, value}
 use Rattle.cil_lines.proofs.GiveUpLemmas.{below_given_up, none_from_present}
 use Rattle.cil_lines.proofs.LineLemmas.{same_now}
 use Rattle.cil_lines.proofs.line.Line.give_up.Goals as goal

@@ -1,5 +1,4 @@
-use Rattle.std.proofs.Common.{◌/◌, arith, inl, inr}
-use Rattle.cil_lines.proofs.Common.{cases_lt, count_of}
+use Rattle.cil_lines.proofs.Common.{◌/◌, arith, inl, inr, cases_lt, count_of}
 use Rattle.cil_lines.proofs.LineLemmas.{none_passed, none_counted, none_present, some_present}
 use Rattle.cil_lines.proofs.line.Line.next_present_word.Goals as goal
 

@@ -1,5 +1,4 @@
-use Rattle.std.proofs.Common.{◌∙◌, ◌++◌, ◌∷◌, [], map, ap}
-use Rattle.cil_matching.proofs.Common.{list_any, same_spot, spot_of}
+use Rattle.cil_matching.proofs.Common.{◌∙◌, ◌++◌, ◌∷◌, [], map, ap, list_any, same_spot, spot_of}
 use Rattle.cil_matching.proofs.SpotLemmas.{insert-spots}
 use Rattle.cil_matching.proofs.positions.Positions.add.Goals as goal
 

@@ -1,5 +1,4 @@
-use Rattle.std.proofs.Common.{◌≡◌, ◌∙◌, ◌↔◌, ◌<◌, length, slice_get, Some, sym, ap, subst, arith}
-use Rattle.cil_matching.proofs.Common.{IsSameRule, meaning_in, rule_spot}
+use Rattle.cil_matching.proofs.Common.{◌≡◌, ◌∙◌, ◌↔◌, ◌<◌, length, slice_get, Some, sym, ap, subst, arith, IsSameRule, meaning_in, rule_spot}
 use Rattle.cil_matching.proofs.ApartLemmas.{rules-agree, apart-rules}
 use Rattle.cil_matching.proofs.MatchedLemmas.{places-apart, places-below, matched-by}
 use Rattle.cil_matching.proofs.rule_matching.RuleMatching.of.Goals as goal

@@ -1,5 +1,4 @@
-use Rattle.std.proofs.Common.{◌≡◌, ◌∙◌, ◌↔◌, ◌<◌, length, slice_get, Some, sym, ap, subst, arith}
-use Rattle.cil_matching.proofs.Common.{IsSameSet, sets_in, set_spot}
+use Rattle.cil_matching.proofs.Common.{◌≡◌, ◌∙◌, ◌↔◌, ◌<◌, length, slice_get, Some, sym, ap, subst, arith, IsSameSet, sets_in, set_spot}
 use Rattle.cil_matching.proofs.ApartLemmas.{sets-agree, apart-sets}
 use Rattle.cil_matching.proofs.MatchedLemmas.{places-apart, places-below, matched-by}
 use Rattle.cil_matching.proofs.set_matching.SetMatching.of.Goals as goal

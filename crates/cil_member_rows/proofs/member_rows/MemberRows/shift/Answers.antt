@@ -1,5 +1,4 @@
-use Rattle.std.proofs.Common.{◌≡◌, ℕ, ◌+◌, ◌^◌, ◌<◌, bit_and, arith, rules, w64}
-use Rattle.cil_member_rows.proofs.Common.{bit_not, hit_at, count_before, count_now}
+use Rattle.cil_member_rows.proofs.Common.{◌≡◌, ℕ, ◌+◌, ◌^◌, ◌<◌, bit_and, arith, rules, w64, bit_not, hit_at, count_before, count_now}
 use Rattle.cil_member_rows.proofs.HeldLemmas.{held_shifted}
 use Rattle.cil_member_rows.proofs.MarkLemmas.{marked_shifted}
 use Rattle.cil_member_rows.proofs.ShiftLemmas.{hit_without, hit_at_without}

@@ -1,5 +1,4 @@
-use Rattle.std.proofs.Common.{ap, ◌∙◌, arith, rules, ◌≡◌}
-use Rattle.cil_member_rows.proofs.Common.{hit_at, hit_nothing}
+use Rattle.cil_member_rows.proofs.Common.{ap, ◌∙◌, arith, rules, ◌≡◌, hit_at, hit_nothing}
 use Rattle.cil_member_rows.proofs.member_rows.shifting.lower.Goals as goal
 
 pub returns-else-mask-ne0-clause-now : goal.returns-else-mask-ne0-clause-now

@@ -1,5 +1,4 @@
-use Rattle.std.proofs.Common.{◌∙◌, ◌+◌, ◌/◌, get_or, arith}
-use Rattle.cil_member_updates.proofs.Common.{length-set, slice_get_within, meaning_in, no_declared}
+use Rattle.cil_member_updates.proofs.Common.{◌∙◌, ◌+◌, ◌/◌, get_or, arith, length-set, slice_get_within, meaning_in, no_declared}
 use Rattle.cil_member_updates.proofs.KeptLemmas.{among-none, among-next, among-all}
 use Rattle.cil_member_updates.proofs.kept.KeptTypes.of.Goals as goal
 

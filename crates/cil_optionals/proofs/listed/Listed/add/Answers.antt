@@ -1,5 +1,4 @@
-use Rattle.std.proofs.Common.{arith, rules, ◌≡◌, ◌<◌, ◌++◌, true, false, [], map, length, get_or, Some, refl, sym, ap, ◌∙◌}
-use Rattle.cil_optionals.proofs.Common.{slice_get_within, texts_of, commons_at, given_at, gives_common}
+use Rattle.cil_optionals.proofs.Common.{arith, rules, ◌≡◌, ◌<◌, ◌++◌, true, false, [], map, length, get_or, Some, refl, sym, ap, ◌∙◌, slice_get_within, texts_of, commons_at, given_at, gives_common}
 use Rattle.cil_parse.specs.Forms.{kind_of, permissions_in}
 use Rattle.cil_bind.specs.Listing.{lists_own}
 use Rattle.cil_bind.proofs.BindingLemmas.{kind-at}

@@ -1,5 +1,4 @@
-use Rattle.std.proofs.Common.{List}
-use Rattle.cil_optionals.proofs.Common.{Placed, IsUpTo, IsInverse, IsReady}
+use Rattle.cil_optionals.proofs.Common.{List, Placed, IsUpTo, IsInverse, IsReady}
 use Rattle.cil_optionals.proofs.listed.Listed.add_all.Given as goal
 
 -- so many statements are taken up

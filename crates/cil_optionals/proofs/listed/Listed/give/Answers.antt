@@ -1,5 +1,4 @@
-use Rattle.std.proofs.Common.{◌≡◌, ◌++◌, slice_get, length, Some, ℕ, refl, sym, ap, ◌∙◌}
-use Rattle.cil_optionals.proofs.Common.{slice_get_read, commons_at, given_at}
+use Rattle.cil_optionals.proofs.Common.{◌≡◌, ◌++◌, slice_get, length, Some, ℕ, refl, sym, ap, ◌∙◌, slice_get_read, commons_at, given_at}
 use Rattle.cil_optionals.specs.declared.listed.Gift.{Gift}
 use Rattle.cil_optionals.proofs.ListedLemmas.{given-push, gifts-next}
 use Rattle.cil_optionals.proofs.listed.Listed.give.Goals as goal

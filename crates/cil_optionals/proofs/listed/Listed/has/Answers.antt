@@ -1,5 +1,4 @@
-use Rattle.std.proofs.Common.{◌≡◌, ◌<◌, ◌||◌, false, length, get_or, slice_get, Some, refl, sym, ap, ◌∙◌, subst}
-use Rattle.cil_optionals.proofs.Common.{list_any, slice_get_read, lists, places_in, commons_at, has_gift}
+use Rattle.cil_optionals.proofs.Common.{◌≡◌, ◌<◌, ◌||◌, false, length, get_or, slice_get, Some, refl, sym, ap, ◌∙◌, subst, list_any, slice_get_read, lists, places_in, commons_at, has_gift}
 use Rattle.cil_optionals.proofs.ListedLemmas.{by-listers}
 use Rattle.cil_optionals.proofs.listed.Listed.has.Goals as goal
 

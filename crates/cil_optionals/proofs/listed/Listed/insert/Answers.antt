@@ -1,5 +1,4 @@
-use Rattle.std.proofs.Common.{◌≡◌, ◌<◌, ◌||◌, ◌&&◌, ◌==◌, length, bytes_eq, slice_get, Some, refl, sym, ap, ◌∙◌, arith}
-use Rattle.cil_optionals.proofs.Common.{list_any, length-set, slice_get_read, position-Some, lists, commons_at, has_gift, Permission}
+use Rattle.cil_optionals.proofs.Common.{◌≡◌, ◌<◌, ◌||◌, ◌&&◌, ◌==◌, length, bytes_eq, slice_get, Some, refl, sym, ap, ◌∙◌, arith, list_any, length-set, slice_get_read, position-Some, lists, commons_at, has_gift, Permission}
 use Rattle.cil_optionals.proofs.ListedLemmas.{listers-insert}
 use Rattle.cil_optionals.proofs.PermissionLemmas.{lists-insert}
 use Rattle.cil_optionals.proofs.listed.Listed.insert.Goals as goal

@@ -1,5 +1,4 @@
-use Rattle.std.proofs.Common.{◌||◌, ◌&&◌, ◌==◌, bytes_eq, sym, ap, ◌∙◌, arith}
-use Rattle.cil_optionals.proofs.Common.{take_all, has_name, texts, read-text, read-within, texts_of, lists, word-read, as-many}
+use Rattle.cil_optionals.proofs.Common.{◌||◌, ◌&&◌, ◌==◌, bytes_eq, sym, ap, ◌∙◌, arith, take_all, has_name, texts, read-text, read-within, texts_of, lists, word-read, as-many}
 use Rattle.cil_optionals.proofs.PermissionLemmas.{words-next, no_word}
 use Rattle.cil_optionals.proofs.listed.Listed.list.Goals as goal
 

@@ -1,5 +1,4 @@
-use Rattle.std.proofs.Common.{◌≡◌, ◌||◌, ◌&&◌, ◌==◌, ℕ, List, Some, map, take}
-use Rattle.cil_optionals.proofs.Common.{Word, has_name, texts, read, texts_of, lists, IsInverse}
+use Rattle.cil_optionals.proofs.Common.{◌≡◌, ◌||◌, ◌&&◌, ◌==◌, ℕ, List, Some, map, take, Word, has_name, texts, read, texts_of, lists, IsInverse}
 use Rattle.cil_optionals.proofs.listed.Listed.list.Given as goal
 
 -- so many words are taken up

@@ -1,5 +1,4 @@
-use Rattle.std.proofs.Common.{◌≡◌, ◌∷◌, [], Some, length, bytes_eq, position, ap, ◌∙◌, arith}
-use Rattle.cil_optionals.proofs.Common.{length-append, listers_at}
+use Rattle.cil_optionals.proofs.Common.{◌≡◌, ◌∷◌, [], Some, length, bytes_eq, position, ap, ◌∙◌, arith, length-append, listers_at}
 use Rattle.cil_optionals.proofs.ListedLemmas.{missing, number-new, number-named, with-new}
 use Rattle.cil_optionals.proofs.listed.Listed.number.Goals as goal
 

@@ -1,5 +1,4 @@
-use Rattle.std.proofs.Common.{true, false, sym, ◌∙◌}
-use Rattle.cil_optionals.proofs.Common.{permissions_in, Permission}
+use Rattle.cil_optionals.proofs.Common.{true, false, sym, ◌∙◌, permissions_in, Permission}
 use Rattle.cil_optionals.proofs.ListedLemmas.{answers-after}
 use Rattle.cil_optionals.proofs.permissions.Permissions.answer.Goals as goal
 

@@ -1,5 +1,4 @@
-use Rattle.std.proofs.Common.{◌≡◌, true, false, [], map, get_or, Some, refl, sym, ap, ◌∙◌, subst}
-use Rattle.cil_optionals.proofs.Common.{classes, leads, texts, IsLead, texts_of, are_there, is_rule, permissions_in}
+use Rattle.cil_optionals.proofs.Common.{◌≡◌, true, false, [], map, get_or, Some, refl, sym, ap, ◌∙◌, subst, classes, leads, texts, IsLead, texts_of, are_there, is_rule, permissions_in}
 use Rattle.cil_parse.specs.Forms.{kind_of, permissions_in as listed_in}
 use Rattle.cil_optionals.proofs.AsksLemmas.{bound-at, seen-of}
 use Rattle.cil_optionals.proofs.KnownLemmas.{row-from}

@@ -1,5 +1,4 @@
-use Rattle.std.proofs.Common.{sym, ap, ◌∙◌, arith}
-use Rattle.cil_optionals.proofs.Common.{list_all, take_all, read-text, read-within, texts_of, permissions_in, word-read, as-many}
+use Rattle.cil_optionals.proofs.Common.{sym, ap, ◌∙◌, arith, list_all, take_all, read-text, read-within, texts_of, permissions_in, word-read, as-many}
 use Rattle.cil_optionals.proofs.PermissionLemmas.{all-next, not-all, no_word}
 use Rattle.cil_optionals.proofs.permissions.Permissions.has_all.Goals as goal
 

@@ -1,5 +1,4 @@
-use Rattle.std.proofs.Common.{◌≡◌, List, Some, true, map, take}
-use Rattle.cil_optionals.proofs.Common.{list_all, Word, read, texts_of, permissions_in}
+use Rattle.cil_optionals.proofs.Common.{◌≡◌, List, Some, true, map, take, list_all, Word, read, texts_of, permissions_in}
 use Rattle.cil_optionals.proofs.permissions.Permissions.has_all.Given as goal
 
 -- the class has so many of them

@@ -1,5 +1,4 @@
-use Rattle.std.proofs.Common.{sym, ap, ◌∙◌}
-use Rattle.cil_optionals.proofs.Common.{list_all, texts_of, permissions_in, has_list}
+use Rattle.cil_optionals.proofs.Common.{sym, ap, ◌∙◌, list_all, texts_of, permissions_in, has_list}
 use Rattle.cil_bind.specs.KnownLists.{texts_listed}
 use Rattle.cil_optionals.proofs.KnownLemmas.{listed-words}
 use Rattle.cil_optionals.proofs.permissions.Permissions.has_list.Goals as goal

@@ -1,5 +1,4 @@
-use Rattle.std.proofs.Common.{◌≡◌, Some, slice_get, length, refl, sym, ap, ◌∙◌}
-use Rattle.cil_optionals.proofs.Common.{slice_get_read, bytes_eq-Decides, permissions_in}
+use Rattle.cil_optionals.proofs.Common.{◌≡◌, Some, slice_get, length, refl, sym, ap, ◌∙◌, slice_get_read, bytes_eq-Decides, permissions_in}
 use Rattle.cil_optionals.proofs.ListedLemmas.{recent-recalled}
 use Rattle.cil_optionals.proofs.permissions.Permissions.recalls.Goals as goal
 

@@ -1,5 +1,4 @@
-use Rattle.std.proofs.Common.{◌≡◌, refl, ap, sym, subst, ◌∙◌, arith}
-use Rattle.cil_parse.proofs.Common.{take_all, no_more, statement_then, statements_of, Places, Around}
+use Rattle.cil_parse.proofs.Common.{◌≡◌, refl, ap, sym, subst, ◌∙◌, arith, take_all, no_more, statement_then, statements_of, Places, Around}
 use denote.Param.Weighed.{most}
 use Rattle.cil_text.specs.declared.statement.Statement.TheViews.{size-Statement}
 use Rattle.cil_text.proofs.Bodies.{leaf_form}

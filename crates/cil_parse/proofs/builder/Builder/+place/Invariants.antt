@@ -1,5 +1,4 @@
-use Rattle.std.proofs.Common.{take}
-use Rattle.cil_parse.proofs.Common.{statements_of, Places}
+use Rattle.cil_parse.proofs.Common.{take, statements_of, Places}
 use Rattle.cil_parse.proofs.builder.Builder.+place.Given as goal
 
 abbrev pub decreases-place : goal.decreases-place

@@ -1,5 +1,4 @@
-use Rattle.std.proofs.Common.{◌≡◌, ◌++◌, ◌∷◌, [], subst, sym, ap, ◌∙◌, OnOk, arith}
-use Rattle.cil_parse.proofs.Common.{drop_all, opposite, both, either, one_of, leaves, expr_of, expr_nodes, AddsExpr}
+use Rattle.cil_parse.proofs.Common.{◌≡◌, ◌++◌, ◌∷◌, [], subst, sym, ap, ◌∙◌, OnOk, arith, drop_all, opposite, both, either, one_of, leaves, expr_of, expr_nodes, AddsExpr}
 use Rattle.cil_text.specs.Expr.{exprs_of}
 use Rattle.cil_text.proofs.Rows.{union_of}
 use Rattle.cil_parse.specs.declared.row.SetNode.TheVariants.{Not}

@@ -1,5 +1,4 @@
-use Rattle.std.proofs.Common.{[], false, subst}
-use Rattle.cil_parse.proofs.Common.{Shapes, IsFirstShapeFault, FaultIs, forest_of, IsFirstAmong, handed_on, fault_weaker}
+use Rattle.cil_parse.proofs.Common.{[], false, subst, Shapes, IsFirstShapeFault, FaultIs, forest_of, IsFirstAmong, handed_on, fault_weaker}
 use Rattle.cil_parse.proofs.builder.Builder.of.Goals as goal
 
 pub returns-in_err-take-clause-err : goal.returns-in_err-take-clause-err

@@ -1,5 +1,4 @@
-use Rattle.std.proofs.Common.{[], ◌∷◌, ◌++◌, map}
-use Rattle.cil_parse.proofs.Common.{target_words, word_of, target_of}
+use Rattle.cil_parse.proofs.Common.{[], ◌∷◌, ◌++◌, map, target_words, word_of, target_of}
 use Rattle.cil_parse.proofs.BuilderLemmas.{adds-then}
 use Rattle.cil_parse.proofs.builder.Builder.rule.Goals as goal
 

@@ -1,5 +1,4 @@
-use Rattle.std.proofs.Common.{[], ◌∷◌}
-use Rattle.cil_parse.proofs.Common.{leaves, word_of, expr_of, expr_nodes}
+use Rattle.cil_parse.proofs.Common.{[], ◌∷◌, leaves, word_of, expr_of, expr_nodes}
 use Rattle.cil_parse.proofs.BuilderLemmas.{adds-then}
 use Rattle.cil_parse.proofs.builder.Builder.set.Goals as goal
 

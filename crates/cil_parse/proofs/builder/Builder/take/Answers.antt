@@ -1,5 +1,4 @@
-use Rattle.std.proofs.Common.{◌≡◌, ◌∷◌, ◌++◌, [], false, ap, subst, ◌∙◌}
-use Rattle.cil_parse.proofs.Common.{trees_of, statements_of, IsNext, IsFirstAmong, handed_on, fault_weaker, Places}
+use Rattle.cil_parse.proofs.Common.{◌≡◌, ◌∷◌, ◌++◌, [], false, ap, subst, ◌∙◌, trees_of, statements_of, IsNext, IsFirstAmong, handed_on, fault_weaker, Places}
 use Rattle.cil_parse.proofs.TreeLemmas.{way_start, way_more, way_end, way_fault}
 use Rattle.cil_parse.proofs.builder.Builder.take.Goals as goal
 

@@ -1,5 +1,4 @@
-use Rattle.std.proofs.Common.{refl}
-use Rattle.cil_parse.proofs.Common.{word_of, Builder}
+use Rattle.cil_parse.proofs.Common.{refl, word_of, Builder}
 use Rattle.cil_parse.proofs.BuilderLemmas.{adds-word}
 use Rattle.cil_parse.proofs.builder.Builder.word.Goals as goal
 

@@ -1,5 +1,4 @@
-use Rattle.std.proofs.Common.{[], map, take}
-use Rattle.cil_parse.proofs.Common.{word_of, Adds}
+use Rattle.cil_parse.proofs.Common.{[], map, take, word_of, Adds}
 use Rattle.cil_parse.proofs.builder.Builder.words.Given as goal
 
 abbrev pub invariant-loop-word : goal.invariant-loop-word

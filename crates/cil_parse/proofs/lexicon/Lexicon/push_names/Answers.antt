@@ -1,5 +1,4 @@
-use Rattle.std.proofs.Common.{[], ◌∷◌, ◌++◌, ap, sym, subst, ◌∙◌, append_assoc, refl}
-use Rattle.cil_parse.proofs.Common.{slice_split, AddsNames}
+use Rattle.cil_parse.proofs.Common.{[], ◌∷◌, ◌++◌, ap, sym, subst, ◌∙◌, append_assoc, refl, slice_split, AddsNames}
 use Rattle.cil_parse.proofs.SplitLemmas.{is_dot}
 use Rattle.cil_parse.proofs.AddsLemmas.{adds-none, adds-then}
 use Rattle.cil_parse.proofs.lexicon.Lexicon.push_names.Goals as goal

@@ -1,5 +1,4 @@
-use Rattle.std.proofs.Common.{◌≡◌, ℕ, List, ◌++◌, length}
-use Rattle.cil_parse.proofs.Common.{slice_split, AddsNames}
+use Rattle.cil_parse.proofs.Common.{◌≡◌, ℕ, List, ◌++◌, length, slice_split, AddsNames}
 use Rattle.cil_parse.proofs.SplitLemmas.{is_dot}
 use Rattle.cil_parse.proofs.lexicon.Lexicon.push_names.Given as goal
 

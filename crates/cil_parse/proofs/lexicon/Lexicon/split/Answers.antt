@@ -1,5 +1,4 @@
-use Rattle.std.proofs.Common.{refl, ap, subst, ◌∙◌}
-use Rattle.cil_parse.proofs.Common.{slice_split, AddsNames, Lexicon}
+use Rattle.cil_parse.proofs.Common.{refl, ap, subst, ◌∙◌, slice_split, AddsNames, Lexicon}
 use Rattle.cil_text.proofs.NameLemmas.{components_split}
 use Rattle.cil_parse.proofs.SplitLemmas.{is_dot}
 use Rattle.cil_parse.proofs.AddsLemmas.{splits-text}

@@ -1,5 +1,4 @@
-use Rattle.std.proofs.Common.{◌∙◌, ap, sym, subst}
-use Rattle.cil_parse.proofs.Common.{seen, AreNumbersOf, permission_texts}
+use Rattle.cil_parse.proofs.Common.{◌∙◌, ap, sym, subst, seen, AreNumbersOf, permission_texts}
 use Rattle.cil_parse.proofs.permission_lists.PermissionLists.of.Goals as goal
 
 pub returns : goal.returns

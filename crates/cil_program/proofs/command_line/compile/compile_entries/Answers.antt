@@ -1,5 +1,4 @@
-use Rattle.std.proofs.Common.{Result, Ok, Err, OnErr, ◌≡◌, ◌⊎◌, inl, inr, List, [], map, refl, ap, sym, subst}
-use Rattle.cil_program.proofs.Common.{IfOk-weaker, Gains, GainsFront, gains-none, on_err, Entry, empty, for_memory, install_of, refusal_line, entry_of, refusal_of, Compiles, is_refused, lacks_memory}
+use Rattle.cil_program.proofs.Common.{Result, Ok, Err, OnErr, ◌≡◌, ◌⊎◌, inl, inr, List, [], map, refl, ap, sym, subst, IfOk-weaker, Gains, GainsFront, gains-none, on_err, Entry, empty, for_memory, install_of, refusal_line, entry_of, refusal_of, Compiles, is_refused, lacks_memory}
 use Rattle.cil_store_specs.specs.Next.{Refusal}
 use Rattle.cil_store.specs.Refusing.{AreRefused}
 use Rattle.cil_program.specs.declared.command_line.compile.Report.{Report}

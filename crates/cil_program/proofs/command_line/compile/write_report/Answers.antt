@@ -1,5 +1,5 @@
-use Rattle.std.proofs.Common.{◌≡◌, ◌≢◌, ℕ, List, [], ◌∷◌, length, flat_map, refl, arith, rules}
-use Rattle.cil_program.proofs.Common.{row_line, lists, tells, status_of_violations}
+use Rattle.cil_program.proofs.Common.{◌≡◌, ◌≢◌, ℕ, List, [], ◌∷◌, length, refl, arith, rules, row_line, lists, tells, status_of_violations}
+use Rattle.std.proofs.Common.{flat_map}
 use Rattle.cil_specs.specs.Violations.{Violation, violations_text}
 use Rattle.cil_program.proofs.command_line.compile.write_report.Goals as goal
 

@@ -1,5 +1,4 @@
-use Rattle.std.proofs.Common.{Some, None, ◌≡◌, ◌≢◌, ◌∙◌, ℕ, ◌+◌, ◌-◌, ◌<◌, List, ◌∷◌, ◌++◌, length, take, drop, get_or, length-drop, inl, inr, ap, sym, refl, subst, arith}
-use Rattle.cil_program.proofs.Common.{drop_more, get_or-drop, take-append-drop, take_all, IsBaseName}
+use Rattle.cil_program.proofs.Common.{Some, None, ◌≡◌, ◌≢◌, ◌∙◌, ℕ, ◌+◌, ◌-◌, ◌<◌, List, ◌∷◌, ◌++◌, length, take, drop, get_or, length-drop, inl, inr, ap, sym, refl, subst, arith, drop_more, get_or-drop, take-append-drop, take_all, IsBaseName}
 use Rattle.std.proofs.lemmas.Str.Pattern.{rfind_char}
 use Rattle.cil_program.proofs.command_line.files.base_name.Goals as goal
 

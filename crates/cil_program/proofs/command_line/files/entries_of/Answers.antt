@@ -1,5 +1,4 @@
-use Rattle.std.proofs.Common.{◌∙◌, List, [], ◌∷◌, ◌++◌, take, ap, sym, subst}
-use Rattle.cil_program.proofs.Common.{AllZip, take_more, entry_of, IsEntryFor}
+use Rattle.cil_program.proofs.Common.{◌∙◌, List, [], ◌∷◌, ◌++◌, take, ap, sym, subst, AllZip, take_more, entry_of, IsEntryFor}
 use Rattle.cil_program.proofs.command_line.files.entries_of.Goals as goal
 
 -- one place more

@@ -1,5 +1,4 @@
-use Rattle.std.proofs.Common.{take}
-use Rattle.cil_program.proofs.Common.{AllZip, entry_of, IsEntryFor}
+use Rattle.cil_program.proofs.Common.{take, AllZip, entry_of, IsEntryFor}
 use Rattle.cil_program.proofs.command_line.files.entries_of.Given as goal
 
 abbrev pub invariant-loop-file : goal.invariant-loop-file

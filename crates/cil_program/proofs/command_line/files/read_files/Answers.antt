@@ -1,5 +1,4 @@
-use Rattle.std.proofs.Common.{◌∙◌, ◌∷◌, ◌++◌, [], map, take, ap, ap₂, sym, subst}
-use Rattle.cil_program.proofs.Common.{map-append, take_more, IsReadOf}
+use Rattle.cil_program.proofs.Common.{◌∙◌, ◌∷◌, ◌++◌, [], map, take, ap, ap₂, sym, subst, map-append, take_more, IsReadOf}
 use Rattle.std.proofs.lemmas.List.Elements.{All-push}
 use Rattle.cil_program.proofs.command_line.files.read_files.Goals as goal
 

@@ -1,6 +1,5 @@
-use Rattle.std.proofs.Common.{rules, codes, Option, None, Some, true, false, ap, ap₂, ◌≡◌, ◌∙◌, ◌||◌}
+use Rattle.cil_program.proofs.Common.{rules, codes, Option, None, Some, true, false, ap, ap₂, ◌≡◌, ◌∙◌, ◌||◌, IfOk-weaker, Rule, rule_of, app_of, app_of_fields, new_app, new_rule, with_rule, files_rule, violations_rule}
 use Rattle.std.specs.Prelude.{IsSomeAnd}
-use Rattle.cil_program.proofs.Common.{IfOk-weaker, Rule, rule_of, app_of, app_of_fields, new_app, new_rule, with_rule, files_rule, violations_rule}
 use Rattle.clap.specs.declared.builder.action.ArgAction.TheVariants.{Append}
 use Rattle.clap.specs.declared.builder.command.Command.TheViews.{out-Command}
 use Rattle.cil_program.proofs.command_line.words.compile_command.Goals as goal

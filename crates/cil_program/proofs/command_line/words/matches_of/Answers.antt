@@ -1,5 +1,4 @@
-use Rattle.std.proofs.Common.{◌≡◌, ◌∙◌, List, [], ◌∷◌, codes, drop, length, map, Option, Some, None, option_map, true, ap, ap₂, sym, refl, arith}
-use Rattle.cil_program.proofs.Common.{IfErr-weaker, IfOk-weaker, Text, is_simple, subcommand_of, program_app}
+use Rattle.cil_program.proofs.Common.{◌≡◌, ◌∙◌, List, [], ◌∷◌, codes, drop, length, map, Option, Some, None, option_map, true, ap, ap₂, sym, refl, arith, IfErr-weaker, IfOk-weaker, Text, is_simple, subcommand_of, program_app}
 use Rattle.clap.specs.Takes.{takes}
 use Rattle.clap.specs.declared.parser.matches.ArgMatches.TheViews.{out-ArgMatches}
 use Rattle.clap.proofs.OnLiterals.{clap_on_literals}

@@ -1,5 +1,4 @@
-use Rattle.std.proofs.Common.{true, ap, ap₂, ◌≡◌, ◌∙◌}
-use Rattle.cil_program.proofs.Common.{IfOk-weaker, App, app_of, app_of_fields, on_top, with_subcommand, bare_program}
+use Rattle.cil_program.proofs.Common.{true, ap, ap₂, ◌≡◌, ◌∙◌, IfOk-weaker, App, app_of, app_of_fields, on_top, with_subcommand, bare_program}
 use Rattle.cil_program.proofs.command_line.words.program.Goals as goal
 
 pub returns : goal.returns

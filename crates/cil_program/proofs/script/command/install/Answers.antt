@@ -1,5 +1,4 @@
-use Rattle.std.proofs.Common.{◌∙◌, decimal, sym, subst, IsTrue, true≢false}
-use Rattle.cil_program.proofs.Common.{list_all, IsGoodName, is_no_space, has-space}
+use Rattle.cil_program.proofs.Common.{◌∙◌, decimal, sym, subst, IsTrue, true≢false, list_all, IsGoodName, is_no_space, has-space}
 use Rattle.cil_program.proofs.CommandLemmas.{IsInstallRest, install-rest, install-words, install-numbers}
 use Rattle.cil_program.proofs.script.command.install.Goals as goal
 

@@ -1,5 +1,4 @@
-use Rattle.std.proofs.Common.{IsTrue, take}
-use Rattle.cil_program.proofs.Common.{list_all, is_no_space}
+use Rattle.cil_program.proofs.Common.{IsTrue, take, list_all, is_no_space}
 use Rattle.cil_program.proofs.script.command.split_word.Given as goal
 
 abbrev pub invariant-loop-i : goal.invariant-loop-i

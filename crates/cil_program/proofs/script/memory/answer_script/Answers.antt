@@ -1,5 +1,4 @@
-use Rattle.std.proofs.Common.{◌≡◌, ◌++◌, ℕ, List, [], true, Some, Result, Ok, Err, IfOk, take, ap}
-use Rattle.cil_program.proofs.Common.{IsSession, IsCutByRead, IsCutByWrite, Account, Reel, IsLeft, Gains, account_of, Standing, Leaves, LeavesByRead, LeavesByWrite, status_of, SessionFault, Status}
+use Rattle.cil_program.proofs.Common.{◌≡◌, ◌++◌, ℕ, List, [], true, Some, Result, Ok, Err, IfOk, take, ap, IsSession, IsCutByRead, IsCutByWrite, Account, Reel, IsLeft, Gains, account_of, Standing, Leaves, LeavesByRead, LeavesByWrite, status_of, SessionFault, Status}
 use Rattle.cil_program.proofs.script.memory.answer_script.Goals as goal
 
 left-whole : (r : Reel) (text : List ℕ) → r.text ≡ text → r.at ≡ 0 → IsLeft (account_of r) text

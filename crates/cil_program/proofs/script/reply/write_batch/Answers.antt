@@ -1,5 +1,5 @@
-use Rattle.std.proofs.Common.{◌++◌, flat_map, codes}
-use Rattle.cil_program.proofs.Common.{dump_edits, edit_command}
+use Rattle.cil_program.proofs.Common.{◌++◌, codes, dump_edits, edit_command}
+use Rattle.std.proofs.Common.{flat_map}
 use Rattle.cil_program.proofs.ReplyLemmas.{writes-both, writes-first, dump-is}
 use Rattle.cil_program.proofs.script.reply.write_batch.Goals as goal
 

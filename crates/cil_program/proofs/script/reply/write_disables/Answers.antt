@@ -1,5 +1,5 @@
-use Rattle.std.proofs.Common.{◌≤◌, ◌<◌, ◌+◌, length, take, flat_map, sym, subst, arith}
-use Rattle.cil_program.proofs.Common.{Gains, disable_command}
+use Rattle.cil_program.proofs.Common.{◌≤◌, ◌<◌, ◌+◌, length, take, sym, subst, arith, Gains, disable_command}
+use Rattle.std.proofs.Common.{flat_map}
 use Rattle.cil_program.proofs.ReplyLemmas.{writes-cut, line-more, line-front, some-within}
 use Rattle.cil_program.proofs.script.reply.write_disables.Goals as goal
 use Rattle.cil_program.proofs.script.reply.write_disables.Goals.{in-Some+in_ok-write_disable, in_default}

@@ -1,5 +1,5 @@
-use Rattle.std.proofs.Common.{flat_map, length, arith}
-use Rattle.cil_program.proofs.Common.{dropped_line, front-longer, end_line}
+use Rattle.cil_program.proofs.Common.{length, arith, dropped_line, front-longer, end_line}
+use Rattle.std.proofs.Common.{flat_map}
 use Rattle.cil_program.proofs.ReplyLemmas.{writes-cut, writes-report}
 use Rattle.cil_program.proofs.script.reply.write_dropped.Goals as goal
 

@@ -1,5 +1,4 @@
-use Rattle.std.proofs.Common.{◌≡◌, ◌∙◌, ◌<◌, ℕ, List, [], length, get_or, subst, arith}
-use Rattle.cil_program.proofs.Common.{Gains, GainsFront, gains-pieces_more, gains-pieces_front, Entry, Store, entry_text, state_word, module_line, entry_at, entry_of}
+use Rattle.cil_program.proofs.Common.{◌≡◌, ◌∙◌, ◌<◌, ℕ, List, [], length, get_or, subst, arith, Gains, GainsFront, gains-pieces_more, gains-pieces_front, Entry, Store, entry_text, state_word, module_line, entry_at, entry_of}
 use Rattle.cil_program.proofs.ReplyLemmas.{writes-cut}
 use Rattle.cil_program.proofs.script.reply.write_entries.Goals as goal
 

@@ -1,5 +1,4 @@
-use Rattle.std.proofs.Common.{◌≤◌, take}
-use Rattle.cil_program.proofs.Common.{flat_map, Gains, module_line}
+use Rattle.cil_program.proofs.Common.{◌≤◌, take, flat_map, Gains, module_line}
 use Rattle.cil_program.proofs.script.reply.write_entries.Given as goal
 
 abbrev pub invariant-loop-i : goal.invariant-loop-i

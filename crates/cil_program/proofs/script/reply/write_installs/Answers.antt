@@ -1,5 +1,4 @@
-use Rattle.std.proofs.Common.{◌<◌, [], length, subst, arith}
-use Rattle.cil_program.proofs.Common.{Gains, GainsFront, gains-pieces_more, gains-pieces_front, entry_at, install_command}
+use Rattle.cil_program.proofs.Common.{◌<◌, [], length, subst, arith, Gains, GainsFront, gains-pieces_more, gains-pieces_front, entry_at, install_command}
 use Rattle.cil_program.proofs.ReplyLemmas.{writes-cut}
 use Rattle.cil_program.proofs.script.reply.write_installs.Goals as goal
 

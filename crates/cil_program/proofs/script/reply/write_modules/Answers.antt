@@ -1,5 +1,4 @@
-use Rattle.std.proofs.Common.{length, arith}
-use Rattle.cil_program.proofs.Common.{front-longer, modules_text, end_line}
+use Rattle.cil_program.proofs.Common.{length, arith, front-longer, modules_text, end_line}
 use Rattle.cil_program.proofs.ReplyLemmas.{writes-cut, writes-report}
 use Rattle.cil_program.proofs.script.reply.write_modules.Goals as goal
 

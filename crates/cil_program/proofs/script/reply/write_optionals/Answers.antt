@@ -1,5 +1,5 @@
-use Rattle.std.proofs.Common.{◌≤◌, ◌<◌, ◌+◌, length, take, flat_map, sym, subst, arith}
-use Rattle.cil_program.proofs.Common.{Gains, dropped_line}
+use Rattle.cil_program.proofs.Common.{◌≤◌, ◌<◌, ◌+◌, length, take, sym, subst, arith, Gains, dropped_line}
+use Rattle.std.proofs.Common.{flat_map}
 use Rattle.cil_resolve.specs.Views.{declared_seen}
 use Rattle.cil_program.proofs.ReplyLemmas.{writes-cut, line-more, line-front, some-within}
 use Rattle.cil_program.proofs.script.reply.write_optionals.Goals as goal

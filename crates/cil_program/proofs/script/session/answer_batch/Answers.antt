@@ -1,5 +1,4 @@
-use Rattle.std.proofs.Common.{refl, sym, subst}
-use Rattle.cil_program.proofs.Common.{refused, Answer, answer_of, a_line, refusal_of, counts_line, AnswersBatch}
+use Rattle.cil_program.proofs.Common.{refl, sym, subst, refused, Answer, answer_of, a_line, refusal_of, counts_line, AnswersBatch}
 use Rattle.cil_program.proofs.SessionLemmas.{tries-ok, tries-err}
 use Rattle.cil_program.proofs.script.session.answer_batch.Goals as goal
 

@@ -1,5 +1,4 @@
-use Rattle.std.proofs.Common.{◌≡◌, ◌+◌, [], true, false, refl, subst, arith, rules}
-use Rattle.cil_program.proofs.Common.{Gains, GainsFront, failed-later, last_line, ends, stops, Moment, Progress, Standing, IsTurn, IsTurnCut, after_answer, Read, Write}
+use Rattle.cil_program.proofs.Common.{◌≡◌, ◌+◌, [], true, false, refl, subst, arith, rules, Gains, GainsFront, failed-later, last_line, ends, stops, Moment, Progress, Standing, IsTurn, IsTurnCut, after_answer, Read, Write}
 use Rattle.cil_program.specs.declared.script.session.Status.TheVariants.{Script}
 use Rattle.cil_program.specs.declared.script.session.Turn.TheVariants as turns
 use Rattle.cil_program.proofs.InputLemmas.{ended-within}

@@ -1,5 +1,4 @@
-use Rattle.std.proofs.Common.{refl}
-use Rattle.cil_program.proofs.Common.{for_memory, ask_dropped, refused, dropped_optionals, tells_dropped, out_of_memory, answer_of, by_engine, asks_dropped, IsAnswerFor}
+use Rattle.cil_program.proofs.Common.{refl, for_memory, ask_dropped, refused, dropped_optionals, tells_dropped, out_of_memory, answer_of, by_engine, asks_dropped, IsAnswerFor}
 use Rattle.cil_program.proofs.SessionLemmas.{tries-ok, tries-err}
 use Rattle.cil_program.proofs.script.session.answer_dropped.Goals as goal
 

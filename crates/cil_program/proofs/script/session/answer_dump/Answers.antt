@@ -1,5 +1,4 @@
-use Rattle.std.proofs.Common.{◌++◌, false, List, ℕ, Ok, Err, length, refl, subst}
-use Rattle.cil_program.proofs.Common.{Store, asks_dump, dump_commands, dump_text, end_line, by_dump, Writes, IsAnswerFor}
+use Rattle.cil_program.proofs.Common.{◌++◌, false, List, ℕ, Ok, Err, length, refl, subst, Store, asks_dump, dump_commands, dump_text, end_line, by_dump, Writes, IsAnswerFor}
 use Rattle.cil_program.proofs.SessionLemmas.{tries-ok, tries-err}
 use Rattle.cil_program.proofs.script.session.answer_dump.Goals as goal
 

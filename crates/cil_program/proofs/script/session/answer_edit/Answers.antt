@@ -1,5 +1,4 @@
-use Rattle.std.proofs.Common.{◌≡◌, ◌∙◌, refl, ap, sym, subst}
-use Rattle.cil_program.proofs.Common.{IsHeld, by_holding, edit_of, held_answer}
+use Rattle.cil_program.proofs.Common.{◌≡◌, ◌∙◌, refl, ap, sym, subst, IsHeld, by_holding, edit_of, held_answer}
 use Rattle.cil_store_specs.specs.Answers as answers
 use Rattle.cil_program.proofs.AnswerLemmas.{same-name}
 use Rattle.cil_program.proofs.SessionLemmas.{tries-weaker}

@@ -1,5 +1,4 @@
-use Rattle.std.proofs.Common.{◌≡◌, ◌+◌, ◌∙◌, [], ap, sym, subst, true≢false}
-use Rattle.cil_program.proofs.Common.{IfOk-weaker, IfErr-weaker, Moment, Progress, IsWhole, AreGoodWords, IsOutcome, IsLineCut, LineFeed, Write}
+use Rattle.cil_program.proofs.Common.{◌≡◌, ◌+◌, ◌∙◌, [], ap, sym, subst, true≢false, IfOk-weaker, IfErr-weaker, Moment, Progress, IsWhole, AreGoodWords, IsOutcome, IsLineCut, LineFeed, Write}
 use Rattle.cil_program.specs.Command.{command_of}
 use Rattle.cil_program.proofs.SessionLemmas.{whole-line, none-behind, told-answered, told-begun, line-outcome, line-cut, feed-ends, install-line, install-line_cut, by-fault}
 use Rattle.cil_program.proofs.script.session.answer_line.Goals as goal

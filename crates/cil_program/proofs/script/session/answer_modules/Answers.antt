@@ -1,5 +1,4 @@
-use Rattle.std.proofs.Common.{◌++◌, false, List, ℕ, Ok, Err, length, refl, subst}
-use Rattle.cil_program.proofs.Common.{Store, modules_text, asks_modules, end_line, by_modules, Writes, IsAnswerFor}
+use Rattle.cil_program.proofs.Common.{◌++◌, false, List, ℕ, Ok, Err, length, refl, subst, Store, modules_text, asks_modules, end_line, by_modules, Writes, IsAnswerFor}
 use Rattle.cil_program.proofs.SessionLemmas.{tries-ok, tries-err}
 use Rattle.cil_program.proofs.script.session.answer_modules.Goals as goal
 

@@ -1,5 +1,4 @@
-use Rattle.std.proofs.Common.{◌≡◌, ◌≢◌, ◌+◌, ◌≤◌, ◌==◌, ◌∙◌, [], true, false, length, IsTrue, inl, ap, sym, subst, refl, true≢false}
-use Rattle.cil_program.proofs.Common.{list_all, has_ended, EndsLine, stays, Moment, Progress, IsTurn, IsTurnCut, IsOutcome, LastByte, Write}
+use Rattle.cil_program.proofs.Common.{◌≡◌, ◌≢◌, ◌+◌, ◌≤◌, ◌==◌, ◌∙◌, [], true, false, length, IsTrue, inl, ap, sym, subst, refl, true≢false, list_all, has_ended, EndsLine, stays, Moment, Progress, IsTurn, IsTurnCut, IsOutcome, LastByte, Write}
 use Rattle.cil_program.specs.declared.script.input.LineEnd.{LineEnd}
 use Rattle.cil_program.specs.declared.script.session.Outcome.TheVariants.{Accepted, Refused, NoCommand}
 use Rattle.cil_program.specs.declared.script.session.Turn.TheVariants as turns

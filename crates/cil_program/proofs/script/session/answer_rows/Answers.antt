@@ -1,5 +1,5 @@
-use Rattle.std.proofs.Common.{Err, ◌≡◌, List, length, flat_map, refl, ap}
-use Rattle.cil_program.proofs.Common.{front-longer, row_line, Store, for_memory, AreRowsOf, ask_rows, refused, listed, out_of_memory, answer_of, by_engine, asks_rules, end_line, refusal_line, Writes, IsAnswerFor}
+use Rattle.cil_program.proofs.Common.{Err, ◌≡◌, List, length, refl, ap, front-longer, row_line, Store, for_memory, AreRowsOf, ask_rows, refused, listed, out_of_memory, answer_of, by_engine, asks_rules, end_line, refusal_line, Writes, IsAnswerFor}
+use Rattle.std.proofs.Common.{flat_map}
 use Rattle.cil_specs.specs.Report.{Row}
 use Rattle.cil_store_specs.specs.Run.{lists}
 use Rattle.cil_program.proofs.ReplyLemmas.{writes-report, writes-later}

@@ -1,5 +1,4 @@
-use Rattle.std.proofs.Common.{Err, ◌≡◌, List, length, refl, ap}
-use Rattle.cil_program.proofs.Common.{front-longer, Store, for_memory, AreViolationsOf, ask_violations, refused, violated, tells_violations, out_of_memory, answer_of, by_engine, asks_violations, end_line, refusal_line, Writes, IsAnswerFor}
+use Rattle.cil_program.proofs.Common.{Err, ◌≡◌, List, length, refl, ap, front-longer, Store, for_memory, AreViolationsOf, ask_violations, refused, violated, tells_violations, out_of_memory, answer_of, by_engine, asks_violations, end_line, refusal_line, Writes, IsAnswerFor}
 use Rattle.cil_specs.specs.Violations.{Violation, violations_text}
 use Rattle.cil_program.proofs.ReplyLemmas.{writes-report, writes-later}
 use Rattle.cil_program.proofs.SessionLemmas.{tries-ok, tries-err}

@@ -1,5 +1,4 @@
-use Rattle.std.proofs.Common.{◌≡◌, ◌∙◌, Some, refl, ap, sym}
-use Rattle.cil_program.proofs.Common.{by_store, for_memory, batch_word, refused, all_held, over_the_limits, without_memory, was_too_long, had_no_memory, by_the_batch, held_of}
+use Rattle.cil_program.proofs.Common.{◌≡◌, ◌∙◌, Some, refl, ap, sym, by_store, for_memory, batch_word, refused, all_held, over_the_limits, without_memory, was_too_long, had_no_memory, by_the_batch, held_of}
 use Rattle.cil_program.proofs.AnswerLemmas.{batch-made}
 use Rattle.cil_program.proofs.SessionLemmas.{tries-weaker}
 use Rattle.cil_program.proofs.script.session.commit.Goals as goal

@@ -1,5 +1,4 @@
-use Rattle.std.proofs.Common.{◌≡◌, ◌∙◌, ◌++◌, ap, sym, subst, length, length-take, min, take, arith}
-use Rattle.cil_program.proofs.Common.{Edit, install, held_bytes, held_as, given_up, HasRead, Write}
+use Rattle.cil_program.proofs.Common.{◌≡◌, ◌∙◌, ◌++◌, ap, sym, subst, length, length-take, min, take, arith, Edit, install, held_bytes, held_as, given_up, HasRead, Write}
 use Rattle.cil_program.proofs.AnswerLemmas.{held-answered}
 use Rattle.cil_program.proofs.SessionLemmas.{by-fault, install-outcome, install-begun, told-weaker, told-some_weaker}
 use Rattle.cil_program.proofs.script.session.hold_install.Goals as goal

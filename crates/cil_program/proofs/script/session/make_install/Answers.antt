@@ -1,5 +1,4 @@
-use Rattle.std.proofs.Common.{◌≡◌, ◌∙◌, ◌++◌, refl, ap, sym, subst}
-use Rattle.cil_program.proofs.Common.{install, for_memory, install_refusal, refused, out_of_memory, answer_of, state_of, by_the_edit, store_refusal_of, makes, HasRead, HasTold, HasToldSome, Does, Write}
+use Rattle.cil_program.proofs.Common.{◌≡◌, ◌∙◌, ◌++◌, refl, ap, sym, subst, install, for_memory, install_refusal, refused, out_of_memory, answer_of, state_of, by_the_edit, store_refusal_of, makes, HasRead, HasTold, HasToldSome, Does, Write}
 use Rattle.cil_store_specs.proofs.BatchLemmas.{store-refused-step}
 use Rattle.cil_program.proofs.SessionLemmas.{by-fault, install-outcome, install-begun}
 use Rattle.cil_program.proofs.script.session.make_install.Goals as goal

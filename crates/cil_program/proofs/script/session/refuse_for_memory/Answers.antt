@@ -1,5 +1,4 @@
-use Rattle.std.proofs.Common.{◌≡◌, refl}
-use Rattle.cil_program.proofs.Common.{for_memory, refused, answer_of}
+use Rattle.cil_program.proofs.Common.{◌≡◌, refl, for_memory, refused, answer_of}
 use Rattle.cil_program.proofs.SessionLemmas.{tries-ok, tries-err}
 use Rattle.cil_program.proofs.script.session.refuse_for_memory.Goals as goal
 

@@ -1,6 +1,5 @@
-use Rattle.std.proofs.Common.{reverse}
+use Rattle.cil_recorded.proofs.Common.{reverse, turned_in, undone, count_in}
 use Rattle.cil_recorded.proofs.TurnLemmas.{split_changes, turned-modulo, IfOk-both}
-use Rattle.cil_recorded.proofs.Common.{turned_in, undone, count_in}
 use Rattle.cil_recorded.proofs.recorded_lines.RecordedLines.changes.Goals as goal
 
 pub returns-clause-appeared : goal.returns-clause-appeared

@@ -1,5 +1,4 @@
-use Rattle.std.proofs.Common.{◌≡◌, ◌<◌, ◌⊎◌, ℕ, false, length}
-use Rattle.cil_recorded.proofs.Common.{has_line, count_now, lines_in, steps_in, HasCount}
+use Rattle.cil_recorded.proofs.Common.{◌≡◌, ◌<◌, ◌⊎◌, ℕ, false, length, has_line, count_now, lines_in, steps_in, HasCount}
 use Rattle.cil_recorded.proofs.recorded_lines.RecordedLines.give_up_words.Given as goal
 
 -- lines of no step that is left had none, or have a counter above 0

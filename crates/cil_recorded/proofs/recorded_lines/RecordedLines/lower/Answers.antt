@@ -1,5 +1,4 @@
-use Rattle.std.proofs.Common.{◌<◌, ◌∙◌, length, bit_and, refl, sym, ap, rules}
-use Rattle.cil_recorded.proofs.Common.{IsPresence, IsSingle, falls, has_line, count_in}
+use Rattle.cil_recorded.proofs.Common.{◌<◌, ◌∙◌, length, bit_and, refl, sym, ap, rules, IsPresence, IsSingle, falls, has_line, count_in}
 use Rattle.cil_recorded.proofs.EndLemmas.{others_down}
 use Rattle.cil_recorded.proofs.LogLemmas.{before_down, moved_down, sound_down}
 use Rattle.cil_recorded.proofs.recorded_lines.RecordedLines.lower.Goals as goal

@@ -1,5 +1,4 @@
-use Rattle.std.proofs.Common.{◌<◌, length, bit_and, w64, refl, rules}
-use Rattle.cil_recorded.proofs.Common.{bit_not, IsPresence, count_in}
+use Rattle.cil_recorded.proofs.Common.{◌<◌, length, bit_and, w64, refl, rules, bit_not, IsPresence, count_in}
 use Rattle.cil_recorded.proofs.EndLemmas.{falls_up}
 use Rattle.cil_recorded.proofs.LogLemmas.{before_up, moved_up, sound_up}
 use Rattle.cil_recorded.proofs.recorded_lines.RecordedLines.raise.Goals as goal

@@ -1,6 +1,5 @@
-use Rattle.std.proofs.Common.{◌∙◌, ap, rules}
+use Rattle.cil_recorded.proofs.Common.{◌∙◌, ap, rules, Step, falls}
 use Rattle.std.proofs.lemmas.Fn.{filter_same}
-use Rattle.cil_recorded.proofs.Common.{Step, falls}
 use Rattle.cil_recorded.proofs.recorded_lines.RecordedLines.settle_into.Goals as goal
 
 pub returns-clause-falls : goal.returns-clause-falls

@@ -1,5 +1,4 @@
-use Rattle.std.proofs.Common.{◌≡◌, ◌∙◌, ◌<◌, ◌+◌, ◌-◌, ◌++◌, ◌∷◌, [], sym, ap, length, take, get_or, arith}
-use Rattle.cil_recorded.proofs.Common.{take_more, count_in, limit_in}
+use Rattle.cil_recorded.proofs.Common.{◌≡◌, ◌∙◌, ◌<◌, ◌+◌, ◌-◌, ◌++◌, ◌∷◌, [], sym, ap, length, take, get_or, arith, take_more, count_in, limit_in}
 use Rattle.cil_recorded.proofs.LogLemmas.{left_over, took_up, took_down}
 use Rattle.cil_recorded.proofs.recorded_lines.RecordedLines.undo_into.Goals as goal
 

@@ -1,5 +1,4 @@
-use Rattle.std.proofs.Common.{◌≡◌, ◌≤◌, ℕ, length, vec_len, reverse, take}
-use Rattle.cil_recorded.proofs.Common.{undone, CanUndo, count_before, count_in, limit_in}
+use Rattle.cil_recorded.proofs.Common.{◌≡◌, ◌≤◌, ℕ, length, vec_len, reverse, take, undone, CanUndo, count_before, count_in, limit_in}
 use Rattle.cil_recorded.proofs.recorded_lines.RecordedLines.undo_into.Given as goal
 
 -- the steps that are left lead back to the counters before

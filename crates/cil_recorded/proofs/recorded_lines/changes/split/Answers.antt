@@ -1,5 +1,4 @@
-use Rattle.std.proofs.Common.{◌≡◌, ◌+◌, ℕ, suc, ap, subst, get_or, drop, drop-cons, bit_and, bit_xor, arith}
-use Rattle.cil_recorded.proofs.Common.{sum_by_more, sum_by_push, Turn, Ascends, balance_of, change_key, turn_key, hit_at}
+use Rattle.cil_recorded.proofs.Common.{◌≡◌, ◌+◌, ℕ, suc, ap, subst, get_or, drop, drop-cons, bit_and, bit_xor, arith, sum_by_more, sum_by_push, Turn, Ascends, balance_of, change_key, turn_key, hit_at}
 use Rattle.cil_recorded.proofs.LogLemmas.{hit_nothing}
 use Rattle.cil_recorded.proofs.TurnLemmas.{alone, next, ascends-push, ascends-less, next-push, digits-high, digits-low}
 use Rattle.cil_recorded.specs.declared.recorded_lines.changes.Change.{Change}

@@ -1,5 +1,4 @@
-use Rattle.std.proofs.Common.{sym, subst}
-use Rattle.cil_resolve.proofs.Common.{AreMarked, HaveMarks}
+use Rattle.cil_resolve.proofs.Common.{sym, subst, AreMarked, HaveMarks}
 use Rattle.cil_resolve.proofs.JudgedLemmas.{marks-of}
 use Rattle.cil_resolve.proofs.judged.Judged.of_policy.Goals as goal
 

@@ -1,5 +1,4 @@
-use Rattle.std.proofs.Common.{◌∙◌, ◌∷◌, [], length, true, refl, sym, ap, subst, if◌then◌else◌}
-use Rattle.cil_resolve.proofs.Common.{option_to_list, types, declared_in, declared_as, class_as, first_true, seen-kind, there-at, form-set, is_name_below, is_class_below, is_set_below, is_rule_below, numbered_id, is_numbered, AreRules, IsIn, modules_of, type_if, attribute_if, class_if, set_if, rule_if, declared_of, class_of, set_of}
+use Rattle.cil_resolve.proofs.Common.{◌∙◌, ◌∷◌, [], length, true, refl, sym, ap, subst, if◌then◌else◌, option_to_list, types, declared_in, declared_as, class_as, first_true, seen-kind, there-at, form-set, is_name_below, is_class_below, is_set_below, is_rule_below, numbered_id, is_numbered, AreRules, IsIn, modules_of, type_if, attribute_if, class_if, set_if, rule_if, declared_of, class_of, set_of}
 use Rattle.cil_parse.specs.declared.row.StatementKind.TheVariants as kinds
 use Rattle.cil_resolve.specs.Numbers.{rule_of}
 use Rattle.cil_resolve.proofs.ElementLemmas.{type-form}

@@ -1,5 +1,5 @@
-use Rattle.std.proofs.Common.{◌≡◌, ℕ, List, take, fold, slice_get, Some, IsTrue}
-use Rattle.cil_resolve.proofs.Common.{Placed, with_name, texts, own_permissions, kind_of, lists_own, IsLowering, AreNumbersIn}
+use Rattle.cil_resolve.proofs.Common.{◌≡◌, ℕ, List, take, fold, Some, IsTrue, Placed, with_name, texts, own_permissions, kind_of, lists_own, IsLowering, AreNumbersIn}
+use Rattle.std.proofs.Common.{slice_get}
 use Rattle.cil_resolve.proofs.lowering.Lowering.add_listed.Given as goal
 
 abbrev pub invariant-loop-word : goal.invariant-loop-word

@@ -1,5 +1,5 @@
-use Rattle.std.proofs.Common.{◌∙◌, Some, get_or, slice_get, sym, ap, subst}
-use Rattle.cil_resolve.proofs.Common.{types, leads, references, seen-lead, IsLead}
+use Rattle.cil_resolve.proofs.Common.{◌∙◌, Some, get_or, sym, ap, subst, types, leads, references, seen-lead, IsLead}
+use Rattle.std.proofs.Common.{slice_get}
 use Rattle.cil_resolve.proofs.LoweringLemmas.{attribute-led}
 use Rattle.cil_resolve.proofs.lowering.Lowering.attribute.Goals as goal
 

@@ -1,5 +1,4 @@
-use Rattle.std.proofs.Common.{ap}
-use Rattle.cil_resolve.proofs.Common.{is_numbered, modules_of}
+use Rattle.cil_resolve.proofs.Common.{ap, is_numbered, modules_of}
 use Rattle.cil_resolve.proofs.PartLemmas.{class-form, class-made}
 use Rattle.cil_resolve.proofs.lowering.Lowering.class_at.Goals as goal
 

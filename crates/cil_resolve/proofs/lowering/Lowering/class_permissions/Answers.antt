@@ -1,5 +1,4 @@
-use Rattle.std.proofs.Common.{◌≡◌, ◌∙◌, [], Some, fold, map, sym, ap, subst}
-use Rattle.cil_resolve.proofs.Common.{fold-append, commons, with_name, distinct, texts, own_permissions, listed_by, permissions_of, kind_of, lists_own, common_of, AreNumbersIn}
+use Rattle.cil_resolve.proofs.Common.{◌≡◌, ◌∙◌, [], Some, fold, map, sym, ap, subst, fold-append, commons, with_name, distinct, texts, own_permissions, listed_by, permissions_of, kind_of, lists_own, common_of, AreNumbersIn}
 use Rattle.cil_resolve.proofs.CommonLemmas.{class-permissions, common-lists}
 use Rattle.cil_resolve.proofs.LoweringLemmas.{found-some, no-found}
 use Rattle.cil_resolve.proofs.ElementLemmas.{first-declares}

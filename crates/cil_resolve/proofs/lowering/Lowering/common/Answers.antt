@@ -1,5 +1,4 @@
-use Rattle.std.proofs.Common.{◌∙◌, sym, subst}
-use Rattle.cil_resolve.proofs.Common.{commons, IsLead, once-first, common_of}
+use Rattle.cil_resolve.proofs.Common.{◌∙◌, sym, subst, commons, IsLead, once-first, common_of}
 use Rattle.cil_bind.proofs.LookupLemmas.{no-lead}
 use Rattle.cil_resolve.proofs.CommonLemmas.{no-common, common-at}
 use Rattle.cil_resolve.proofs.lowering.Lowering.common.Goals as goal

@@ -1,5 +1,4 @@
-use Rattle.std.proofs.Common.{◌∙◌, get_or, sym, ap, subst}
-use Rattle.cil_resolve.proofs.Common.{types, leads, references, seen-lead, IsLead, IsElement}
+use Rattle.cil_resolve.proofs.Common.{◌∙◌, get_or, sym, ap, subst, types, leads, references, seen-lead, IsLead, IsElement}
 use Rattle.cil_specs.specs.Rule.{element_of}
 use Rattle.cil_expression.specs.declared.expression.Element.TheVariants as elements
 use Rattle.cil_resolve.proofs.LoweringLemmas.{element-led}

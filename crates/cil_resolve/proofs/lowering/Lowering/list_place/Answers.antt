@@ -1,5 +1,4 @@
-use Rattle.std.proofs.Common.{◌<◌, ◌∙◌, [], length, get_or, arith, rules, ap, sym}
-use Rattle.cil_resolve.proofs.Common.{get_or-map, texts, permissions_in, permission_lists_of, is-there, from-within, is-long, row-there, form-there}
+use Rattle.cil_resolve.proofs.Common.{◌<◌, ◌∙◌, [], length, get_or, arith, rules, ap, sym, get_or-map, texts, permissions_in, permission_lists_of, is-there, from-within, is-long, row-there, form-there}
 use Rattle.cil_resolve.proofs.lowering.Lowering.list_place.Goals as goal
 
 pub index-row-requires : goal.index-row-requires

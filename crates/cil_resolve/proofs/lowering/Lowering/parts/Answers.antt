@@ -1,5 +1,4 @@
-use Rattle.std.proofs.Common.{◌≤◌, ◌∙◌, rules, length, take, sym, subst, arith}
-use Rattle.cil_resolve.proofs.Common.{take_all, none-some, there-at, ArePartsOf, modules_of}
+use Rattle.cil_resolve.proofs.Common.{◌≤◌, ◌∙◌, rules, length, take, sym, subst, arith, take_all, none-some, there-at, ArePartsOf, modules_of}
 use Rattle.cil_resolve.proofs.StatementLemmas.{take-one}
 use Rattle.cil_resolve.proofs.lowering.Lowering.parts.Goals as goal
 

@@ -1,5 +1,4 @@
-use Rattle.std.proofs.Common.{List, take}
-use Rattle.cil_resolve.proofs.Common.{Placed, KnowNumbers, IsLowering, ArePartsOf, modules_of}
+use Rattle.cil_resolve.proofs.Common.{List, take, Placed, KnowNumbers, IsLowering, ArePartsOf, modules_of}
 use Rattle.cil_resolve.proofs.lowering.Lowering.parts.Given as goal
 
 abbrev pub invariant-loop-i : goal.invariant-loop-i

@@ -1,5 +1,4 @@
-use Rattle.std.proofs.Common.{◌≡◌, ◌+◌, ◌∙◌, ◌++◌, ◌∷◌, [], map, take, Some, sym, ap, subst, arith}
-use Rattle.cil_resolve.proofs.Common.{take_all, has_name, texts, read, permissions_in, texts_of, no_word, word-read, as-many, one-name-at, AreNumbersIn, listed_names}
+use Rattle.cil_resolve.proofs.Common.{◌≡◌, ◌+◌, ◌∙◌, ◌++◌, ◌∷◌, [], map, take, Some, sym, ap, subst, arith, take_all, has_name, texts, read, permissions_in, texts_of, no_word, word-read, as-many, one-name-at, AreNumbersIn, listed_names}
 use Rattle.cil_resolve.proofs.NumberLemmas.{numbers-push, text-passes}
 use Rattle.cil_resolve.proofs.StatementLemmas.{map-one}
 use Rattle.cil_resolve.proofs.lowering.Lowering.permissions.Goals as goal

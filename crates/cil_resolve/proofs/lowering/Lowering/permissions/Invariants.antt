@@ -1,5 +1,4 @@
-use Rattle.std.proofs.Common.{List, take, IsTrue}
-use Rattle.cil_resolve.proofs.Common.{list_all, Placed, has_name, texts, permissions_in, IsIn, AreNumbersIn, listed_names}
+use Rattle.cil_resolve.proofs.Common.{List, take, IsTrue, list_all, Placed, has_name, texts, permissions_in, IsIn, AreNumbersIn, listed_names}
 use Rattle.cil_resolve.proofs.lowering.Lowering.permissions.Given as goal
 
 abbrev pub invariant-loop-word : goal.invariant-loop-word

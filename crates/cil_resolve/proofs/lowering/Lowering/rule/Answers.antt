@@ -1,5 +1,5 @@
-use Rattle.std.proofs.Common.{◌≡◌, ◌∙◌, ◌∷◌, [], Some, slice_get, Contains, sym, ap, subst, length, true}
-use Rattle.cil_resolve.proofs.Common.{list_all, classes, references, named_permissions, has_name, texts, element_words, at_element, itself, the_named, contains-first, contains-other, rule_kind_of, kind_of, rule_kind, permissions_in, seen-kind, seen-lead, is_target_below, AreRules, modules_of, AreNumbersIn, listed_names, resolved_target_of}
+use Rattle.cil_resolve.proofs.Common.{◌≡◌, ◌∙◌, ◌∷◌, [], Some, Contains, sym, ap, subst, length, true, list_all, classes, references, named_permissions, has_name, texts, element_words, at_element, itself, the_named, contains-first, contains-other, rule_kind_of, kind_of, rule_kind, permissions_in, seen-kind, seen-lead, is_target_below, AreRules, modules_of, AreNumbersIn, listed_names, resolved_target_of}
+use Rattle.std.proofs.Common.{slice_get}
 use Rattle.cil_specs.specs.Rule as spec
 use Rattle.cil_resolve.specs.declared.numbered.NumberedRule.{NumberedRule}
 use Rattle.cil_resolve.proofs.FaultlessLemmas.{word-found}

@@ -1,5 +1,4 @@
-use Rattle.std.proofs.Common.{◌∙◌, ◌∷◌, [], sym, subst}
-use Rattle.cil_resolve.proofs.Common.{set_statement_of, AreSets, modules_of, NumberedSet}
+use Rattle.cil_resolve.proofs.Common.{◌∙◌, ◌∷◌, [], sym, subst, set_statement_of, AreSets, modules_of, NumberedSet}
 use Rattle.cil_resolve.proofs.SetLemmas.{set-made}
 use Rattle.cil_resolve.proofs.lowering.Lowering.set.Goals as goal
 

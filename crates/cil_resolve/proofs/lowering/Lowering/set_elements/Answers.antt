@@ -1,5 +1,4 @@
-use Rattle.std.proofs.Common.{◌≡◌, ◌≤◌, ◌<◌, ◌+◌, suc, ◌++◌, ◌∷◌, [], length, map, take, sym, ap, subst, arith}
-use Rattle.cil_resolve.proofs.Common.{take_all, leaves, words_in, shown-long, word-there, AreElements}
+use Rattle.cil_resolve.proofs.Common.{◌≡◌, ◌≤◌, ◌<◌, ◌+◌, suc, ◌++◌, ◌∷◌, [], length, map, take, sym, ap, subst, arith, take_all, leaves, words_in, shown-long, word-there, AreElements}
 use Rattle.cil_specs.specs.Rule.{element_of}
 use Rattle.cil_resolve.proofs.SetLemmas.{elements-push, leaf-refers}
 use Rattle.cil_resolve.proofs.StatementLemmas.{map-one}

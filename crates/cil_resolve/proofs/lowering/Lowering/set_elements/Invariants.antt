@@ -1,5 +1,4 @@
-use Rattle.std.proofs.Common.{◌≡◌, List, map, take}
-use Rattle.cil_resolve.proofs.Common.{Word, WordExpr, leaves, Placed, attribute_set, IsIn, AreElements}
+use Rattle.cil_resolve.proofs.Common.{◌≡◌, List, map, take, Word, WordExpr, leaves, Placed, attribute_set, IsIn, AreElements}
 use Rattle.cil_specs.specs.Rule.{element_of}
 use Rattle.cil_resolve.proofs.lowering.Lowering.set_elements.Given as goal
 

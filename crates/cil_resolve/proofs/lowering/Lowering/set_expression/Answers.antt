@@ -1,5 +1,5 @@
-use Rattle.std.proofs.Common.{◌≡◌, ◌∙◌, Some, slice_get, refl, sym, ap}
-use Rattle.cil_resolve.proofs.Common.{leaves, named, nothing, elements, nodes_in}
+use Rattle.cil_resolve.proofs.Common.{◌≡◌, ◌∙◌, Some, refl, sym, ap, leaves, named, nothing, elements, nodes_in}
+use Rattle.std.proofs.Common.{slice_get}
 use Rattle.cil_specs.specs.Rule.{element_of}
 use Rattle.cil_resolve.proofs.OneNameLemmas.{name-alone, name-listed, one-made}
 use Rattle.cil_resolve.proofs.SetLemmas.{expression-spelt, expression-made, leaf-refers}

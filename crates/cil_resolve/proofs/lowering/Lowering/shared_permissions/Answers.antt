@@ -1,5 +1,4 @@
-use Rattle.std.proofs.Common.{◌≡◌, ◌∙◌, sym, subst}
-use Rattle.cil_resolve.proofs.Common.{IfOk-weaker, texts, permissions_in, HaveNumbers, list_at, AreNumbersIn}
+use Rattle.cil_resolve.proofs.Common.{◌≡◌, ◌∙◌, sym, subst, IfOk-weaker, texts, permissions_in, HaveNumbers, list_at, AreNumbersIn}
 use Rattle.cil_resolve.proofs.KnownLemmas.{know-more}
 use Rattle.cil_resolve.proofs.lowering.Lowering.shared_permissions.Goals as goal
 

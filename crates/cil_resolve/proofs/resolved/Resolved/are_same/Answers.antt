@@ -1,5 +1,4 @@
-use Rattle.std.proofs.Common.{rules, ◌≡◌, ◌==◌, ◌&&◌, ◌∙◌, bytes_eq, sym}
-use Rattle.cil_resolve.proofs.Common.{expr_in, element_of, same_element}
+use Rattle.cil_resolve.proofs.Common.{rules, ◌≡◌, ◌==◌, ◌&&◌, ◌∙◌, bytes_eq, sym, expr_in, element_of, same_element}
 use Rattle.cil_resolve.proofs.SameLemmas.{same-led-on}
 use Rattle.cil_resolve.proofs.resolved.Resolved.are_same.Goals as goal
 

@@ -1,5 +1,4 @@
-use Rattle.std.proofs.Common.{◌∙◌, None, Some, option_map, ap, sym}
-use Rattle.cil_resolve.proofs.Common.{is_in, meaning_in}
+use Rattle.cil_resolve.proofs.Common.{◌∙◌, None, Some, option_map, ap, sym, is_in, meaning_in}
 use Rattle.cil_resolve.specs.Sets.{name_in}
 use Rattle.cil_resolve.proofs.EvaluateLemmas.{value-at, evaluated, answers-told, set-at, set-there, no-set-at}
 use Rattle.cil_resolve.proofs.resolved.Resolved.evaluate.Goals as goal

@@ -1,5 +1,4 @@
-use Rattle.std.proofs.Common.{◌∙◌, false, None, Some, option_map, ap, sym}
-use Rattle.cil_resolve.proofs.Common.{expr_in, element_of}
+use Rattle.cil_resolve.proofs.Common.{◌∙◌, false, None, Some, option_map, ap, sym, expr_in, element_of}
 use Rattle.cil_expression.specs.Holds.{holds_by}
 use Rattle.cil_expression.proofs.HoldsLemmas.{holds-mapped}
 use Rattle.cil_resolve.proofs.EvaluateLemmas.{set-at, set-there, no-set-at}

@@ -1,5 +1,4 @@
-use Rattle.std.proofs.Common.{rules, of_calls, ◌≡◌, sym, subst, true}
-use Rattle.cil_resolve.proofs.Common.{is_lt, name_cmp, names_rise}
+use Rattle.cil_resolve.proofs.Common.{rules, of_calls, ◌≡◌, sym, subst, true, is_lt, name_cmp, names_rise}
 use Rattle.std.proofs.lemmas.Fn.{always_returns_same}
 use Rattle.cil_resolve.proofs.NumberOf.{is-place}
 use Rattle.cil_resolve.proofs.resolved.Resolved.place.Goals as goal

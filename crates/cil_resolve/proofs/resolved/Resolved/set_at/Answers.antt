@@ -1,5 +1,4 @@
-use Rattle.std.proofs.Common.{◌≡◌, ◌∙◌, length, Some, option_map, sym, ap}
-use Rattle.cil_resolve.proofs.Common.{length-map, slice_get-map, leaves, leaves-mapped, place_of, expr_in, element_of, set_of, sets_at}
+use Rattle.cil_resolve.proofs.Common.{◌≡◌, ◌∙◌, length, Some, option_map, sym, ap, length-map, slice_get-map, leaves, leaves-mapped, place_of, expr_in, element_of, set_of, sets_at}
 use Rattle.cil_resolve.specs.Views.{set_head}
 use Rattle.cil_resolve.proofs.resolved.Resolved.set_at.Goals as goal
 

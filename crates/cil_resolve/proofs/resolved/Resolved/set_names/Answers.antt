@@ -1,5 +1,4 @@
-use Rattle.std.proofs.Common.{◌∙◌, length, map, None, Some, option_map, ap, sym}
-use Rattle.cil_resolve.proofs.Common.{list_all, leaves, leaves-mapped, expr_in, is_element_below, element_of}
+use Rattle.cil_resolve.proofs.Common.{◌∙◌, length, map, None, Some, option_map, ap, sym, list_all, leaves, leaves-mapped, expr_in, is_element_below, element_of}
 use Rattle.cil_resolve.proofs.EvaluateLemmas.{set-at, set-there, no-set-at, names-below}
 use Rattle.cil_resolve.proofs.resolved.Resolved.set_names.Goals as goal
 

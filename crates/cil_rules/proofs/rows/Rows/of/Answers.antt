@@ -1,5 +1,4 @@
-use Rattle.std.proofs.Common.{◌≡◌, ◌∙◌, ◌++◌, ◌∷◌, [], length, map, cond, ap, sym, append_assoc}
-use Rattle.cil_rules.proofs.Common.{is_listed, rule_kind_of, IsWithin, atom_at, rows_of, row_at, numbered_row, row_by}
+use Rattle.cil_rules.proofs.Common.{◌≡◌, ◌∙◌, ◌++◌, ◌∷◌, [], length, map, cond, ap, sym, append_assoc, is_listed, rule_kind_of, IsWithin, atom_at, rows_of, row_at, numbered_row, row_by}
 use Rattle.cil_rules.proofs.GroupLemmas.{row-all, later-all, first-all, rows-parts}
 use Rattle.cil_rules.proofs.NumberedRowLemmas.{row_by-push, numbered-push}
 use Rattle.cil_accesses.specs.Rows.{accesses_in}

@@ -1,5 +1,4 @@
-use Rattle.std.proofs.Common.{◌≡◌, ◌++◌, length, map}
-use Rattle.cil_rules.proofs.Common.{All, IsWithin, atom_at, rows_of, row_by, AreNumberedRows}
+use Rattle.cil_rules.proofs.Common.{◌≡◌, ◌++◌, length, map, All, IsWithin, atom_at, rows_of, row_by, AreNumberedRows}
 use Rattle.cil_rules.proofs.rows.Rows.of.Given as goal
 
 abbrev pub invariant-loop-row : goal.invariant-loop-row

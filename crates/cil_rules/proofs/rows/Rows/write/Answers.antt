@@ -1,5 +1,4 @@
-use Rattle.std.proofs.Common.{◌∙◌, subst}
-use Rattle.cil_rules.proofs.Common.{flat_map, row_line, Gains, GainsFront, on_err, row_by, line_by}
+use Rattle.cil_rules.proofs.Common.{◌∙◌, subst, flat_map, row_line, Gains, GainsFront, on_err, row_by, line_by}
 use Rattle.cil_rules.proofs.ListingLemmas.{mapped-text}
 use Rattle.cil_rules.proofs.rows.Rows.write.Goals as goal
 

@@ -1,5 +1,4 @@
-use Rattle.std.proofs.Common.{◌≡◌, ◌∙◌, map, sym, subst}
-use Rattle.cil_rules.proofs.Common.{IfOk-weaker, AreAtoms, AreRows, atom_at, rows_of}
+use Rattle.cil_rules.proofs.Common.{◌≡◌, ◌∙◌, map, sym, subst, IfOk-weaker, AreAtoms, AreRows, atom_at, rows_of}
 use Rattle.cil_rules.proofs.RowLemmas.{are-rows}
 use Rattle.cil_rules.proofs.table.Table.rows.Goals as goal
 

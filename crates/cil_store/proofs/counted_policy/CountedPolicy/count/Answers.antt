@@ -1,5 +1,4 @@
-use Rattle.std.proofs.Common.{◌≡◌, ◌∙◌, ap, arith, length}
-use Rattle.cil_store.proofs.Common.{rc_value, count_with, meaning_in, count_of, gives}
+use Rattle.cil_store.proofs.Common.{◌≡◌, ◌∙◌, ap, arith, length, rc_value, count_with, meaning_in, count_of, gives}
 use Rattle.std.proofs.lemmas.List.Sums.{count_by-le-length}
 use Rattle.cil_rules.specs.Atoms.{atom_of}
 use Rattle.cil_store.proofs.counted_policy.CountedPolicy.count.Goals as goal

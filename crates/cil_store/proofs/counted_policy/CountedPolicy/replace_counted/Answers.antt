@@ -1,5 +1,4 @@
-use Rattle.std.proofs.Common.{subst}
-use Rattle.cil_store.proofs.Common.{rc_value, CountsSome, IsNow, WasBefore, meaning_in, AreCountedChanges}
+use Rattle.cil_store.proofs.Common.{subst, rc_value, CountsSome, IsNow, WasBefore, meaning_in, AreCountedChanges}
 use Rattle.cil_store.proofs.CountedPolicyLemmas.{kept-back}
 use Rattle.cil_store.proofs.counted_policy.CountedPolicy.replace_counted.Goals as goal
 

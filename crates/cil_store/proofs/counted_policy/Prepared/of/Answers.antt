@@ -1,5 +1,4 @@
-use Rattle.std.proofs.Common.{◌∙◌, map, ap, sym, subst}
-use Rattle.cil_store.proofs.Common.{err_from_is_err_and, meaning_in, AreTaken, IsMeaningOf, Store, empty, edit_of, refusal_of, AreRefused}
+use Rattle.cil_store.proofs.Common.{◌∙◌, map, ap, sym, subst, err_from_is_err_and, meaning_in, AreTaken, IsMeaningOf, Store, empty, edit_of, refusal_of, AreRefused}
 use Rattle.cil_store.proofs.counted_policy.Prepared.of.Goals as goal
 
 pub returns-in_err-judged-clause-err : goal.returns-in_err-judged-clause-err

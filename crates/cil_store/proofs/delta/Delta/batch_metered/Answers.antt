@@ -1,5 +1,4 @@
-use Rattle.std.proofs.Common.{map, refl, sym, subst}
-use Rattle.cil_store.proofs.Common.{rc_value, err_from_is_err_and, meaning_in, IsMeaningOf, Step, a_batch, changed_by, out_of_memory, Store, edit_of, refusal_of}
+use Rattle.cil_store.proofs.Common.{map, refl, sym, subst, rc_value, err_from_is_err_and, meaning_in, IsMeaningOf, Step, a_batch, changed_by, out_of_memory, Store, edit_of, refusal_of}
 use Rattle.cil_store.proofs.StepLemmas.{made-step, refused-step}
 use Rattle.cil_store.proofs.delta.Delta.batch_metered.Goals as goal
 

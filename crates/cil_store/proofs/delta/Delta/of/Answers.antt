@@ -1,5 +1,4 @@
-use Rattle.std.proofs.Common.{refl, sym, subst}
-use Rattle.cil_store.proofs.Common.{err_from_is_err_and, rc_value, meaning_in, IsMeaningOf, all_good, Store}
+use Rattle.cil_store.proofs.Common.{refl, sym, subst, err_from_is_err_and, rc_value, meaning_in, IsMeaningOf, all_good, Store}
 use Rattle.cil_store.proofs.delta.Delta.of.Goals as goal
 
 pub returns-in_err-prepared-clause-err : goal.returns-in_err-prepared-clause-err

@@ -1,5 +1,4 @@
-use Rattle.std.proofs.Common.{map, sym, subst}
-use Rattle.cil_store.proofs.Common.{err_from_is_err_and, meaning_in, AreTaken, IsMeaningOf, Store, meaning_kept, edit_of, refusal_of, IsRefusedBatch}
+use Rattle.cil_store.proofs.Common.{map, sym, subst, err_from_is_err_and, meaning_in, AreTaken, IsMeaningOf, Store, meaning_kept, edit_of, refusal_of, IsRefusedBatch}
 use Rattle.cil_store.proofs.delta.Delta.prepare.Goals as goal
 
 pub returns-in_err-judged-clause-err : goal.returns-in_err-judged-clause-err

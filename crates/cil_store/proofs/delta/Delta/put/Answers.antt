@@ -1,5 +1,4 @@
-use Rattle.std.proofs.Common.{subst, sym}
-use Rattle.cil_store.proofs.Common.{counted_meaning, IsMeaningOf}
+use Rattle.cil_store.proofs.Common.{subst, sym, counted_meaning, IsMeaningOf}
 use Rattle.cil_store.proofs.delta.Delta.put.Goals as goal
 
 pub invariant_of-self : goal.invariant_of-self

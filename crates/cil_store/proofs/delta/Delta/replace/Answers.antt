@@ -1,5 +1,4 @@
-use Rattle.std.proofs.Common.{sym, subst, IfOk}
-use Rattle.cil_store.proofs.Common.{rc_value, meaning_in, IsMeaningOf, Store, counted_meaning, AreCountedBetween, AreCountedChanges}
+use Rattle.cil_store.proofs.Common.{sym, subst, IfOk, rc_value, meaning_in, IsMeaningOf, Store, counted_meaning, AreCountedBetween, AreCountedChanges}
 use Rattle.cil_store.proofs.CountedPolicyLemmas.{means-after, told-after}
 use Rattle.cil_store.proofs.delta.Delta.replace.Goals as goal
 

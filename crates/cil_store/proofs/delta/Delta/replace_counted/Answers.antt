@@ -1,5 +1,4 @@
-use Rattle.std.proofs.Common.{◌≡◌, ◌∙◌, [], refl, sym, subst, IfOk, None, Ok, Some}
-use Rattle.cil_store.proofs.Common.{rc_value, CountsSome, meaning_in, meaning_of, IsMeaningOf, Store, counted_meaning, meaning_kept, AreCountedBetween, AreCountedChanges}
+use Rattle.cil_store.proofs.Common.{◌≡◌, ◌∙◌, [], refl, sym, subst, IfOk, None, Ok, Some, rc_value, CountsSome, meaning_in, meaning_of, IsMeaningOf, Store, counted_meaning, meaning_kept, AreCountedBetween, AreCountedChanges}
 use Rattle.cil_store.proofs.CountedPolicyLemmas.{means-after, told-counted}
 use Rattle.cil_store.proofs.delta.Delta.replace_counted.Goals as goal
 

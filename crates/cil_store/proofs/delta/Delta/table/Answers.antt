@@ -1,5 +1,4 @@
-use Rattle.std.proofs.Common.{[], sym, subst, IfOk}
-use Rattle.cil_store.proofs.Common.{is_in_table, AreAtoms, listed, meaning_kept, IsCountedTo}
+use Rattle.cil_store.proofs.Common.{[], sym, subst, IfOk, is_in_table, AreAtoms, listed, meaning_kept, IsCountedTo}
 use Rattle.cil_store.proofs.CountedPolicyLemmas.{atoms-of, of-kept, nothing-listed}
 use Rattle.cil_store.proofs.delta.Delta.table.Goals as goal
 

@@ -1,5 +1,4 @@
-use Rattle.std.proofs.Common.{◌≡◌, refl, sym, subst}
-use Rattle.cil_store.proofs.Common.{count_of, meaning_kept, IsCountedTo}
+use Rattle.cil_store.proofs.Common.{◌≡◌, refl, sym, subst, count_of, meaning_kept, IsCountedTo}
 use Rattle.cil_rules.specs.Atoms.{atom_of}
 use Rattle.cil_store.proofs.CountedPolicyLemmas.{of-kept}
 use Rattle.cil_store.proofs.delta.DeltaCompiled.count.Goals as goal

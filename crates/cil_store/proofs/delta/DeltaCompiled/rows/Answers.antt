@@ -1,5 +1,4 @@
-use Rattle.std.proofs.Common.{List, subst}
-use Rattle.cil_store.proofs.Common.{Atom, IsCountedTo}
+use Rattle.cil_store.proofs.Common.{List, subst, Atom, IsCountedTo}
 use Rattle.cil_store.proofs.CountedPolicyLemmas.{rows-of-store}
 use Rattle.cil_store.proofs.delta.DeltaCompiled.rows.Goals as goal
 

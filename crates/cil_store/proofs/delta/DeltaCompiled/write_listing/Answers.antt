@@ -1,5 +1,4 @@
-use Rattle.std.proofs.Common.{subst, arith}
-use Rattle.cil_store.proofs.Common.{is_in_table, gains-none, listed, rows_of, are-rows, rows-listed, meaning_kept, IsCountedTo}
+use Rattle.cil_store.proofs.Common.{subst, arith, is_in_table, gains-none, listed, rows_of, are-rows, rows-listed, meaning_kept, IsCountedTo}
 use Rattle.cil_store_specs.proofs.AllAtoms.{all-atoms}
 use Rattle.cil_store.proofs.delta.DeltaCompiled.write_listing.Goals as goal
 

@@ -1,5 +1,4 @@
-use Rattle.std.proofs.Common.{[], refl, subst}
-use Rattle.cil_store.proofs.Common.{IsCountedTo, gains-none}
+use Rattle.cil_store.proofs.Common.{[], refl, subst, IsCountedTo, gains-none}
 use Rattle.cil_store.proofs.CountedPolicyLemmas.{nothing-violated}
 use Rattle.cil_store.proofs.delta.DeltaCompiled.write_violations.Goals as goal
 

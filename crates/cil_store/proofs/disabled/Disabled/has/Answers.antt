@@ -1,5 +1,4 @@
-use Rattle.std.proofs.Common.{subst, bytes_eq}
-use Rattle.cil_store.proofs.Common.{IsStrictlySortedBy, nat_list_cmp_total, name_cmp}
+use Rattle.cil_store.proofs.Common.{subst, bytes_eq, IsStrictlySortedBy, nat_list_cmp_total, name_cmp}
 use Rattle.cil_store.proofs.EntryLemmas.{tied-other, other-tied, any-is}
 use Rattle.cil_store.proofs.disabled.Disabled.has.Goals as goal
 

@@ -1,5 +1,5 @@
-use Rattle.std.proofs.Common.{◌≡◌, ◌∙◌, sym, subst, ℕ, List, insert}
-use Rattle.cil_store.proofs.Common.{prefix_len, IsStrictlySortedBy, is_lt, nat_list_cmp_total, IsTiedAt, name_cmp, put-ordered}
+use Rattle.cil_store.proofs.Common.{◌≡◌, ◌∙◌, sym, subst, ℕ, List, prefix_len, IsStrictlySortedBy, is_lt, nat_list_cmp_total, IsTiedAt, name_cmp, put-ordered}
+use Rattle.std.proofs.Common.{insert}
 use Rattle.cil_store.proofs.EntryLemmas.{same-put, insert-put, is-not}
 use Rattle.cil_store.proofs.disabled.Disabled.insert.Goals as goal
 

@@ -1,5 +1,4 @@
-use Rattle.std.proofs.Common.{sym, subst}
-use Rattle.cil_store.proofs.Common.{IsStrictlySortedBy, name_cmp}
+use Rattle.cil_store.proofs.Common.{sym, subst, IsStrictlySortedBy, name_cmp}
 use Rattle.cil_store.proofs.disabled.Disabled.new.Goals as goal
 
 pub invariant_of-result : goal.invariant_of-result

@@ -1,5 +1,4 @@
-use Rattle.std.proofs.Common.{ap, rules, of_calls, ◌≡◌, ◌∙◌, sym, subst}
-use Rattle.cil_store.proofs.Common.{prefix_len, IsStrictlySortedBy, is_lt, always_returns_same, name_cmp, nat_list_cmp_total}
+use Rattle.cil_store.proofs.Common.{ap, rules, of_calls, ◌≡◌, ◌∙◌, sym, subst, prefix_len, IsStrictlySortedBy, is_lt, always_returns_same, name_cmp, nat_list_cmp_total}
 use Rattle.cil_store.proofs.EntryLemmas.{place-is}
 use Rattle.cil_store.proofs.disabled.Disabled.place.Goals as goal
 

@@ -1,5 +1,5 @@
-use Rattle.std.proofs.Common.{◌∙◌, ap, sym, subst, remove, bytes_eq, not}
-use Rattle.cil_store.proofs.Common.{IsStrictlySortedBy, IsStrictlySortedBy-filter, nat_list_cmp_total, name_cmp}
+use Rattle.cil_store.proofs.Common.{◌∙◌, ap, sym, subst, bytes_eq, not, IsStrictlySortedBy, IsStrictlySortedBy-filter, nat_list_cmp_total, name_cmp}
+use Rattle.std.proofs.Common.{remove}
 use Rattle.cil_store.proofs.EntryLemmas.{name-tied, tied-name, without-tied, without-absent, is-not}
 use Rattle.cil_store.proofs.disabled.Disabled.remove.Goals as goal
 

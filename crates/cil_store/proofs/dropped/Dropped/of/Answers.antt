@@ -1,5 +1,4 @@
-use Rattle.std.proofs.Common.{List}
-use Rattle.cil_store.proofs.Common.{Declared, meaning_in}
+use Rattle.cil_store.proofs.Common.{List, Declared, meaning_in}
 use Rattle.cil_resolve.specs.Views.{declared_seen}
 use Rattle.cil_store.proofs.DroppedLemmas.{taken-next, next-within, taken-all}
 use Rattle.cil_store.proofs.dropped.Dropped.of.Goals as goal

@@ -1,5 +1,4 @@
-use Rattle.std.proofs.Common.{◌≡◌, ◌∙◌, List, cond, ap, sym, subst, None, Some, refl}
-use Rattle.cil_store.proofs.Common.{slice_get, IsStrictlySortedBy, slice_get_past, slice_get_read, Entry, entry_cmp}
+use Rattle.cil_store.proofs.Common.{◌≡◌, ◌∙◌, List, cond, ap, sym, subst, None, Some, refl, slice_get, IsStrictlySortedBy, slice_get_past, slice_get_read, Entry, entry_cmp}
 use Rattle.cil_store.proofs.FindLemmas.{found-at}
 use Rattle.cil_store.proofs.entries.Entries.first_of.Goals as goal
 

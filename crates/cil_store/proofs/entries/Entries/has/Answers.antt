@@ -1,5 +1,4 @@
-use Rattle.std.proofs.Common.{subst}
-use Rattle.cil_store.proofs.Common.{IsStrictlySortedBy, entry_at, entry_cmp, is_entry, entry_total}
+use Rattle.cil_store.proofs.Common.{subst, IsStrictlySortedBy, entry_at, entry_cmp, is_entry, entry_total}
 use Rattle.cil_store.proofs.EntryLemmas.{entry-tied, tied-entry, any-is}
 use Rattle.cil_store.proofs.entries.Entries.has.Goals as goal
 

@@ -1,5 +1,4 @@
-use Rattle.std.proofs.Common.{◌∙◌, sym}
-use Rattle.cil_store.proofs.Common.{entry_cmp, entry_at}
+use Rattle.cil_store.proofs.Common.{◌∙◌, sym, entry_cmp, entry_at}
 use Rattle.cil_store.proofs.EntryLemmas.{tied-at, entry-tied, tied-entry}
 use Rattle.cil_store.proofs.entries.Entries.has_at.Goals as goal
 

@@ -1,5 +1,4 @@
-use Rattle.std.proofs.Common.{◌∙◌, bytes_eq}
-use Rattle.cil_store.proofs.Common.{Entry, entry_of}
+use Rattle.cil_store.proofs.Common.{◌∙◌, bytes_eq, Entry, entry_of}
 use Rattle.cil_store.proofs.FindLemmas.{found-some}
 use Rattle.cil_store.proofs.entries.Entries.is_installed.Goals as goal
 

@@ -1,5 +1,4 @@
-use Rattle.std.proofs.Common.{ap, rules, of_calls, ◌≡◌, ◌∙◌, sym, subst}
-use Rattle.cil_store.proofs.Common.{prefix_len, IsStrictlySortedBy, is_lt, always_returns_same, name_cmp, Entry, entry_cmp}
+use Rattle.cil_store.proofs.Common.{ap, rules, of_calls, ◌≡◌, ◌∙◌, sym, subst, prefix_len, IsStrictlySortedBy, is_lt, always_returns_same, name_cmp, Entry, entry_cmp}
 use Rattle.cil_store.proofs.FindLemmas.{name-place}
 use Rattle.cil_store.proofs.entries.Entries.name_place.Goals as goal
 

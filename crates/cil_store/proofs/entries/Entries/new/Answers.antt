@@ -1,5 +1,4 @@
-use Rattle.std.proofs.Common.{sym, subst, refl}
-use Rattle.cil_store.proofs.Common.{IsStrictlySortedBy, AreSized}
+use Rattle.cil_store.proofs.Common.{sym, subst, refl, IsStrictlySortedBy, AreSized}
 use Rattle.cil_store.proofs.entries.Entries.new.Goals as goal
 
 pub invariant_of-result : goal.invariant_of-result

@@ -1,5 +1,5 @@
-use Rattle.std.proofs.Common.{◌≡◌, ◌<◌, ◌≤◌, ◌+◌, ◌^◌, ◌∙◌, ap, sym, subst, ℕ, List, insert, slice_set, length, arith}
-use Rattle.cil_store.proofs.Common.{prefix_len, is_lt, IsTiedAt, Entry, entry_at, entry_cmp, put, text_bytes, without, entry_total, AreSized}
+use Rattle.cil_store.proofs.Common.{◌≡◌, ◌<◌, ◌≤◌, ◌+◌, ◌^◌, ◌∙◌, ap, sym, subst, ℕ, List, slice_set, length, arith, prefix_len, is_lt, IsTiedAt, Entry, entry_at, entry_cmp, put, text_bytes, without, entry_total, AreSized}
+use Rattle.std.proofs.Common.{insert}
 use Rattle.cil_store.proofs.EntryLemmas.{set-put, insert-put, is-not}
 use Rattle.cil_store.proofs.SizeLemmas.{put-sized}
 use Rattle.cil_store.proofs.entries.Entries.put.Goals as goal

@@ -1,5 +1,4 @@
-use Rattle.std.proofs.Common.{◌≡◌, ◌∙◌, ap, sym, subst, None, Some}
-use Rattle.cil_store.proofs.Common.{option_map, Entry, Store, active_text, active-first, active-none}
+use Rattle.cil_store.proofs.Common.{◌≡◌, ◌∙◌, ap, sym, subst, None, Some, option_map, Entry, Store, active_text, active-first, active-none}
 use Rattle.cil_store.proofs.modules.Store.active.Goals as goal
 
 pub returns-then-has : goal.returns-then-has

@@ -1,5 +1,4 @@
-use Rattle.std.proofs.Common.{[], ◌<◌, ◌∙◌, ◌&&◌, not, refl, ap, sym, subst, length, slice_index_or}
-use Rattle.cil_store.proofs.Common.{Store, entry_at, is_active, is_first_at}
+use Rattle.cil_store.proofs.Common.{[], ◌<◌, ◌∙◌, ◌&&◌, not, refl, ap, sym, subst, length, slice_index_or, Store, entry_at, is_active, is_first_at}
 use Rattle.cil_store.proofs.StateLemmas.{active-is}
 use Rattle.cil_store.proofs.modules.Store.is_active.Goals as goal
 

@@ -1,5 +1,4 @@
-use Rattle.std.proofs.Common.{sym, subst, ℕ, List, not, bytes_eq}
-use Rattle.cil_store.proofs.Common.{IsStrictlySortedBy, nat_list_cmp_total, IsStrictlySortedBy-filter, name_cmp, Entry, entry_cmp, is_entry, put, put_name, put-ordered, entry_total}
+use Rattle.cil_store.proofs.Common.{sym, subst, ℕ, List, not, bytes_eq, IsStrictlySortedBy, nat_list_cmp_total, IsStrictlySortedBy-filter, name_cmp, Entry, entry_cmp, is_entry, put, put_name, put-ordered, entry_total}
 use Rattle.cil_store.proofs.EntryLemmas.{made-or-not}
 use Rattle.cil_store.proofs.modules.Store.make.Goals as goal
 

@@ -1,5 +1,4 @@
-use Rattle.std.proofs.Common.{[], ◌<◌, ◌∙◌, ap, sym, subst, length, codes, slice_index_or, if◌then◌else◌}
-use Rattle.cil_store.proofs.Common.{Store, entry_at}
+use Rattle.cil_store.proofs.Common.{[], ◌<◌, ◌∙◌, ap, sym, subst, length, codes, slice_index_or, if◌then◌else◌, Store, entry_at}
 use Rattle.cil_store_specs.specs.StoreReport.{state_word}
 use Rattle.cil_store.proofs.StateLemmas.{state-is}
 use Rattle.cil_store.proofs.modules.Store.state.Goals as goal

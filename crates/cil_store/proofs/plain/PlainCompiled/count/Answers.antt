@@ -1,5 +1,4 @@
-use Rattle.std.proofs.Common.{sym, subst}
-use Rattle.cil_store.proofs.Common.{IsMeaningOf, Store}
+use Rattle.cil_store.proofs.Common.{sym, subst, IsMeaningOf, Store}
 use Rattle.cil_store.proofs.plain.PlainCompiled.count.Goals as goal
 
 pub returns : goal.returns

@@ -1,5 +1,4 @@
-use Rattle.std.proofs.Common.{refl}
-use Rattle.cil_store.proofs.Common.{err_from_is_err_and, rc_value, meaning_in, all_good, Store}
+use Rattle.cil_store.proofs.Common.{refl, err_from_is_err_and, rc_value, meaning_in, all_good, Store}
 use Rattle.cil_store.proofs.policy.Policy.of.Goals as goal
 
 pub returns-in_err-prepared-clause-err : goal.returns-in_err-prepared-clause-err

@@ -1,5 +1,4 @@
-use Rattle.std.proofs.Common.{subst, arith}
-use Rattle.cil_store.proofs.Common.{rc_value, meaning_in, is_in_table, gains-none, listed, rows_of, are-rows, rows-listed, IsMeaningOf, Store}
+use Rattle.cil_store.proofs.Common.{subst, arith, rc_value, meaning_in, is_in_table, gains-none, listed, rows_of, are-rows, rows-listed, IsMeaningOf, Store}
 use Rattle.cil_store_specs.proofs.AllAtoms.{all-atoms}
 use Rattle.cil_store.proofs.policy.Policy.write_listing.Goals as goal
 

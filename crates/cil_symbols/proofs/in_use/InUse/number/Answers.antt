@@ -1,6 +1,5 @@
-use Rattle.std.proofs.Common.{◌≡◌, ◌∙◌, ◌<◌, ◌++◌, ◌∷◌, [], ℕ, true, false, length, slice_get, get_or, sym, ap, subst, arith, true≢false}
+use Rattle.cil_symbols.proofs.Common.{◌≡◌, ◌∙◌, ◌<◌, ◌++◌, ◌∷◌, [], ℕ, true, false, length, slice_get, get_or, sym, ap, subst, arith, true≢false, length-append, same_Some, slice_get_within, slice_get-get_or, used_in, IsUsed, get-append, get-last, get-set_same, get-set_other}
 use Rattle.std.proofs.Math.Nat.{le-max_right}
-use Rattle.cil_symbols.proofs.Common.{length-append, same_Some, slice_get_within, slice_get-get_or, used_in, IsUsed, get-append, get-last, get-set_same, get-set_other}
 use Rattle.cil_symbols.proofs.InUseLemmas.{below-within, missing, now-used, still-used, used-all, used-push, with-new}
 use Rattle.cil_symbols.proofs.NameLemmas.{found-name}
 use Rattle.cil_symbols.proofs.in_use.InUse.number.Goals as goal

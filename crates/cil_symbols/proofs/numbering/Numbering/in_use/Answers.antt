@@ -1,5 +1,5 @@
-use Rattle.std.proofs.Common.{◌∙◌, ap, arith, is_some, length, map, option_map, slice_get}
-use Rattle.cil_symbols.proofs.Common.{take_all, slice_get-map, used_in}
+use Rattle.cil_symbols.proofs.Common.{◌∙◌, ap, arith, is_some, length, map, slice_get, take_all, slice_get-map, used_in}
+use Rattle.std.proofs.Common.{option_map}
 use Rattle.cil_symbols.proofs.InUseLemmas.{marks-count}
 use Rattle.cil_symbols.proofs.numbering.Numbering.in_use.Goals as goal
 

@@ -1,5 +1,4 @@
-use Rattle.std.proofs.Common.{◌≡◌, ◌∙◌, [], None, Some, length, get_or, replicate, slice_get, ap, sym, subst, arith}
-use Rattle.cil_symbols.proofs.Common.{length-set, slice_get-get_or, AreInverse}
+use Rattle.cil_symbols.proofs.Common.{◌≡◌, ◌∙◌, [], None, Some, length, get_or, replicate, slice_get, ap, sym, subst, arith, length-set, slice_get-get_or, AreInverse}
 use Rattle.cil_symbols.proofs.InverseLemmas.{inverse-none, inverse-next, inverse-all, only-none}
 use Rattle.cil_symbols.proofs.numbering.Numbering.with_symbols.Goals as goal
 

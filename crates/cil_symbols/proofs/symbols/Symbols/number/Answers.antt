@@ -1,5 +1,4 @@
-use Rattle.std.proofs.Common.{◌∙◌, ap, sym, Some}
-use Rattle.cil_symbols.proofs.Common.{with_name, texts, distinct-texts, found-name, stored-text, with_name-texts}
+use Rattle.cil_symbols.proofs.Common.{◌∙◌, ap, sym, Some, with_name, texts, distinct-texts, found-name, stored-text, with_name-texts}
 use Rattle.cil_symbols.proofs.NameLemmas.{known-name}
 use Rattle.cil_symbols.proofs.symbols.Symbols.number.Goals as goal
 

@@ -1,5 +1,4 @@
-use Rattle.std.proofs.Common.{◌∙◌, ◌<◌, ap, length, set, sym, subst}
-use Rattle.cil_symbols.proofs.Common.{has_name, distinct-texts, texts}
+use Rattle.cil_symbols.proofs.Common.{◌∙◌, ◌<◌, ap, length, set, sym, subst, has_name, distinct-texts, texts}
 use Rattle.cil_symbols.proofs.InUseLemmas.{reused}
 use Rattle.cil_symbols.proofs.symbols.Symbols.reuse.Goals as goal
 

@@ -1,5 +1,4 @@
-use Rattle.std.proofs.Common.{◌==◌, ◌&&◌, slice_index}
-use Rattle.cil_table_updates.proofs.Common.{is_kind, covers_by, lists}
+use Rattle.cil_table_updates.proofs.Common.{◌==◌, ◌&&◌, slice_index, is_kind, covers_by, lists}
 use Rattle.cil_table_updates.proofs.GivenLemmas.{and-first, and-second}
 use Rattle.cil_table_updates.proofs.changed_rows.ChangedRows.rule_stays.Goals as goal
 

@@ -1,5 +1,4 @@
-use Rattle.std.proofs.Common.{◌≡◌, arith, length, sym, subst, true}
-use Rattle.cil_table_updates.proofs.Common.{list_all, is_rule_below, as-many}
+use Rattle.cil_table_updates.proofs.Common.{◌≡◌, arith, length, sym, subst, true, list_all, is_rule_below, as-many}
 use Rattle.cil_table_updates.proofs.PlaceLemmas.{names-apart}
 use Rattle.cil_table_updates.proofs.policy.Policy.of.Goals as goal
 

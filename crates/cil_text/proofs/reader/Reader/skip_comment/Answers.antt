@@ -1,5 +1,4 @@
-use Rattle.std.proofs.Common.{◌+◌, ◌∙◌, List, ℕ, length, refl, ap, length-drop, arith}
-use Rattle.cil_text.proofs.Common.{prefix_len, prefix_len-le-length, is_comment_byte}
+use Rattle.cil_text.proofs.Common.{◌+◌, ◌∙◌, List, ℕ, length, refl, ap, length-drop, arith, prefix_len, prefix_len-le-length, is_comment_byte}
 use Rattle.cil_text.proofs.Reading.{placed-column}
 use Rattle.cil_text.proofs.Going.{goes-comment}
 use Rattle.cil_text.proofs.reader.Reader.skip_comment.Goals as goal

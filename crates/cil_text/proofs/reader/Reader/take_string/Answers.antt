@@ -1,5 +1,4 @@
-use Rattle.std.proofs.Common.{◌≡◌, ◌<◌, ◌+◌, ◌∙◌, List, ℕ, length, get_or, refl, ap, sym, subst, length-drop, rules, arith}
-use Rattle.cil_text.proofs.Common.{prefix_len, is_string_byte, IsStopped, open_lists}
+use Rattle.cil_text.proofs.Common.{◌≡◌, ◌<◌, ◌+◌, ◌∙◌, List, ℕ, length, get_or, refl, ap, sym, subst, length-drop, rules, arith, prefix_len, is_string_byte, IsStopped, open_lists}
 use Rattle.cil_text.proofs.Reading.{placed-column}
 use Rattle.cil_text.proofs.Going.{goes-string, bare-string, open-none}
 use Rattle.cil_text.proofs.reader.Reader.take_string.Goals as goal

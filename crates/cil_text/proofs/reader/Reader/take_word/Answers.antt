@@ -1,5 +1,4 @@
-use Rattle.std.proofs.Common.{◌≡◌, ◌+◌, ◌∙◌, List, ℕ, length, drop, refl, ap, add-zero, length-drop, rules, arith}
-use Rattle.cil_text.proofs.Common.{prefix_len, prefix_len-le-length, is_word_byte}
+use Rattle.cil_text.proofs.Common.{◌≡◌, ◌+◌, ◌∙◌, List, ℕ, length, drop, refl, ap, add-zero, length-drop, rules, arith, prefix_len, prefix_len-le-length, is_word_byte}
 use Rattle.cil_text.proofs.Reading.{placed-column}
 use Rattle.cil_text.proofs.Going.{goes-word}
 use Rattle.cil_text.proofs.reader.Reader.take_word.Goals as goal

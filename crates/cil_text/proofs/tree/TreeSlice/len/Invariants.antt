@@ -1,5 +1,4 @@
-use Rattle.std.proofs.Common.{◌≡◌, ◌+◌}
-use Rattle.cil_text.proofs.Common.{trees_of, tree_count}
+use Rattle.cil_text.proofs.Common.{◌≡◌, ◌+◌, trees_of, tree_count}
 use Rattle.cil_text.proofs.tree.TreeSlice.len.Given as goal
 
 abbrev pub invariant-loop-count : goal.invariant-loop-count

@@ -1,5 +1,4 @@
-use Rattle.std.proofs.Common.{◌≡◌, ◌∙◌, ◌∷◌, ◌-◌, List, length, take, drop, ap, sym}
-use Rattle.cil_text.proofs.Common.{take_min, drop_min, take_rest, a_list, place_of, trees_of, trees_in, Node}
+use Rattle.cil_text.proofs.Common.{◌≡◌, ◌∙◌, ◌∷◌, ◌-◌, List, length, take, drop, ap, sym, take_min, drop_min, take_rest, a_list, place_of, trees_of, trees_in, Node}
 use Rattle.cil_text.proofs.Nodes.{node_split, list_in}
 use Rattle.cil_text.proofs.tree.TreeSlice.split_first.Goals as goal
 

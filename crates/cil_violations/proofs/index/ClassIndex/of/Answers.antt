@@ -1,5 +1,4 @@
-use Rattle.std.proofs.Common.{◌≡◌, ◌∙◌, ◌-◌, ◌+◌, ℕ, Option, None, length, replicate, slice_get, refl, sym, ap, subst, arith}
-use Rattle.cil_violations.proofs.Common.{length-replicate, slice_get_read, IsIndexFrom}
+use Rattle.cil_violations.proofs.Common.{◌≡◌, ◌∙◌, ◌-◌, ◌+◌, ℕ, Option, None, length, replicate, slice_get, refl, sym, ap, subst, arith, length-replicate, slice_get_read, IsIndexFrom}
 use Rattle.cil_violations.specs.declared.index.ClassIndex.{ClassIndex}
 use Rattle.cil_violations.proofs.IndexLemmas.{class-below, empty-index, only-none}
 use Rattle.cil_violations.proofs.index.ClassIndex.of.Goals as goal

@@ -1,5 +1,4 @@
-use Rattle.std.proofs.Common.{◌≡◌, ◌∙◌, ℕ, true, false, Option, sym, arith}
-use Rattle.cil_violations.proofs.Common.{length-set, is_kind}
+use Rattle.cil_violations.proofs.Common.{◌≡◌, ◌∙◌, ℕ, true, false, Option, sym, arith, length-set, is_kind}
 use Rattle.cil_violations.proofs.IndexLemmas.{derived-allow, before-it, first-kept, first-set, next-set}
 use Rattle.cil_violations.proofs.index.ClassIndex.put.Goals as goal
 

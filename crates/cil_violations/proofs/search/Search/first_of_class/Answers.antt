@@ -1,5 +1,4 @@
-use Rattle.std.proofs.Common.{◌≡◌, ◌∙◌, ◌<◌, Some, slice_get, get_or, length, refl, sym, ap, arith}
-use Rattle.cil_violations.proofs.Common.{slice_get_read, rules_in}
+use Rattle.cil_violations.proofs.Common.{◌≡◌, ◌∙◌, ◌<◌, Some, slice_get, get_or, length, refl, sym, ap, arith, slice_get_read, rules_in}
 use Rattle.cil_violations.proofs.IndexLemmas.{first-met}
 use Rattle.cil_violations.proofs.search.Search.first_of_class.Goals as goal
 

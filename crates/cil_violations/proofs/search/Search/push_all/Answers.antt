@@ -1,5 +1,5 @@
-use Rattle.std.proofs.Common.{◌∙◌, ◌-◌, ◌+◌, ◌<◌, ◌++◌, length, flat_map, ap, sym, arith}
-use Rattle.cil_violations.proofs.Common.{length-map, rule_of, hits, tests_of, rules_in, pair_rows}
+use Rattle.cil_violations.proofs.Common.{◌∙◌, ◌-◌, ◌+◌, ◌<◌, ◌++◌, length, ap, sym, arith, length-map, rule_of, hits, tests_of, rules_in, pair_rows}
+use Rattle.std.proofs.Common.{flat_map}
 use Rattle.cil_violations.proofs.HitLemmas.{hits-here, hits-past, done-more, done-same}
 use Rattle.cil_violations.proofs.search.Search.push_all.Goals as goal
 use Rattle.cil_violations.proofs.search.Search.push_all.Goals.{then-is_never+in_ok-push_pairs, else-is_never}

@@ -1,5 +1,5 @@
-use Rattle.std.proofs.Common.{◌∙◌, ◌-◌, ◌<◌, ◌++◌, ◌∷◌, length, flat_map, ap, sym, subst}
-use Rattle.cil_violations.proofs.Common.{is_met, hits, tests_of, rules_in, source_rows}
+use Rattle.cil_violations.proofs.Common.{◌∙◌, ◌-◌, ◌<◌, ◌++◌, ◌∷◌, length, ap, sym, subst, is_met, hits, tests_of, rules_in, source_rows}
+use Rattle.std.proofs.Common.{flat_map}
 use Rattle.cil_violations.proofs.HitLemmas.{hits-here, hits-past, done-more, done-same, done-all}
 use Rattle.cil_violations.proofs.IndexLemmas.{behind, left, left-falls, met-within, next-holds, next-met, pairs-first, pairs-next}
 use Rattle.cil_violations.proofs.search.Search.push_pairs.Goals as goal

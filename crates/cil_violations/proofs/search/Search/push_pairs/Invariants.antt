@@ -1,5 +1,5 @@
-use Rattle.std.proofs.Common.{◌≡◌, ◌++◌, ℕ, Some, true, length, flat_map}
-use Rattle.cil_violations.proofs.Common.{is_met, tests_of, rules_in, source_rows, pair_rows}
+use Rattle.cil_violations.proofs.Common.{◌≡◌, ◌++◌, ℕ, Some, true, length, is_met, tests_of, rules_in, source_rows, pair_rows}
+use Rattle.std.proofs.Common.{flat_map}
 use Rattle.cil_violations.proofs.IndexLemmas.{behind, left}
 use Rattle.cil_violations.proofs.search.Search.push_pairs.Given as goal
 

@@ -1,5 +1,4 @@
-use Rattle.std.proofs.Common.{sym, subst}
-use Rattle.cil_violations.proofs.Common.{IsStrictlySortedBy, nat_cmp, rules_in}
+use Rattle.cil_violations.proofs.Common.{sym, subst, IsStrictlySortedBy, nat_cmp, rules_in}
 use Rattle.cil_violations.proofs.IndexLemmas.{there-at}
 use Rattle.cil_violations.proofs.search.Search.share_permission.Goals as goal
 

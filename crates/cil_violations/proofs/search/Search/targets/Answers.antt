@@ -1,5 +1,4 @@
-use Rattle.std.proofs.Common.{◌≡◌, ◌∙◌, IfOk, length, sym, subst, true}
-use Rattle.cil_violations.proofs.Common.{are_both_held, is_known, symbols_in, hits}
+use Rattle.cil_violations.proofs.Common.{◌≡◌, ◌∙◌, IfOk, length, sym, subst, true, are_both_held, is_known, symbols_in, hits}
 use Rattle.cil_violations.proofs.HeldLemmas.{short}
 use Rattle.cil_violations.proofs.PairLemmas.{aim-known, target-hits}
 use Rattle.cil_violations.proofs.search.Search.targets.Goals as goal

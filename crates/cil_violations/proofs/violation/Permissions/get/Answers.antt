@@ -1,6 +1,5 @@
-use Rattle.std.proofs.Common.{◌≡◌, ◌∙◌, ◌+◌, ◌∷◌, cond, drop, get_or, slice_get, Some, ap, sym}
+use Rattle.cil_violations.proofs.Common.{◌≡◌, ◌∙◌, ◌+◌, ◌∷◌, cond, drop, get_or, slice_get, Some, ap, sym, drop_more, drop_all, slice_get-map, name_in, shared}
 use Rattle.std.specs.Prelude.{option_map}
-use Rattle.cil_violations.proofs.Common.{drop_more, drop_all, slice_get-map, name_in, shared}
 use Rattle.cil_violations.proofs.violation.Permissions.get.Goals as goal
 
 pub returns-then-left-eq0 : goal.returns-then-left-eq0

@@ -1,5 +1,4 @@
-use Rattle.std.proofs.Common.{◌∙◌, subst}
-use Rattle.cil_violations.proofs.Common.{flat_map, Gains, GainsFront, on_err, violation_line, violation_by, line_by}
+use Rattle.cil_violations.proofs.Common.{◌∙◌, subst, flat_map, Gains, GainsFront, on_err, violation_line, violation_by, line_by}
 use Rattle.std.specs.Rc.{rc_value}
 use Rattle.cil_violations.proofs.LineLemmas.{mapped-text}
 use Rattle.cil_violations.proofs.violations.Violations.write.Goals as goal

@@ -1,5 +1,4 @@
-use Rattle.std.proofs.Common.{refl, sym, subst}
-use Rattle.cil_program.proofs.Common.{err_from_is_err_and, edit_of, CanHold, IsOpen, held_edit, Memory}
+use Rattle.cil_program.proofs.Common.{refl, sym, subst, err_from_is_err_and, edit_of, CanHold, IsOpen, held_edit, Memory}
 use Rattle.cil_program.proofs.BatchLemmas.{kept-size, not-added, no-memory, list-after, has-room, added}
 use Rattle.cil_program.proofs.script.batch.Batch.add.Goals as goal
 

@@ -1,5 +1,4 @@
-use Rattle.std.proofs.Common.{◌≡◌, ◌∙◌, refl, sym, subst, arith}
-use Rattle.cil_program.proofs.Common.{err_from_is_err_and, held_bytes, CanHold, IsOpen, held_edit, Memory}
+use Rattle.cil_program.proofs.Common.{◌≡◌, ◌∙◌, refl, sym, subst, arith, err_from_is_err_and, held_bytes, CanHold, IsOpen, held_edit, Memory}
 use Rattle.cil_program.proofs.BatchLemmas.{kept-size, install-size, not-added, no-memory, list-after, has-room, added}
 use Rattle.cil_program.proofs.script.batch.Batch.add_install.Goals as goal
 

@@ -1,5 +1,4 @@
-use Rattle.std.proofs.Common.{subst}
-use Rattle.cil_program.proofs.Common.{edit_of, Adds}
+use Rattle.cil_program.proofs.Common.{subst, edit_of, Adds}
 use Rattle.cil_program.proofs.BatchLemmas.{held-added, held-given_up}
 use Rattle.cil_program.proofs.script.batch.Batch.hold.Goals as goal
 

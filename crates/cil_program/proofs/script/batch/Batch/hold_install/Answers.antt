@@ -1,5 +1,4 @@
-use Rattle.std.proofs.Common.{subst}
-use Rattle.cil_program.proofs.Common.{Edit, install, Adds}
+use Rattle.cil_program.proofs.Common.{subst, Edit, install, Adds}
 use Rattle.cil_program.proofs.BatchLemmas.{short-held, held-added, held-given_up}
 use Rattle.cil_program.proofs.script.batch.Batch.hold_install.Goals as goal
 

@@ -1,5 +1,4 @@
-use Rattle.std.proofs.Common.{◌≡◌, map, take}
-use Rattle.cil_program.proofs.Common.{edit_of, held_edit}
+use Rattle.cil_program.proofs.Common.{◌≡◌, map, take, edit_of, held_edit}
 use Rattle.cil_program.proofs.script.edit_list.EditList.as_edits.Given as goal
 
 abbrev pub invariant-loop-edit : goal.invariant-loop-edit

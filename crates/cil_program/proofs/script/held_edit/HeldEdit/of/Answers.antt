@@ -1,5 +1,4 @@
-use Rattle.std.proofs.Common.{◌≡◌, ◌∙◌, take, ap, sym}
-use Rattle.cil_program.proofs.Common.{install, held_as, edit_of}
+use Rattle.cil_program.proofs.Common.{◌≡◌, ◌∙◌, take, ap, sym, install, held_as, edit_of}
 use Rattle.cil_program.proofs.BatchLemmas.{take-min}
 use Rattle.cil_program.proofs.script.held_edit.HeldEdit.of.Goals as goal
 

@@ -1,5 +1,4 @@
-use Rattle.std.proofs.Common.{◌≡◌, ◌≤◌, ◌∙◌, ◌+◌, ◌-◌, ℕ, List, length, take, drop, ap, sym, length-take, arith}
-use Rattle.cil_program.proofs.Common.{drop-drop, drop-take, Held}
+use Rattle.cil_program.proofs.Common.{◌≡◌, ◌≤◌, ◌∙◌, ◌+◌, ◌-◌, ℕ, List, length, take, drop, ap, sym, length-take, arith, drop-drop, drop-take, Held}
 use Rattle.cil_program.proofs.script.input.Input.advance.Goals as goal
 
 pub returns-clause-bytes : goal.returns-clause-bytes

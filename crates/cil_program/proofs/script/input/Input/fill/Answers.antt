@@ -1,5 +1,4 @@
-use Rattle.std.proofs.Common.{◌≡◌, ◌≤◌, ◌-◌, ◌∙◌, [], length, take, drop, ap, arith}
-use Rattle.cil_program.proofs.Common.{on_err, Held}
+use Rattle.cil_program.proofs.Common.{◌≡◌, ◌≤◌, ◌-◌, ◌∙◌, [], length, take, drop, ap, arith, on_err, Held}
 use Rattle.cil_program.proofs.InputLemmas.{stops-at_once, empty-range}
 use Rattle.cil_program.proofs.script.input.Input.fill.Goals as goal
 

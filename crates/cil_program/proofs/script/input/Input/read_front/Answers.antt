@@ -1,5 +1,4 @@
-use Rattle.std.proofs.Common.{◌∙◌, ◌-◌, List, ℕ, IfOk, subst}
-use Rattle.cil_program.proofs.Common.{has_ended, HasRead, IsWholeText}
+use Rattle.cil_program.proofs.Common.{◌∙◌, ◌-◌, List, ℕ, IfOk, subst, has_ended, HasRead, IsWholeText}
 use Rattle.cil_program.proofs.InputLemmas.{front-then, stops-behind_front}
 use Rattle.cil_program.proofs.script.input.Input.read_front.Goals as goal
 

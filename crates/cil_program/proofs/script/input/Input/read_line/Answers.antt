@@ -1,5 +1,4 @@
-use Rattle.std.proofs.Common.{◌≡◌, ◌++◌, ◌∷◌, ◌∙◌, [], subst, sym, ap, refl, true≢false, length, length-append, rules, arith}
-use Rattle.cil_program.proofs.Common.{HasRead, on_err}
+use Rattle.cil_program.proofs.Common.{◌≡◌, ◌++◌, ◌∷◌, ◌∙◌, [], subst, sym, ap, refl, true≢false, length, length-append, rules, arith, HasRead, on_err}
 use Rattle.cil_program.proofs.InputLemmas.{reads-both, stays-byte, stays-more, stops-then_none}
 use Rattle.cil_program.proofs.script.input.Input.read_line.Goals as goal
 

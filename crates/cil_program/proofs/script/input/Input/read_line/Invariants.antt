@@ -1,5 +1,4 @@
-use Rattle.std.proofs.Common.{◌≤◌, ◌-◌, length, IsTrue}
-use Rattle.cil_program.proofs.Common.{list_all, HasRead, stays}
+use Rattle.cil_program.proofs.Common.{◌≤◌, ◌-◌, length, IsTrue, list_all, HasRead, stays}
 use Rattle.cil_program.proofs.script.input.Input.read_line.Given as goal
 
 abbrev pub invariant-loop-b : goal.invariant-loop-b

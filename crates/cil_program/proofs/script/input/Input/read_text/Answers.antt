@@ -1,5 +1,4 @@
-use Rattle.std.proofs.Common.{List, ℕ, Bool, Result, Ok, Err, IfOk}
-use Rattle.cil_program.proofs.Common.{SourceFault, has_ended}
+use Rattle.cil_program.proofs.Common.{List, ℕ, Bool, Result, Ok, Err, IfOk, SourceFault, has_ended}
 use Rattle.cil_program.proofs.InputLemmas.{text-then, stops-in_text}
 use Rattle.cil_program.proofs.script.input.Input.read_text.Goals as goal
 

@@ -1,5 +1,4 @@
-use Rattle.std.proofs.Common.{◌≤◌, ◌++◌, ℕ, length, take, ap, length-append, rules, arith}
-use Rattle.cil_program.proofs.Common.{length-take-le, on_err}
+use Rattle.cil_program.proofs.Common.{◌≤◌, ◌++◌, ℕ, length, take, ap, length-append, rules, arith, length-take-le, on_err}
 use Rattle.cil_program.proofs.InputLemmas.{reads-on, reads-then_none, stops-then_none}
 use Rattle.cil_program.proofs.script.input.Input.skip_bytes.Goals as goal
 

@@ -1,5 +1,4 @@
-use Rattle.std.proofs.Common.{◌≡◌, ◌≤◌, ◌∙◌, ◌++◌, ◌+◌, ℕ, length, take, ap, append_assoc, append-nil, sym, [], length-append, vec_len, is_ok, if◌then◌else◌, rules, arith}
-use Rattle.cil_program.proofs.Common.{length-take-le, on_err}
+use Rattle.cil_program.proofs.Common.{◌≡◌, ◌≤◌, ◌∙◌, ◌++◌, ◌+◌, ℕ, length, take, ap, append_assoc, append-nil, sym, [], length-append, vec_len, is_ok, if◌then◌else◌, rules, arith, length-take-le, on_err}
 use Rattle.cil_program.proofs.InputLemmas.{reads-none, reads-then_none, reads-on, stops-then_none}
 use Rattle.cil_program.proofs.script.input.Input.take_bytes.Goals as goal
 
