@@ -5,4 +5,3 @@ pub use Rattle.cil_accesses.specs.Renumbered.{IsMoved, IsRenumbered, IsRenumbere
 pub use Rattle.cil_accesses.specs.View.{AreChunks, IsNextBit, NoBitFrom, access_at, accesses_of, at_bit, has_bit, in_run, run_accesses}
 pub use Rattle.std.specs.Int.{bit_at}
 pub use Rattle.std.specs.List.{All, prefix_len}
-pub use Rattle.std.specs.Prelude.{Contains, IfSome, MatchBool, MatchOption, MatchResult, OnOk, Some, [], filter, length, not, slice_get, slice_index, true, ◌*◌, ◌+◌, ◌<◌, ◌^◌, ◌↔◌, ◌≡◌, ◌≤◌, ◌⊎◌}

@@ -1,6 +1,7 @@
 //! An access by numbers.
 
-ghost use Rattle.cil_accesses.specs.Common.{◌≡◌, length, renumbered, IsWithin};
+ghost use Rattle.std.specs.Prelude.{◌≡◌, length};
+ghost use Rattle.cil_accesses.specs.Common.{renumbered, IsWithin};
 
 use cil_text::RuleKind;
 

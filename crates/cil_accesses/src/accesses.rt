@@ -1,6 +1,7 @@
 //! Accesses in order.
 
-ghost use Rattle.cil_accesses.specs.Common.{◌≡◌, ◌<◌, ◌^◌, ◌↔◌, [], Contains, length, slice_get, All, numbers_cmp, IsGiven};
+ghost use Rattle.std.specs.Prelude.{◌≡◌, ◌<◌, ◌^◌, ◌↔◌, [], Contains, length, slice_get};
+ghost use Rattle.cil_accesses.specs.Common.{All, numbers_cmp, IsGiven};
 ghost use Rattle.std.specs.List.Sorted.{IsStrictlySortedBy};
 
 use crate::access::AccessNumbers;

@@ -1,6 +1,7 @@
 //! Accesses to the targets of one word.
 
-ghost use Rattle.cil_accesses.specs.Common.{◌≡◌, ◌<◌, ◌≤◌, ◌^◌, ◌↔◌, MatchOption, chunk_cmp, ones_of, IsAccessOf, of_one_key, taking_up, access_at, has_bit, in_run, IsNextBit, NoBitFrom};
+ghost use Rattle.std.specs.Prelude.{◌≡◌, ◌<◌, ◌≤◌, ◌^◌, ◌↔◌, MatchOption};
+ghost use Rattle.cil_accesses.specs.Common.{chunk_cmp, ones_of, IsAccessOf, of_one_key, taking_up, access_at, has_bit, in_run, IsNextBit, NoBitFrom};
 
 use crate::access::AccessNumbers;
 use cil_text::RuleKind;

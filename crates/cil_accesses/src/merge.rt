@@ -1,6 +1,7 @@
 //! Merges chunks of one key.
 
-ghost use Rattle.cil_accesses.specs.Common.{◌≡◌, of_one_key, taking_up, merged};
+ghost use Rattle.std.specs.Prelude.{◌≡◌};
+ghost use Rattle.cil_accesses.specs.Common.{of_one_key, taking_up, merged};
 
 use crate::chunk::Chunk;
 use std::alloc::Allocator;

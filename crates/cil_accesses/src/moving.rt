@@ -1,6 +1,7 @@
 //! By how much the targets of a chunk move where numbers change.
 
-ghost use Rattle.cil_accesses.specs.Common.{◌≡◌, ◌<◌, ◌+◌, ◌*◌, ◌^◌, ◌↔◌, true, length, slice_index, IfSome, bit_at, IsAccessOf, IsMoved, IsWithin, MovesUp, has_bit};
+ghost use Rattle.std.specs.Prelude.{◌≡◌, ◌<◌, ◌+◌, ◌*◌, ◌^◌, ◌↔◌, true, length, slice_index, IfSome};
+ghost use Rattle.cil_accesses.specs.Common.{bit_at, IsAccessOf, IsMoved, IsWithin, MovesUp, has_bit};
 
 use crate::chunk::Chunk;
 

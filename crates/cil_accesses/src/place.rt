@@ -1,6 +1,7 @@
 //! The access at a place of the order.
 
-ghost use Rattle.cil_accesses.specs.Common.{◌≡◌, ◌+◌, ◌<◌, ◌^◌, Some, filter, length, slice_get, MatchOption, MatchResult, All, accesses_of, has_bit, run_accesses};
+ghost use Rattle.std.specs.Prelude.{◌≡◌, ◌+◌, ◌<◌, ◌^◌, Some, filter, length, slice_get, MatchOption, MatchResult};
+ghost use Rattle.cil_accesses.specs.Common.{All, accesses_of, has_bit, run_accesses};
 
 use crate::access::AccessNumbers;
 use crate::chunk::Chunk;

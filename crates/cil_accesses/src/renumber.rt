@@ -1,6 +1,7 @@
 //! Makes chunks anew where numbers change.
 
-ghost use Rattle.cil_accesses.specs.Common.{◌≡◌, ◌<◌, ◌+◌, ◌*◌, ◌^◌, ◌↔◌, ◌⊎◌, length, IfSome, MatchBool, OnOk, bit_at, All, IsAccessOf, IsGiven, IsTarget, IsWithin, IsRenumbered, IsRenumberedIn, MovesUp};
+ghost use Rattle.std.specs.Prelude.{◌≡◌, ◌<◌, ◌+◌, ◌*◌, ◌^◌, ◌↔◌, ◌⊎◌, length, IfSome, MatchBool, OnOk};
+ghost use Rattle.cil_accesses.specs.Common.{bit_at, All, IsAccessOf, IsGiven, IsTarget, IsWithin, IsRenumbered, IsRenumberedIn, MovesUp};
 
 use crate::chunk::Chunk;
 use crate::chunk_places::ChunkPlaces;

@@ -1,6 +1,7 @@
 //! The rows of accesses: all permissions of one kind, source, target and class.
 
-ghost use Rattle.cil_accesses.specs.Common.{◌≡◌, ◌⊎◌, ◌<◌, ◌≤◌, [], length, not, MatchOption, prefix_len, accesses_of, at_bit, has_bit, AreChunks};
+ghost use Rattle.std.specs.Prelude.{◌≡◌, ◌⊎◌, ◌<◌, ◌≤◌, [], length, not, MatchOption};
+ghost use Rattle.cil_accesses.specs.Common.{prefix_len, accesses_of, at_bit, has_bit, AreChunks};
 ghost use Rattle.cil_accesses.specs.Rows.{at_place, has_class, size_of, HasBitsOf, IsNextClass, IsNextRow, IsPlace};
 
 use crate::access::AccessNumbers;

@@ -1,6 +1,7 @@
 //! Parts chunks into runs: those of one kind, source and word stand together.
 
-ghost use Rattle.cil_accesses.specs.Common.{◌≡◌, ◌≤◌, [], length, MatchOption, prefix_len, in_run};
+ghost use Rattle.std.specs.Prelude.{◌≡◌, ◌≤◌, [], length, MatchOption};
+ghost use Rattle.cil_accesses.specs.Common.{prefix_len, in_run};
 ghost use Rattle.cil_accesses.specs.Groups.{IsFirstGroup};
 
 use crate::chunk::Chunk;

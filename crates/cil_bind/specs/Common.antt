@@ -18,4 +18,3 @@ pub use Rattle.cil_specs.specs.Names.{Word, components}
 pub use Rattle.cil_specs.specs.PolicyFault.{IsFaultOf, twice, twice_words}
 pub use Rattle.cil_specs.specs.Report.{names_rise}
 pub use Rattle.std.specs.List.{IsDistinct, list_all}
-pub use Rattle.std.specs.Prelude.{All, Bool, Contains, IfNone, IfOk, IfSome, IsTrue, List, None, OnErr, OnOk, Some, [], bytes_eq, false, filter, if◌then◌else◌, length, map, not, slice_get, slice_index_or, suc, take, true, ℕ, ◌&&◌, ◌++◌, ◌+◌, ◌<◌, ◌^◌, ◌∷◌, ◌≡◌, ◌≤◌, ◌⊎◌}

@@ -1,6 +1,7 @@
 //! What references are bound to.
 
-ghost use Rattle.cil_bind.specs.Common.{◌≡◌, ◌<◌, ℕ, List, [], length, OnOk, IfOk, Placed, FlatStatement, kind_of, AreNumbersOf, names_of, texts_of, IsShown, Binds, AreBound, kinds_of, most_references, IsRow, AreRows, IsFrom, AreFrom, AreWorded, AsKnown, Remembers, RemembersOf};
+ghost use Rattle.std.specs.Prelude.{◌≡◌, ◌<◌, ℕ, List, [], length, OnOk, IfOk};
+ghost use Rattle.cil_bind.specs.Common.{Placed, FlatStatement, kind_of, AreNumbersOf, names_of, texts_of, IsShown, Binds, AreBound, kinds_of, most_references, IsRow, AreRows, IsFrom, AreFrom, AreWorded, AsKnown, Remembers, RemembersOf};
 ghost use Rattle.cil_bind.specs.Lookup.{namespace_at as namespace_of, Knows};
 
 use crate::joined::Joined;

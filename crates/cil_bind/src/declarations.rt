@@ -1,6 +1,7 @@
 //! Where each name is declared first.
 
-ghost use Rattle.cil_bind.specs.Common.{◌≡◌, ◌<◌, ◌∷◌, ◌^◌, ℕ, List, [], true, false, not, ◌&&◌, length, take, slice_get, IfOk, Some, Placed, Word, twice_words, HaveDeclared, AreRows, AreNumbered, IsOnce, IsTaken, DeclareThat, is_optional_row};
+ghost use Rattle.std.specs.Prelude.{◌≡◌, ◌<◌, ◌∷◌, ◌^◌, ℕ, List, [], true, false, not, ◌&&◌, length, take, slice_get, IfOk, Some};
+ghost use Rattle.cil_bind.specs.Common.{Placed, Word, twice_words, HaveDeclared, AreRows, AreNumbered, IsOnce, IsTaken, DeclareThat, is_optional_row};
 
 use crate::lookup::Key;
 use crate::rows::Row;

@@ -1,6 +1,7 @@
 //! The joined policy: several parsed modules by their names.
 
-ghost use Rattle.cil_bind.specs.Common.{IsTrue, map, bytes_eq, IsDistinct, names_rise};
+ghost use Rattle.std.specs.Prelude.{IsTrue, map, bytes_eq};
+ghost use Rattle.cil_bind.specs.Common.{IsDistinct, names_rise};
 ghost use Rattle.std.specs.List.Sorted.{IsPermutation};
 
 use cil_names::Seed;

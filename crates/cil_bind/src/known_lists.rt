@@ -1,6 +1,7 @@
 //! The lists of permissions that statements have, and those that classes are known to have.
 
-ghost use Rattle.cil_bind.specs.Common.{◌≡◌, ℕ, Bool, true, false, None, Some, slice_index_or, OnOk, Placed, texts, permissions_in, IsFrom};
+ghost use Rattle.std.specs.Prelude.{◌≡◌, ℕ, Bool, true, false, None, Some, slice_index_or, OnOk};
+ghost use Rattle.cil_bind.specs.Common.{Placed, texts, permissions_in, IsFrom};
 ghost use Rattle.cil_bind.specs.KnownLists.{texts_listed, is_number, is_known, AreKnown};
 
 use crate::joined::Joined;

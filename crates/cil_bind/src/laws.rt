@@ -1,6 +1,7 @@
 //! Laws of joined policies. They have no code.
 
-ghost use Rattle.cil_bind.specs.Common.{ℕ, List, map, IsTrue, Optionals, AreApart, IsFirstFault, restricted, twice, IsFaultOf, names_rise, AreSpelt, AreAround, IsFirstAgain, fault_of, IsOnce, Row};
+ghost use Rattle.std.specs.Prelude.{ℕ, List, map, IsTrue};
+ghost use Rattle.cil_bind.specs.Common.{Optionals, AreApart, IsFirstFault, restricted, twice, IsFaultOf, names_rise, AreSpelt, AreAround, IsFirstAgain, fault_of, IsOnce, Row};
 ghost use Rattle.cil_specs.specs.Joined.{Placed, Module, joined as joined_policy};
 ghost use Rattle.cil_specs.specs.ModuleText.{IsModuleText};
 ghost use Rattle.cil_bind.specs.Ordered.{AreOrdered, IsLeast};

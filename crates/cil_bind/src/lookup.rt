@@ -1,6 +1,7 @@
 //! Where names lead, by numbers.
 
-ghost use Rattle.cil_bind.specs.Common.{◌≡◌, ◌<◌, ◌∷◌, ℕ, List, [], Some, None, All, length, slice_index_or, IfSome, IfNone, if◌then◌else◌, Placed, components, word_at, namespace_at, path_of, table_of, Knows, IsLead, AreWithin};
+ghost use Rattle.std.specs.Prelude.{◌≡◌, ◌<◌, ◌∷◌, ℕ, List, [], Some, None, All, length, slice_index_or, IfSome, IfNone, if◌then◌else◌};
+ghost use Rattle.cil_bind.specs.Common.{Placed, components, word_at, namespace_at, path_of, table_of, Knows, IsLead, AreWithin};
 ghost use Rattle.cil_specs.specs.Lookup.{declaration, outward as looked_outward, nearest_block as nearest, inside as looked_inside, from_namespace as looked_from, leads as looked, is_global};
 
 use crate::namespaces::Namespaces;

@@ -1,6 +1,7 @@
 //! What texts led to when they were last looked up.
 
-ghost use Rattle.cil_bind.specs.Common.{◌≡◌, ◌<◌, ◌⊎◌, ℕ, List, [], None, Some, length, IfSome, OnOk, Placed, names_of, texts_of, AsKnown, LeadsTo, Remembers, RemembersNothing};
+ghost use Rattle.std.specs.Prelude.{◌≡◌, ◌<◌, ◌⊎◌, ℕ, List, [], None, Some, length, IfSome, OnOk};
+ghost use Rattle.cil_bind.specs.Common.{Placed, names_of, texts_of, AsKnown, LeadsTo, Remembers, RemembersNothing};
 
 use crate::lookup::Lookup;
 use crate::words::lead;

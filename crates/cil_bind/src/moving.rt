@@ -1,6 +1,7 @@
 //! What references are bound to once statements have dropped.
 
-ghost use Rattle.cil_bind.specs.Common.{◌≡◌, ◌++◌, ◌∷◌, ◌<◌, ◌^◌, ℕ, List, [], true, false, map, length, slice_index_or, OnOk, IfOk, list_all, Placed, references, Optionals, AreApart, is_within, restricted, Knows, IsRow, AreRows, IsFrom, AreFrom, AreWorded, RemembersOf};
+ghost use Rattle.std.specs.Prelude.{◌≡◌, ◌++◌, ◌∷◌, ◌<◌, ◌^◌, ℕ, List, [], true, false, map, length, slice_index_or, OnOk, IfOk};
+ghost use Rattle.cil_bind.specs.Common.{list_all, Placed, references, Optionals, AreApart, is_within, restricted, Knows, IsRow, AreRows, IsFrom, AreFrom, AreWorded, RemembersOf};
 ghost use Rattle.cil_bind.specs.Binding.{AreLeads, AreBound, AreMoved, Binds, kinds_of, places_from, moved_to, has_place as is_placed};
 
 use crate::binding::{bind_row, room};

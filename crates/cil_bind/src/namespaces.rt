@@ -1,6 +1,7 @@
 //! Namespaces by numbers.
 
-ghost use Rattle.cil_bind.specs.Common.{◌≡◌, ◌<◌, ◌++◌, ◌∷◌, ◌⊎◌, [], length, slice_index_or, bytes_eq, Contains, IfOk, OnErr, IfSome, IfNone, List, ℕ, IsDistinct};
+ghost use Rattle.std.specs.Prelude.{◌≡◌, ◌<◌, ◌++◌, ◌∷◌, ◌⊎◌, [], length, slice_index_or, bytes_eq, Contains, IfOk, OnErr, IfSome, IfNone, List, ℕ};
+ghost use Rattle.cil_bind.specs.Common.{IsDistinct};
 ghost use Rattle.cil_bind.specs.Namespaces.{Opens};
 
 use indexmap::IndexSet;

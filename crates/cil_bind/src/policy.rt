@@ -1,6 +1,7 @@
 //! A joined policy whose references are bound.
 
-ghost use Rattle.cil_bind.specs.Common.{◌≡◌, ◌<◌, ◌^◌, ℕ, IfOk, OnOk, List, false, filter, bytes_eq, length, slice_index_or, IsDistinct, list_all, places_from, AreSpelt, AreFrom, AreAround, StandsFor, HaveDeclared, DeclareThat, IsOnce, Makes, IsBoundTo, AreMarked, TellsAround, AreWorded, Optionals, AreApart, restricted};
+ghost use Rattle.std.specs.Prelude.{◌≡◌, ◌<◌, ◌^◌, ℕ, IfOk, OnOk, List, false, filter, bytes_eq, length, slice_index_or};
+ghost use Rattle.cil_bind.specs.Common.{IsDistinct, list_all, places_from, AreSpelt, AreFrom, AreAround, StandsFor, HaveDeclared, DeclareThat, IsOnce, Makes, IsBoundTo, AreMarked, TellsAround, AreWorded, Optionals, AreApart, restricted};
 ghost use Rattle.cil_specs.specs.Joined.{Placed, Module, joined as joined_policy};
 
 use crate::binding::bind;

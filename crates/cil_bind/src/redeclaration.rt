@@ -1,6 +1,7 @@
 //! Names that are declared again.
 
-ghost use Rattle.cil_bind.specs.Common.{◌≡◌, Some, Word, Placed, declared_in, IsFrom, IsTold};
+ghost use Rattle.std.specs.Prelude.{◌≡◌, Some};
+ghost use Rattle.cil_bind.specs.Common.{Word, Placed, declared_in, IsFrom, IsTold};
 ghost use Rattle.cil_specs.specs.Lookup as lookup;
 
 use crate::joined::Joined;

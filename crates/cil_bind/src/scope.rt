@@ -1,6 +1,7 @@
 //! The statements of a joined policy by numbers.
 
-ghost use Rattle.cil_bind.specs.Common.{◌≡◌, ◌<◌, ◌≤◌, ◌+◌, ◌++◌, ◌∷◌, ◌^◌, ◌⊎◌, ℕ, suc, List, length, take, slice_get, [], IfOk, OnOk, IfNone, IfSome, Some, Word, bytes_eq, IsDistinct, FlatStatement, texts_of, statement_count, Spells, IsShown, IsDeclared, Row};
+ghost use Rattle.std.specs.Prelude.{◌≡◌, ◌<◌, ◌≤◌, ◌+◌, ◌++◌, ◌∷◌, ◌^◌, ◌⊎◌, ℕ, suc, List, length, take, slice_get, [], IfOk, OnOk, IfNone, IfSome, Some, bytes_eq};
+ghost use Rattle.cil_bind.specs.Common.{Word, IsDistinct, FlatStatement, texts_of, statement_count, Spells, IsShown, IsDeclared, Row};
 ghost use Rattle.cil_specs.specs.Statements.{Statements, is_optional as is_optional_form};
 ghost use Rattle.cil_specs.specs.Joined.{Placed, Module, placed, joined as joined_policy};
 ghost use Rattle.cil_bind.specs.Scope.{StandsFor, AreSpelt, AreFrom, AreAround, HaveModule, Declares, optional_number, block_word as word_of_block, is_optional_kind};

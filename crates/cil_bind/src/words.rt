@@ -1,6 +1,7 @@
 //! The words of modules in one numbering.
 
-ghost use Rattle.cil_bind.specs.Common.{◌≡◌, ◌++◌, ◌∷◌, ◌⊎◌, ◌<◌, [], ℕ, List, bytes_eq, length, slice_get, IfOk, Some, IsDistinct, AreNumbersOf, names_of, texts_of, AreWorded, AsKnown, LeadsTo};
+ghost use Rattle.std.specs.Prelude.{◌≡◌, ◌++◌, ◌∷◌, ◌⊎◌, ◌<◌, [], ℕ, List, bytes_eq, length, slice_get, IfOk, Some};
+ghost use Rattle.cil_bind.specs.Common.{IsDistinct, AreNumbersOf, names_of, texts_of, AreWorded, AsKnown, LeadsTo};
 ghost use Rattle.cil_specs.specs.Lookup.{is_global as is_global_text};
 
 use crate::joined::Joined;

@@ -18,4 +18,3 @@ pub use Rattle.cil_specs.specs.Joined.{Placed}
 pub use Rattle.cil_specs.specs.Lookup.{classes, distinct, has_name, permissions_of, references, texts, types}
 pub use Rattle.cil_specs.specs.Names.{Word, components}
 pub use Rattle.cil_specs.specs.PolicyFault.{IsFaultOf, alias_unset_words, circular, has_too_many, is_of_another_kind, is_unset, missing_words, too_many_words, wrong_kind_words}
-pub use Rattle.std.specs.Prelude.{Contains, IfErr, IfOk, IsTrue, List, None, OnErr, OnOk, Some, [], bytes_eq, false, filter, if◌then◌else◌, is_some, length, map, slice_get, slice_index_or, take, true, ℕ, ◌&&◌, ◌++◌, ◌<◌, ◌==◌, ◌^◌, ◌||◌, ◌↔◌, ◌∷◌, ◌≡◌, ◌≢◌, ◌⊎◌}

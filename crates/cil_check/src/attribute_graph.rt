@@ -1,6 +1,7 @@
 //! The attributes of a policy by numbers, and which of them set statements mention.
 
-ghost use Rattle.cil_check.specs.Common.{◌≡◌, ◌<◌, ◌⊎◌, ◌↔◌, ℕ, List, Some, length, slice_get, IfOk, OnOk, Word, Placed, types, references, IsOf, IsSeen};
+ghost use Rattle.std.specs.Prelude.{◌≡◌, ◌<◌, ◌⊎◌, ◌↔◌, ℕ, List, Some, length, slice_get, IfOk, OnOk};
+ghost use Rattle.cil_check.specs.Common.{Word, Placed, types, references, IsOf, IsSeen};
 ghost use Rattle.cil_dependence.specs.Graph.{IsEdge};
 ghost use Rattle.cil_check.specs.AttributeGraph.{attribute_count, number_led, AreAttributesOf, Mentions, IsGraphOf};
 

@@ -1,6 +1,7 @@
 //! The statements of a bound policy.
 
-ghost use Rattle.cil_check.specs.Common.{◌≡◌, ◌<◌, ◌∷◌, [], ℕ, List, None, length, slice_get, slice_index_or, Some, Word, components, Placed, read, kind_of, texts_of, names_of, AreNumbersOf, test_of, IsOf, IsSeen, policy_kind_of, fault_at, IsFoundFault};
+ghost use Rattle.std.specs.Prelude.{◌≡◌, ◌<◌, ◌∷◌, [], ℕ, List, None, length, slice_get, slice_index_or, Some};
+ghost use Rattle.cil_check.specs.Common.{Word, components, Placed, read, kind_of, texts_of, names_of, AreNumbersOf, test_of, IsOf, IsSeen, policy_kind_of, fault_at, IsFoundFault};
 
 use crate::fault::{PolicyFault, PolicyFaultKind};
 use crate::kinds::Kind;

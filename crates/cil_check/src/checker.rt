@@ -1,6 +1,7 @@
 //! The first fault of a policy whose references are bound, but for names that are declared twice.
 
-ghost use Rattle.cil_check.specs.Common.{◌≡◌, ◌≢◌, ◌<◌, ◌^◌, [], List, length, Some, None, slice_get, take, filter, IfOk, IfErr, OnOk, Word, Placed, types, references, is_of_another_kind, wrong_kind_words, is_unset, alias_unset_words, IsFaultOf, circular, words_in, AreNumbersOf, names_of, IsOf, IsSeen, Reads, IsNoted, HasFirsts, policy_kind_of, IsFoundFault, PolicyFaultIs, IsLeast, IsFaultIn, IsFaultless, HasNoneBelow, HasInherited, HaveListed, HaveWords, test_of, word_if, again_words};
+ghost use Rattle.std.specs.Prelude.{◌≡◌, ◌≢◌, ◌<◌, ◌^◌, [], List, length, Some, None, slice_get, take, filter, IfOk, IfErr, OnOk};
+ghost use Rattle.cil_check.specs.Common.{Word, Placed, types, references, is_of_another_kind, wrong_kind_words, is_unset, alias_unset_words, IsFaultOf, circular, words_in, AreNumbersOf, names_of, IsOf, IsSeen, Reads, IsNoted, HasFirsts, policy_kind_of, IsFoundFault, PolicyFaultIs, IsLeast, IsFaultIn, IsFaultless, HasNoneBelow, HasInherited, HaveListed, HaveWords, test_of, word_if, again_words};
 ghost use Rattle.cil_specs.specs.Expr.{WordExpr, leaves};
 ghost use Rattle.cil_specs.specs.Statements.{attribute_set};
 ghost use Rattle.cil_specs.proofs.FirstLemmas.{faulty_words};

@@ -1,6 +1,7 @@
 //! Attributes that depend on themselves.
 
-ghost use Rattle.cil_check.specs.Common.{◌≢◌, ◌↔◌, [], List, IsTrue, OnOk, IfErr, Placed, circular, IsFaultOf, IsLeast, IsOf, IsNoted, PolicyFaultIs};
+ghost use Rattle.std.specs.Prelude.{◌≢◌, ◌↔◌, [], List, IsTrue, OnOk, IfErr};
+ghost use Rattle.cil_check.specs.Common.{Placed, circular, IsFaultOf, IsLeast, IsOf, IsNoted, PolicyFaultIs};
 ghost use Rattle.cil_specs.specs.Rule.{sets_of};
 
 use crate::attribute_graph::AttributeNumbers;

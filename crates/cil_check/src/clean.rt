@@ -1,6 +1,7 @@
 //! Policies without faults of the kinds that are seen at one statement.
 
-ghost use Rattle.cil_check.specs.Common.{◌≡◌, [], List, Some, slice_get, IsTrue, Placed, missing_words, alias_unset_words, AreNumbersOf, names_of, IsSeen, IsNoted, lacking_words, has_list, HasNoneBelow, IsCleanAt};
+ghost use Rattle.std.specs.Prelude.{◌≡◌, [], List, Some, slice_get, IsTrue};
+ghost use Rattle.cil_check.specs.Common.{Placed, missing_words, alias_unset_words, AreNumbersOf, names_of, IsSeen, IsNoted, lacking_words, has_list, HasNoneBelow, IsCleanAt};
 ghost use Rattle.cil_bind.specs.KnownLists.{AreKnown};
 ghost use Rattle.cil_check.specs.Kinds.{is_rule as is_rule_kind, is_plain as is_plain_kind};
 

@@ -1,6 +1,7 @@
 //! Which statement is the first that gives something to a declaration.
 
-ghost use Rattle.cil_check.specs.Common.{◌<◌, [], length, slice_get, ◌≡◌, List, is_some, OnOk, OnErr, Placed, IsLead, IsOf, IsSeen, association_table, given_kind, given_lead, first_at, with_first, HasFirsts};
+ghost use Rattle.std.specs.Prelude.{◌<◌, [], length, slice_get, ◌≡◌, List, is_some, OnOk, OnErr};
+ghost use Rattle.cil_check.specs.Common.{Placed, IsLead, IsOf, IsSeen, association_table, given_kind, given_lead, first_at, with_first, HasFirsts};
 
 use crate::bound::{BoundPolicy, Seen};
 use cil_names::counted_in_32_bits;

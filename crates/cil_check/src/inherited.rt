@@ -1,6 +1,7 @@
 //! The commons that statements give to classes.
 
-ghost use Rattle.cil_check.specs.Common.{◌≡◌, [], List, OnOk, Placed, IsOf, HasInherited};
+ghost use Rattle.std.specs.Prelude.{◌≡◌, [], List, OnOk};
+ghost use Rattle.cil_check.specs.Common.{Placed, IsOf, HasInherited};
 
 use crate::bound::BoundPolicy;
 use crate::firsts::Association;

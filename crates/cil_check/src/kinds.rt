@@ -1,6 +1,7 @@
 //! Kinds of what statements declare in the table of types.
 
-ghost use Rattle.cil_check.specs.Common.{◌≡◌, is_kind};
+ghost use Rattle.std.specs.Prelude.{◌≡◌};
+ghost use Rattle.cil_check.specs.Common.{is_kind};
 
 use cil_parse::StatementKind;
 

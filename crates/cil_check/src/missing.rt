@@ -1,6 +1,7 @@
 //! Names that lead to nothing, and permissions that their classes lack.
 
-ghost use Rattle.cil_check.specs.Common.{◌≡◌, ◌<◌, List, ℕ, true, Contains, Some, length, slice_get, Placed, classes, references, has_name, permissions_of, missing_words, AreNumbersOf, names_of, word_at, IsFirstOf, IsLead, IsSeen, Reads, IsNoted, first_unfound, class_lead, lacking_words};
+ghost use Rattle.std.specs.Prelude.{◌≡◌, ◌<◌, List, ℕ, true, Contains, Some, length, slice_get};
+ghost use Rattle.cil_check.specs.Common.{Placed, classes, references, has_name, permissions_of, missing_words, AreNumbersOf, names_of, word_at, IsFirstOf, IsLead, IsSeen, Reads, IsNoted, first_unfound, class_lead, lacking_words};
 
 use crate::bound::Seen;
 use crate::checker::Checker;

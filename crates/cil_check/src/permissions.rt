@@ -1,6 +1,7 @@
 //! The permissions that classes and commons list, by numbers.
 
-ghost use Rattle.cil_check.specs.Common.{◌≡◌, ◌<◌, ◌||◌, ◌&&◌, ◌==◌, ◌++◌, ◌∷◌, [], ℕ, false, List, map, length, bytes_eq, Some, OnOk, IfOk, if◌then◌else◌, Word, Placed, has_name, texts, distinct, read, AreNumbersOf, texts_of, names_of, word_at, is_listed, HaveListed, HaveWords, lists_own, IsOf};
+ghost use Rattle.std.specs.Prelude.{◌≡◌, ◌<◌, ◌||◌, ◌&&◌, ◌==◌, ◌++◌, ◌∷◌, [], ℕ, false, List, map, length, bytes_eq, Some, OnOk, IfOk, if◌then◌else◌};
+ghost use Rattle.cil_check.specs.Common.{Word, Placed, has_name, texts, distinct, read, AreNumbersOf, texts_of, names_of, word_at, is_listed, HaveListed, HaveWords, lists_own, IsOf};
 ghost use Rattle.std.specs.List.{list_any, AllByRecursion, IsDistinct};
 ghost use Rattle.cil_bind.specs.Written.{IsOneName};
 

@@ -1,6 +1,7 @@
 //! Classes of too many permissions.
 
-ghost use Rattle.cil_check.specs.Common.{◌≡◌, List, Some, slice_get, Placed, classes, has_too_many, too_many_words, IsFirstOf, IsSeen, Reads, IsNoted};
+ghost use Rattle.std.specs.Prelude.{◌≡◌, List, Some, slice_get};
+ghost use Rattle.cil_check.specs.Common.{Placed, classes, has_too_many, too_many_words, IsFirstOf, IsSeen, Reads, IsNoted};
 
 use crate::bound::Seen;
 use crate::checker::Checker;

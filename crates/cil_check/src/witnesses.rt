@@ -1,6 +1,7 @@
 //! The commons by which classes that are given several have the permissions that rules name.
 
-ghost use Rattle.cil_check.specs.Common.{◌≡◌, List, length, Placed, IsOf, IsSeen};
+ghost use Rattle.std.specs.Prelude.{◌≡◌, List, length};
+ghost use Rattle.cil_check.specs.Common.{Placed, IsOf, IsSeen};
 
 use crate::bound::{BoundPolicy, Seen};
 use crate::groups::Groups;

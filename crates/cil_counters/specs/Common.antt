@@ -9,5 +9,4 @@ pub use Rattle.cil_specs.specs.Meaning.{count_of, is_in_table}
 pub use Rattle.cil_specs.specs.Members.{is_member}
 pub use Rattle.cil_specs.specs.Sets.{differ}
 pub use Rattle.cil_specs.specs.Violations.{AreViolations}
-pub use Rattle.std.specs.Prelude.{IfOk, IsTrue, List, None, OnOk, bytes_eq, false, length, min, slice_index, ℕ, ◌+◌, ◌-◌, ◌<◌, ◌^◌, ◌↔◌, ◌≡◌, ◌≤◌}
 pub use Rattle.std.specs.Rc.{rc_value}

@@ -1,6 +1,7 @@
 //! The violations of a policy that is compiled once, and whose counters are not kept.
 
-ghost use Rattle.cil_counters.specs.Common.{◌≡◌, length, IfOk, rc_value, meaning_in, sets_in, AreViolations};
+ghost use Rattle.std.specs.Prelude.{◌≡◌, length, IfOk};
+ghost use Rattle.cil_counters.specs.Common.{rc_value, meaning_in, sets_in, AreViolations};
 
 use crate::counters::Counters;
 use cil_names::Seed;

@@ -1,6 +1,7 @@
 //! Who became a member, and who is none any more, by full names.
 
-ghost use Rattle.cil_counters.specs.Common.{◌+◌, ◌≤◌, ℕ, IfOk, OnOk, count_before, count_now, has_turned, pairs_of, AreNamed};
+ghost use Rattle.std.specs.Prelude.{◌+◌, ◌≤◌, ℕ, IfOk, OnOk};
+ghost use Rattle.cil_counters.specs.Common.{count_before, count_now, has_turned, pairs_of, AreNamed};
 ghost use Rattle.cil_recorded.specs.Log.{hit_at};
 
 use cil_member_rows::MemberRows;

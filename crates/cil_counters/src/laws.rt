@@ -1,6 +1,7 @@
 //! What counters say by full names. The functions have no code.
 
-ghost use Rattle.cil_counters.specs.Common.{◌≡◌, ◌↔◌, ◌+◌, ◌≤◌, ℕ, List, IsTrue, count_of, is_member, differ, meaning_in, atom_with, count_with, had_named, has_named, AreBounded, IsNow, WasBefore};
+ghost use Rattle.std.specs.Prelude.{◌≡◌, ◌↔◌, ◌+◌, ◌≤◌, ℕ, List, IsTrue};
+ghost use Rattle.cil_counters.specs.Common.{count_of, is_member, differ, meaning_in, atom_with, count_with, had_named, has_named, AreBounded, IsNow, WasBefore};
 ghost use Rattle.cil_delta_specs.specs.Dirty.{IsChanged};
 
 use crate::counters::Counters;

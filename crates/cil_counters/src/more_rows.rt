@@ -1,6 +1,7 @@
 //! Rows for the symbols that came.
 
-ghost use Rattle.cil_counters.specs.Common.{◌≡◌, ◌≤◌, ℕ, OnOk, count_before, count_now, rows_in};
+ghost use Rattle.std.specs.Prelude.{◌≡◌, ◌≤◌, ℕ, OnOk};
+ghost use Rattle.cil_counters.specs.Common.{count_before, count_now, rows_in};
 
 use cil_member_rows::MemberRows;
 use std::alloc::{AllocError, Allocator};

@@ -1,6 +1,7 @@
 //! What a policy is by symbols.
 
-ghost use Rattle.cil_counters.specs.Common.{◌≤◌, length, IfOk, AreNumbersOf, AreSymbolsOf};
+ghost use Rattle.std.specs.Prelude.{◌≤◌, length, IfOk};
+ghost use Rattle.cil_counters.specs.Common.{AreNumbersOf, AreSymbolsOf};
 
 use cil_member_updates::KeptTypes;
 use cil_resolve::Resolved;

@@ -1,6 +1,7 @@
 //! The places of a policy's names in a list, by the symbols of the names.
 
-ghost use Rattle.cil_counters.specs.Common.{◌≡◌, ◌<◌, ℕ, List, length, slice_index, IfOk, AreNumbersOf};
+ghost use Rattle.std.specs.Prelude.{◌≡◌, ◌<◌, ℕ, List, length, slice_index, IfOk};
+ghost use Rattle.cil_counters.specs.Common.{AreNumbersOf};
 ghost use Rattle.cil_rules.specs.Ranks.{IsMerged};
 ghost use Rattle.cil_counters.specs.SymbolRanks.{ArePut, AreRanks};
 

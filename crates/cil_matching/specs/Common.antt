@@ -5,4 +5,3 @@ pub use Rattle.cil_matching.specs.Spot.{Spot, rule_spot, same_spot, set_spot, sp
 pub use Rattle.cil_resolve.specs.Resolved.{meaning_in}
 pub use Rattle.cil_resolve.specs.Sets.{sets_in}
 pub use Rattle.cil_specs.specs.Rule.{IsSameRule, IsSameSet}
-pub use Rattle.std.specs.Prelude.{IfErr, IfOk, OnOk, Some, [], false, length, map, position, slice_get, ℕ, ◌++◌, ◌<◌, ◌↔◌, ◌∷◌, ◌≡◌}

@@ -1,6 +1,7 @@
 //! The numbers of one policy's names in another one.
 
-ghost use Rattle.cil_matching.specs.Common.{◌≡◌, ◌<◌, length, IfOk, IfErr, AreNumbers, AreBefore, IsFoundAt, IsMissedAt};
+ghost use Rattle.std.specs.Prelude.{◌≡◌, ◌<◌, length, IfOk, IfErr};
+ghost use Rattle.cil_matching.specs.Common.{AreNumbers, AreBefore, IsFoundAt, IsMissedAt};
 ghost use Rattle.cil_specs.specs.Report.{name_cmp};
 
 use cil_resolve::Resolved;

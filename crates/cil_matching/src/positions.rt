@@ -1,6 +1,7 @@
 //! Positions of statements.
 
-ghost use Rattle.cil_matching.specs.Common.{◌≡◌, ◌++◌, ◌∷◌, [], false, position, OnOk, same_spot, spot_cmp, spot_of};
+ghost use Rattle.std.specs.Prelude.{◌≡◌, ◌++◌, ◌∷◌, [], false, position, OnOk};
+ghost use Rattle.cil_matching.specs.Common.{same_spot, spot_cmp, spot_of};
 ghost use Rattle.std.specs.Cmp.Rules.{hashing};
 ghost use Rattle.std.specs.Hash as fed;
 ghost use Rattle.std.specs.List.{list_any};

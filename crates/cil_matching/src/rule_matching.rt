@@ -1,6 +1,7 @@
 //! The rules of one policy that stand in another one.
 
-ghost use Rattle.cil_matching.specs.Common.{◌≡◌, ◌↔◌, ℕ, slice_get, Some, IfOk, IsSameRule, meaning_in, AreMatched};
+ghost use Rattle.std.specs.Prelude.{◌≡◌, ◌↔◌, ℕ, slice_get, Some, IfOk};
+ghost use Rattle.cil_matching.specs.Common.{IsSameRule, meaning_in, AreMatched};
 
 use crate::inverse::{inverse, place_at};
 use crate::rule_places::rule_places;

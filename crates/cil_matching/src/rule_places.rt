@@ -1,6 +1,7 @@
 //! The places of one policy's rules in another one.
 
-ghost use Rattle.cil_matching.specs.Common.{◌≡◌, ◌↔◌, ◌<◌, ℕ, length, map, slice_get, Some, IfOk, IfErr, IsSameRule, meaning_in, AreNumbers, ArePlaces, AreSameAt, AreBefore, IsFoundAt, IsMissedAt, rule_spot, spot_of};
+ghost use Rattle.std.specs.Prelude.{◌≡◌, ◌↔◌, ◌<◌, ℕ, length, map, slice_get, Some, IfOk, IfErr};
+ghost use Rattle.cil_matching.specs.Common.{IsSameRule, meaning_in, AreNumbers, ArePlaces, AreSameAt, AreBefore, IsFoundAt, IsMissedAt, rule_spot, spot_of};
 ghost use Rattle.cil_specs.specs.Violations.{rule_cmp};
 
 use crate::name_numbers::name_numbers;

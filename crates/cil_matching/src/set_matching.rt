@@ -1,6 +1,7 @@
 //! The set statements of one policy that stand in another one.
 
-ghost use Rattle.cil_matching.specs.Common.{◌≡◌, ◌↔◌, ℕ, length, slice_get, Some, IfOk, IsSameSet, sets_in, AreMatched, ArePlaces};
+ghost use Rattle.std.specs.Prelude.{◌≡◌, ◌↔◌, ℕ, length, slice_get, Some, IfOk};
+ghost use Rattle.cil_matching.specs.Common.{IsSameSet, sets_in, AreMatched, ArePlaces};
 
 use crate::inverse::{inverse, place_at};
 use crate::passed_over::passed_over;

@@ -5,4 +5,3 @@ pub use Rattle.cil_member_rows.specs.Rows.{IsChange, IsHeld, rows_in}
 pub use Rattle.cil_member_rows.specs.Words.{AreSome, IsOutside}
 pub use Rattle.cil_recorded.specs.Log.{hit_at}
 pub use Rattle.cil_recorded.specs.Recorded.{count_before, count_now, limit_now, lines_in, spare, steps_in}
-pub use Rattle.std.specs.Prelude.{IfOk, IsTrue, MatchOption, OnErr, OnOk, false, length, min, true, ℕ, ◌+◌, ◌-◌, ◌/◌, ◌<◌, ◌^◌, ◌↔◌, ◌≡◌, ◌≢◌, ◌≤◌, ◌⊎◌}

@@ -1,6 +1,7 @@
 //! Words of one of several rows of bits.
 
-ghost use Rattle.cil_member_rows.specs.Common.{◌≡◌, ℕ, ◌<◌, ◌≤◌, length, OnOk, bits_at, words_of};
+ghost use Rattle.std.specs.Prelude.{◌≡◌, ℕ, ◌<◌, ◌≤◌, length, OnOk};
+ghost use Rattle.cil_member_rows.specs.Common.{bits_at, words_of};
 
 use crate::bit_row::BitRow;
 use std::alloc::{AllocError, Allocator};

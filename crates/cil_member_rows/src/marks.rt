@@ -1,6 +1,7 @@
 //! The words of rows that are marked.
 
-ghost use Rattle.cil_member_rows.specs.Common.{◌≡◌, ◌≢◌, ◌⊎◌, ℕ, ◌<◌, ◌≤◌, ◌^◌, true, length, OnOk, AreSome, IsOutside};
+ghost use Rattle.std.specs.Prelude.{◌≡◌, ◌≢◌, ◌⊎◌, ℕ, ◌<◌, ◌≤◌, ◌^◌, true, length, OnOk};
+ghost use Rattle.cil_member_rows.specs.Common.{AreSome, IsOutside};
 ghost use Rattle.cil_member_rows.specs.Marks.{mark_at};
 
 use crate::words::Words;

@@ -1,6 +1,7 @@
 //! Rows of counters by type, with the bits of who was a member before the steps.
 
-ghost use Rattle.cil_member_rows.specs.Common.{◌≡◌, ◌↔◌, ℕ, ◌+◌, ◌-◌, ◌/◌, ◌<◌, ◌≤◌, ◌^◌, true, false, min, IfOk, IsTrue, MatchOption, OnErr, OnOk, hit, IsNextPresent, IsPresence, NonePresent, hit_at, rows_in, IsChange, AreSome, IsOutside};
+ghost use Rattle.std.specs.Prelude.{◌≡◌, ◌↔◌, ℕ, ◌+◌, ◌-◌, ◌/◌, ◌<◌, ◌≤◌, ◌^◌, true, false, min, IfOk, IsTrue, MatchOption, OnErr, OnOk};
+ghost use Rattle.cil_member_rows.specs.Common.{hit, IsNextPresent, IsPresence, NonePresent, hit_at, rows_in, IsChange, AreSome, IsOutside};
 ghost use Rattle.cil_recorded.specs.Differences.{appeared_at, change_key, gone_at, Ascends};
 ghost use Rattle.cil_member_rows.specs.Rows.{count_before, count_now, steps_in};
 

@@ -1,6 +1,7 @@
 //! Words that stand behind one another.
 
-ghost use Rattle.cil_member_rows.specs.Common.{◌≡◌, ◌↔◌, ◌+◌, ◌<◌, ◌^◌, ◌⊎◌, ℕ, IsTrue, AreSome, IsOutside};
+ghost use Rattle.std.specs.Prelude.{◌≡◌, ◌↔◌, ◌+◌, ◌<◌, ◌^◌, ◌⊎◌, ℕ, IsTrue};
+ghost use Rattle.cil_member_rows.specs.Common.{AreSome, IsOutside};
 
 /// The words from the first one to behind the last one; none where the end isn't behind the first one.
 #[derive(Clone, Copy)]

@@ -11,4 +11,3 @@ pub use Rattle.cil_resolve.specs.Meter.{adjustments_in, evaluations_in}
 pub use Rattle.cil_resolve.specs.Resolved.{meaning_in}
 pub use Rattle.cil_resolve.specs.Sets.{sets_in}
 pub use Rattle.cil_specs.specs.Rule.{IsSameSet}
-pub use Rattle.std.specs.Prelude.{Contains, IfOk, IsTrue, OnOk, Some, length, min, nat_lt, slice_get, slice_index, slice_index_or, ℕ, ◌%◌, ◌*◌, ◌+◌, ◌-◌, ◌/◌, ◌<◌, ◌==◌, ◌^◌, ◌≡◌, ◌≤◌}

@@ -1,6 +1,7 @@
 //! The kept types of a policy by symbols.
 
-ghost use Rattle.cil_member_updates.specs.Common.{◌≡◌, ◌<◌, ◌≤◌, ℕ, length, slice_get, slice_index, slice_index_or, IfOk, Some, meaning_in, no_declared, AreKept, IsNumbering};
+ghost use Rattle.std.specs.Prelude.{◌≡◌, ◌<◌, ◌≤◌, ℕ, length, slice_get, slice_index, slice_index_or, IfOk, Some};
+ghost use Rattle.cil_member_updates.specs.Common.{meaning_in, no_declared, AreKept, IsNumbering};
 
 use cil_member_rows::Words;
 use cil_resolve::Resolved;

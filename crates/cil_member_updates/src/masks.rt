@@ -1,6 +1,7 @@
 //! The types of a word that a set statement holds.
 
-ghost use Rattle.cil_member_updates.specs.Common.{◌≡◌, ◌+◌, ◌-◌, ◌*◌, ◌%◌, ◌<◌, ◌^◌, ℕ, IsTrue, length, min, slice_get, slice_index, Some, nat_lt, adjustments_in, evaluations_in, meaning_in, sets_in, set_at, holds, keeps, Tell, counts_at, IsSide, AreHeld, is_asked};
+ghost use Rattle.std.specs.Prelude.{◌≡◌, ◌+◌, ◌-◌, ◌*◌, ◌%◌, ◌<◌, ◌^◌, ℕ, IsTrue, length, min, slice_get, slice_index, Some, nat_lt};
+ghost use Rattle.cil_member_updates.specs.Common.{adjustments_in, evaluations_in, meaning_in, sets_in, set_at, holds, keeps, Tell, counts_at, IsSide, AreHeld, is_asked};
 ghost use Rattle.cil_member_updates.specs.Counts.{one_if};
 ghost use Rattle.cil_sums.specs.Rises.{RisesBy};
 

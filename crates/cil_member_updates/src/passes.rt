@@ -1,6 +1,7 @@
 //! The members of a policy made those of another one.
 
-ghost use Rattle.cil_member_updates.specs.Common.{◌≡◌, ◌<◌, ◌≤◌, ◌+◌, ℕ, length, slice_index, OnOk, adjustments_in, evaluations_in, meaning_in, sets_in, set_at, IsSameSet, count_before, count_now, rows_in, EvaluatesGone, EvaluatesGoneAt, EvaluatesNew, EvaluatesNewAt, Tell, given, AreCounts, IsSide};
+ghost use Rattle.std.specs.Prelude.{◌≡◌, ◌<◌, ◌≤◌, ◌+◌, ℕ, length, slice_index, OnOk};
+ghost use Rattle.cil_member_updates.specs.Common.{adjustments_in, evaluations_in, meaning_in, sets_in, set_at, IsSameSet, count_before, count_now, rows_in, EvaluatesGone, EvaluatesGoneAt, EvaluatesNew, EvaluatesNewAt, Tell, given, AreCounts, IsSide};
 ghost use Rattle.cil_delta_specs.specs.Work.{EvaluatesFew};
 ghost use Rattle.cil_matching.specs.Matching.{AreMatched};
 ghost use Rattle.cil_sums.specs.Sums.{sum_below};

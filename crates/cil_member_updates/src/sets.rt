@@ -1,6 +1,7 @@
 //! One set statement at all types.
 
-ghost use Rattle.cil_member_updates.specs.Common.{◌≡◌, ◌+◌, ◌<◌, ◌≤◌, ℕ, length, slice_index, OnOk, adjustments_in, evaluations_in, meaning_in, sets_in, set_at, IsSameSet, count_before, count_now, rows_in, IsOutside, EvaluatesSet, MovesSet, Tell, AreMoved, nothing, given, IsSide};
+ghost use Rattle.std.specs.Prelude.{◌≡◌, ◌+◌, ◌<◌, ◌≤◌, ℕ, length, slice_index, OnOk};
+ghost use Rattle.cil_member_updates.specs.Common.{adjustments_in, evaluations_in, meaning_in, sets_in, set_at, IsSameSet, count_before, count_now, rows_in, IsOutside, EvaluatesSet, MovesSet, Tell, AreMoved, nothing, given, IsSide};
 
 use crate::side::Side;
 use crate::visits::turned_words;

@@ -1,6 +1,7 @@
 //! A policy, by symbols.
 
-ghost use Rattle.cil_member_updates.specs.Common.{◌≡◌, ◌<◌, length, slice_get, Some, sets_in, set_at, IsSide};
+ghost use Rattle.std.specs.Prelude.{◌≡◌, ◌<◌, length, slice_get, Some};
+ghost use Rattle.cil_member_updates.specs.Common.{sets_in, set_at, IsSide};
 
 use crate::kept::KeptTypes;
 use cil_resolve::Resolved;

@@ -1,6 +1,7 @@
 //! Where a set statement may hold a type, word by word.
 
-ghost use Rattle.cil_member_updates.specs.Common.{◌≡◌, ◌<◌, ◌==◌, ℕ, Contains, IsTrue, length, slice_index, meaning_in, sets_in, set_at, IsSameSet, count_before, count_now, IsOutside, AreTurnedAt, AreUnsettledAt, IsTurnedAt, element_holds, holds, IsUnchanged, Tell, counts_at, AreUnchanged, CoverNames, IsSide, Cover};
+ghost use Rattle.std.specs.Prelude.{◌≡◌, ◌<◌, ◌==◌, ℕ, Contains, IsTrue, length, slice_index};
+ghost use Rattle.cil_member_updates.specs.Common.{meaning_in, sets_in, set_at, IsSameSet, count_before, count_now, IsOutside, AreTurnedAt, AreUnsettledAt, IsTurnedAt, element_holds, holds, IsUnchanged, Tell, counts_at, AreUnchanged, CoverNames, IsSide, Cover};
 ghost use Rattle.cil_resolve.specs.Below.{is_element_below};
 ghost use Rattle.cil_resolve.specs.Numbers.{element_of};
 ghost use Rattle.cil_specs.specs.Expr.{leaves};

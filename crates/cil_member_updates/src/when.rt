@@ -1,6 +1,7 @@
 //! Who is a member, or was before the steps.
 
-ghost use Rattle.cil_member_updates.specs.Common.{◌≡◌, nat_lt, counts_at};
+ghost use Rattle.std.specs.Prelude.{◌≡◌, nat_lt};
+ghost use Rattle.cil_member_updates.specs.Common.{counts_at};
 ghost use Rattle.cil_lines.specs.Line.{IsPresence};
 
 use cil_member_rows::MemberRows;

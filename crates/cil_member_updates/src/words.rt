@@ -1,6 +1,7 @@
 //! One set statement at the types of a word.
 
-ghost use Rattle.cil_member_updates.specs.Common.{◌≡◌, ◌+◌, ◌/◌, ◌<◌, ◌≤◌, ◌^◌, ℕ, length, OnOk, adjustments_in, evaluations_in, meaning_in, sets_in, set_at, IsSameSet, count_before, count_now, rows_in, EvaluatesWord, MovesWord, Tell, IsMoved, nothing, given, IsSide};
+ghost use Rattle.std.specs.Prelude.{◌≡◌, ◌+◌, ◌/◌, ◌<◌, ◌≤◌, ◌^◌, ℕ, length, OnOk};
+ghost use Rattle.cil_member_updates.specs.Common.{adjustments_in, evaluations_in, meaning_in, sets_in, set_at, IsSameSet, count_before, count_now, rows_in, EvaluatesWord, MovesWord, Tell, IsMoved, nothing, given, IsSide};
 
 use crate::masks::masked;
 use crate::side::{Side, row_of};

@@ -13,4 +13,3 @@ pub use Rattle.cil_specs.specs.Kept.{AreApart, Optionals, is_within, restricted}
 pub use Rattle.cil_specs.specs.Lookup.{has_name, named_permissions, texts}
 pub use Rattle.cil_specs.specs.Names.{Word}
 pub use Rattle.std.specs.List.{list_all, list_any, range_with_len}
-pub use Rattle.std.specs.Prelude.{Bool, IfOk, IfSome, IsTrue, List, OnOk, Option, Some, [], bytes_eq, false, if◌then◌else◌, length, map, not, position, replicate, slice_get, slice_index_or, true, ℕ, ◌&&◌, ◌++◌, ◌+◌, ◌<◌, ◌==◌, ◌^◌, ◌||◌, ◌∷◌, ◌≡◌, ◌≢◌, ◌≤◌}

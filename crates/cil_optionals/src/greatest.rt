@@ -1,6 +1,7 @@
 //! The greatest set of optionals that has what its members need.
 
-ghost use Rattle.cil_optionals.specs.Common.{◌≡◌, ◌≤◌, ◌<◌, ◌+◌, ℕ, Bool, true, false, length, replicate, slice_index_or, not, IfOk, IfSome, IsTrue, list_all, range_with_len, are_met, has_node, is_met, is_need_below};
+ghost use Rattle.std.specs.Prelude.{◌≡◌, ◌≤◌, ◌<◌, ◌+◌, ℕ, Bool, true, false, length, replicate, slice_index_or, not, IfOk, IfSome, IsTrue};
+ghost use Rattle.cil_optionals.specs.Common.{list_all, range_with_len, are_met, has_node, is_met, is_need_below};
 
 use crate::dependents::{dependents, reopen};
 use std::alloc::{AllocError, Allocator};

@@ -1,6 +1,7 @@
 //! The optionals that a policy keeps.
 
-ghost use Rattle.cil_optionals.specs.Common.{◌≡◌, ◌+◌, ℕ, List, true, false, not, length, replicate, slice_index_or, IfOk, list_all, Placed, AreApart, AreNeeds, IsReady};
+ghost use Rattle.std.specs.Prelude.{◌≡◌, ◌+◌, ℕ, List, true, false, not, length, replicate, slice_index_or, IfOk};
+ghost use Rattle.cil_optionals.specs.Common.{list_all, Placed, AreApart, AreNeeds, IsReady};
 ghost use Rattle.cil_bind.specs.Policy.{IsBoundTo};
 ghost use Rattle.cil_bind.specs.Nested.{AreNested};
 ghost use Rattle.cil_optionals.specs.Nested.{ShowsKept};

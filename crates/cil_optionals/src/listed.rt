@@ -1,6 +1,7 @@
 //! What classes and commons list, and the commons that are given to classes.
 
-ghost use Rattle.cil_optionals.specs.Common.{◌≡◌, ◌<◌, ◌+◌, ◌&&◌, ◌||◌, ◌==◌, ◌++◌, ◌∷◌, ℕ, [], List, Some, map, length, bytes_eq, position, slice_get, IfOk, OnOk, list_any, Word, Placed, has_name, texts, NamedModule, read, texts_of, IsOf, HavePermissions, IsReady};
+ghost use Rattle.std.specs.Prelude.{◌≡◌, ◌<◌, ◌+◌, ◌&&◌, ◌||◌, ◌==◌, ◌++◌, ◌∷◌, ℕ, [], List, Some, map, length, bytes_eq, position, slice_get, IfOk, OnOk};
+ghost use Rattle.cil_optionals.specs.Common.{list_any, Word, Placed, has_name, texts, NamedModule, read, texts_of, IsOf, HavePermissions, IsReady};
 ghost use Rattle.std.specs.Cmp.Rules.{hashing};
 ghost use Rattle.std.specs.Hash as fed;
 ghost use Rattle.std.proofs.Common.{rules};

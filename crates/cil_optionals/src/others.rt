@@ -1,6 +1,7 @@
 //! What the statements in optionals need, and the optionals inside others.
 
-ghost use Rattle.cil_optionals.specs.Common.{◌≡◌, ◌≢◌, ◌<◌, ◌+◌, ◌&&◌, ℕ, List, Some, length, slice_get, IfOk, OnOk, Placed, restricted, NamedModule, are_found, are_there, optional_at, Asks, AreOthers, AreOthersTo, HavePermissions, IsReady};
+ghost use Rattle.std.specs.Prelude.{◌≡◌, ◌≢◌, ◌<◌, ◌+◌, ◌&&◌, ℕ, List, Some, length, slice_get, IfOk, OnOk};
+ghost use Rattle.cil_optionals.specs.Common.{Placed, restricted, NamedModule, are_found, are_there, optional_at, Asks, AreOthers, AreOthersTo, HavePermissions, IsReady};
 ghost use Rattle.cil_specs.specs.Lookup.{references as references_of, named_permissions};
 ghost use Rattle.cil_optionals.specs.Given.{permissions_in, IsInverse, IsUpTo};
 

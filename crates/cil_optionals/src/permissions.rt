@@ -1,6 +1,7 @@
 //! The permissions of classes, as they are asked.
 
-ghost use Rattle.cil_optionals.specs.Common.{◌≡◌, ◌<◌, ℕ, List, Some, true, false, bytes_eq, map, slice_get, IfOk, IsTrue, list_all, Word, Placed, named_permissions, texts, NamedModule, read, texts_of, HavePermissions, IsReady};
+ghost use Rattle.std.specs.Prelude.{◌≡◌, ◌<◌, ℕ, List, Some, true, false, bytes_eq, map, slice_get, IfOk, IsTrue};
+ghost use Rattle.cil_optionals.specs.Common.{list_all, Word, Placed, named_permissions, texts, NamedModule, read, texts_of, HavePermissions, IsReady};
 ghost use Rattle.cil_bind.specs.KnownLists.{texts_listed, AreKnown};
 ghost use Rattle.cil_optionals.specs.Asks.{are_there as all_there, IsOf};
 ghost use Rattle.cil_optionals.specs.Given.{permissions_in, last_bound as last_of, is_rule as is_rule_kind, has_list as has_listed, AreAnswers, AreRecent, IsInverse};

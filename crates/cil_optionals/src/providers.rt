@@ -1,6 +1,7 @@
 //! What the nodes of names need.
 
-ghost use Rattle.cil_optionals.specs.Common.{◌≡◌, ◌<◌, ◌+◌, ◌^◌, ℕ, List, false, length, IfOk, OnOk, IsTrue, Placed, word_at, namespace_at, table_of, Knows, IsLead, NamedModule};
+ghost use Rattle.std.specs.Prelude.{◌≡◌, ◌<◌, ◌+◌, ◌^◌, ℕ, List, false, length, IfOk, OnOk, IsTrue};
+ghost use Rattle.cil_optionals.specs.Common.{Placed, word_at, namespace_at, table_of, Knows, IsLead, NamedModule};
 ghost use Rattle.cil_parse.specs.declared.table.Table.TheVariants.{Scopes};
 ghost use Rattle.cil_optionals.specs.Providers.{node_of_name, further_out as looked_further, IsReady, AreProviders};
 

@@ -1,6 +1,7 @@
 //! What the references of statements in optionals need.
 
-ghost use Rattle.cil_optionals.specs.Common.{◌≡◌, ◌<◌, ◌+◌, ℕ, List, Bool, Some, [], length, slice_get, slice_index_or, IfOk, IfSome, IsTrue, OnOk, Option, if◌then◌else◌, Placed, Optionals, is_within, restricted, IsLead, NamedModule, texts_of, are_found, optional_at, AddsNeed, Asks, IsOf, LeadsOutside, has_node, IsReady};
+ghost use Rattle.std.specs.Prelude.{◌≡◌, ◌<◌, ◌+◌, ℕ, List, Bool, Some, [], length, slice_get, slice_index_or, IfOk, IfSome, IsTrue, OnOk, Option, if◌then◌else◌};
+ghost use Rattle.cil_optionals.specs.Common.{Placed, Optionals, is_within, restricted, IsLead, NamedModule, texts_of, are_found, optional_at, AddsNeed, Asks, IsOf, LeadsOutside, has_node, IsReady};
 ghost use Rattle.cil_specs.specs.Lookup.{Table as TableOf, holds_of, references as references_of, is_global as is_global_text};
 ghost use Rattle.cil_optionals.specs.Nodes.{is_provided, is_plain as is_plain_text, is_single as are_single, AreNodesOf};
 

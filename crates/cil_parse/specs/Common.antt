@@ -9,4 +9,3 @@ pub use Rattle.cil_specs.specs.Shape.{IsFirstShapeFault}
 pub use Rattle.cil_specs.specs.Statements.{Statements, rule, target_words}
 pub use Rattle.cil_text.specs.Forest.{forest_of}
 pub use Rattle.cil_text.specs.Image.{FaultIs, expr_of, place_of, rule_kind_of, statements_of, target_of, trees_of, word_of}
-pub use Rattle.std.specs.Prelude.{IfErr, IfNone, IfOk, IfSome, IsTrue, List, None, OnOk, Option, Some, [], drop, false, length, map, slice_get, slice_index_or, ℕ, ◌++◌, ◌<◌, ◌==◌, ◌∷◌, ◌≡◌, ◌≤◌}

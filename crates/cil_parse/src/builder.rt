@@ -1,6 +1,7 @@
 //! Going over the statements of a module.
 
-ghost use Rattle.cil_parse.specs.Common.{◌≡◌, ◌∷◌, ◌++◌, [], List, map, false, IsTrue, IfOk, IfErr, OnOk, target_words, rule, IsFirstShapeFault, place_of, word_of, target_of, rule_kind_of, expr_of, statements_of, trees_of, FaultIs, forest_of, expr_nodes, kind_of, IsAt, Adds, AddsExpr, AddsForm, Closes, Puts, Places, top};
+ghost use Rattle.std.specs.Prelude.{◌≡◌, ◌∷◌, ◌++◌, [], List, map, false, IsTrue, IfOk, IfErr, OnOk};
+ghost use Rattle.cil_parse.specs.Common.{target_words, rule, IsFirstShapeFault, place_of, word_of, target_of, rule_kind_of, expr_of, statements_of, trees_of, FaultIs, forest_of, expr_nodes, kind_of, IsAt, Adds, AddsExpr, AddsForm, Closes, Puts, Places, top};
 ghost use Rattle.cil_specs.specs.Expr.{leaves};
 ghost use Rattle.cil_specs.specs.Names.{Word as SpecWord};
 ghost use Rattle.cil_specs.specs.Trees.{are_lists};

@@ -1,6 +1,7 @@
 //! Copies of lists.
 
-ghost use Rattle.cil_parse.specs.Common.{◌≡◌, [], map, IfOk, seen};
+ghost use Rattle.std.specs.Prelude.{◌≡◌, [], map, IfOk};
+ghost use Rattle.cil_parse.specs.Common.{seen};
 
 use crate::lists::Lists;
 use cil_names::Name;

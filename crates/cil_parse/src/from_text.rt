@@ -1,6 +1,7 @@
 //! From a text to its parsed module.
 
-ghost use Rattle.cil_parse.specs.Common.{◌≤◌, length, IfOk, IfErr, FaultIs};
+ghost use Rattle.std.specs.Prelude.{◌≤◌, length, IfOk, IfErr};
+ghost use Rattle.cil_parse.specs.Common.{FaultIs};
 ghost use Rattle.cil_parse.specs.Parsed.{IsParsed};
 ghost use Rattle.cil_specs.specs.ModuleText.{IsTextFault};
 

@@ -1,6 +1,7 @@
 //! Laws of the statements of a module one behind the other.
 
-ghost use Rattle.cil_parse.specs.Common.{ℕ, [], List, Statements, flat};
+ghost use Rattle.std.specs.Prelude.{ℕ, [], List};
+ghost use Rattle.cil_parse.specs.Common.{Statements, flat};
 ghost use Rattle.cil_specs.specs.Joined.{placed};
 ghost use Rattle.cil_parse.specs.Around.{ArePlacedAs};
 

@@ -1,6 +1,7 @@
 //! The words of a module by numbers, while it is gone over.
 
-ghost use Rattle.cil_parse.specs.Common.{◌≡◌, ◌∷◌, ◌<◌, ◌==◌, [], Some, slice_get, length, IfOk, OnOk, IfSome, IfNone, with_name, texts_in, AddsNames, SplitsText, IsLexicon};
+ghost use Rattle.std.specs.Prelude.{◌≡◌, ◌∷◌, ◌<◌, ◌==◌, [], Some, slice_get, length, IfOk, OnOk, IfSome, IfNone};
+ghost use Rattle.cil_parse.specs.Common.{with_name, texts_in, AddsNames, SplitsText, IsLexicon};
 ghost use Rattle.std.specs.List.{slice_split};
 ghost use Rattle.cil_text.specs.Name.{without_dot};
 

@@ -1,6 +1,7 @@
 //! Modules that borrow nothing.
 
-ghost use Rattle.cil_parse.specs.Common.{◌≡◌, ◌<◌, [], List, length, slice_get, slice_index_or, Some, IfOk, IfErr, texts, IsFirstShapeFault, Statements, FaultIs, forest_of, texts_in, names_in, AreNumbersOf, AreSplit, FlatStatement, flat, count, kind_of, permissions_in, AreListed};
+ghost use Rattle.std.specs.Prelude.{◌≡◌, ◌<◌, [], List, length, slice_get, slice_index_or, Some, IfOk, IfErr};
+ghost use Rattle.cil_parse.specs.Common.{texts, IsFirstShapeFault, Statements, FaultIs, forest_of, texts_in, names_in, AreNumbersOf, AreSplit, FlatStatement, flat, count, kind_of, permissions_in, AreListed};
 ghost use Rattle.cil_specs.specs.Names.{components as components_of};
 
 use crate::builder::Builder;

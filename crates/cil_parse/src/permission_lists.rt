@@ -1,6 +1,7 @@
 //! The distinct lists of permissions of a module's statements.
 
-ghost use Rattle.cil_parse.specs.Common.{◌≡◌, ◌++◌, [], length, map, drop, IfOk, OnOk, seen, AreNumbersOf, permission_words, permission_texts, AreListed};
+ghost use Rattle.std.specs.Prelude.{◌≡◌, ◌++◌, [], length, map, drop, IfOk, OnOk};
+ghost use Rattle.cil_parse.specs.Common.{seen, AreNumbersOf, permission_words, permission_texts, AreListed};
 
 use crate::copied::copies;
 use crate::lists::Lists;

@@ -1,6 +1,7 @@
 //! Statements of parsed modules as they are seen.
 
-ghost use Rattle.cil_parse.specs.Common.{◌≡◌, ℕ, List, map, slice_get, Some, None, Option, IfSome, IfNone, declared_in, references, read, FlatStatement, permissions_in};
+ghost use Rattle.std.specs.Prelude.{◌≡◌, ℕ, List, map, slice_get, Some, None, Option, IfSome, IfNone};
+ghost use Rattle.cil_parse.specs.Common.{declared_in, references, read, FlatStatement, permissions_in};
 ghost use Rattle.cil_specs.specs.Names.{Word};
 ghost use Rattle.cil_specs.specs.Lookup as lookup;
 ghost use Rattle.cil_parse.specs.Kinds.{table_of, declaring, reference_table};

@@ -19,4 +19,3 @@ pub use Rattle.cil_stream.specs.Device.{Gains, GainsFront, Gives, HasEnded, HasF
 pub use Rattle.clap.specs.Words.{Row, app_of, found_of, kind_of, rows_of, subcommand_name_of, subcommand_of, subcommand_rows_of, takes}
 pub use Rattle.clap.specs.declared.error.kind.ErrorKind.TheVariants.{OutOfMemory}
 pub use Rattle.std.specs.List.{AllZip, list_all}
-pub use Rattle.std.specs.Prelude.{All, Bool, Contains, Err, IfErr, IfNone, IfOk, IfSome, IsErrOf, IsTrue, List, None, OnErr, OnOk, Result, Some, [], codes, count_by, decimal, false, flat_map, length, map, min, true, vec_capacity, ℕ, ◌++◌, ◌+◌, ◌<◌, ◌^◌, ◌↔◌, ◌∷◌, ◌≡◌, ◌≢◌, ◌≤◌, ◌⊎◌}

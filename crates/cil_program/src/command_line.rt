@@ -1,6 +1,7 @@
 //! The command line: what its words ask for, and the exit status.
 
-ghost use Rattle.cil_program.specs.Common.{◌≡◌, ◌≢◌, ◌⊎◌, ◌≤◌, ℕ, true, List, Result, Some, codes, map, IfOk, OnErr, OnOk, Row, found_of, kind_of, rows_of, subcommand_of, takes, OutOfMemory, Gains, GainsFront, HasFailed, for_memory, refusal_line, AsksSession, AnswersSession, CompilesFiles, LacksMemory, exit_status_of, unreadable_line, untold, AnswersCompile, IsToBeWritten, program_app};
+ghost use Rattle.std.specs.Prelude.{◌≡◌, ◌≢◌, ◌⊎◌, ◌≤◌, ℕ, true, List, Result, Some, codes, map, IfOk, OnErr, OnOk};
+ghost use Rattle.cil_program.specs.Common.{Row, found_of, kind_of, rows_of, subcommand_of, takes, OutOfMemory, Gains, GainsFront, HasFailed, for_memory, refusal_line, AsksSession, AnswersSession, CompilesFiles, LacksMemory, exit_status_of, unreadable_line, untold, AnswersCompile, IsToBeWritten, program_app};
 ghost use Rattle.cil_program.specs.declared.command_line.compile.Report.{Report};
 ghost use Rattle.cil_program.specs.declared.script.session.SessionFault.{SessionFault};
 ghost use Rattle.cil_program.specs.declared.script.session.Status.{Status};

@@ -3,4 +3,3 @@ pub use Rattle.cil_lines.specs.Limit.{CanLower, CanRaise}
 pub use Rattle.cil_recorded.specs.Differences.{Ascends, alone_at, appeared_at, balance_at, balance_of, change_key, gone_at, low_at, turn_key}
 pub use Rattle.cil_recorded.specs.Log.{IsTurned, falls, has_line, hit_at, turned_by, turned_in}
 pub use Rattle.cil_recorded.specs.Recorded.{AreLeft, HasCount, count_before, count_in, count_now, limit_in, limit_now, lines_in, moved, spare, steps_in}
-pub use Rattle.std.specs.Prelude.{IfOk, IsTrue, MatchOption, OnErr, OnOk, count_ones, false, length, min, slice_index_or, true, ℕ, ◌%◌, ◌*◌, ◌+◌, ◌-◌, ◌/◌, ◌<◌, ◌^◌, ◌↔◌, ◌≡◌, ◌≢◌, ◌≤◌, ◌⊎◌}

@@ -1,6 +1,7 @@
 //! Lines of counters with a log of the steps since the last settling.
 
-ghost use Rattle.cil_recorded.specs.Common.{◌≡◌, ◌↔◌, ℕ, ◌+◌, ◌-◌, ◌*◌, ◌<◌, ◌≤◌, ◌^◌, false, min, count_ones, IsTrue, MatchOption, OnErr, OnOk, CanLower, CanRaise, falls, hit_at, IsTurned, count_before, count_now, limit_now, lines_in, moved, spare, steps_in, AreLeft};
+ghost use Rattle.std.specs.Prelude.{◌≡◌, ◌↔◌, ℕ, ◌+◌, ◌-◌, ◌*◌, ◌<◌, ◌≤◌, ◌^◌, false, min, count_ones, IsTrue, MatchOption, OnErr, OnOk};
+ghost use Rattle.cil_recorded.specs.Common.{CanLower, CanRaise, falls, hit_at, IsTurned, count_before, count_now, limit_now, lines_in, moved, spare, steps_in, AreLeft};
 ghost use Rattle.cil_lines.specs.Line.{IsPresence, IsSingle, IsNextPresent, NonePresent};
 
 mod changes;

@@ -1,6 +1,7 @@
 //! How often steps let targets appear and go.
 
-ghost use Rattle.cil_recorded.specs.Common.{◌≡◌, ◌≢◌, true, false, ℕ, ◌+◌, ◌%◌, ◌≤◌, ◌^◌, IfOk, OnErr, OnOk, balance_at, balance_of, turn_key, Ascends, turned_by, turned_in};
+ghost use Rattle.std.specs.Prelude.{◌≡◌, ◌≢◌, true, false, ℕ, ◌+◌, ◌%◌, ◌≤◌, ◌^◌, IfOk, OnErr, OnOk};
+ghost use Rattle.cil_recorded.specs.Common.{balance_at, balance_of, turn_key, Ascends, turned_by, turned_in};
 ghost use Rattle.std.specs.List.Sorted.{IsNonDecreasingBy};
 
 use crate::step::Step;

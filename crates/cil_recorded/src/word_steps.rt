@@ -1,6 +1,7 @@
 //! Steps of a word of one of several lines.
 
-ghost use Rattle.cil_recorded.specs.Common.{◌≡◌, ℕ, ◌+◌, ◌<◌, ◌≤◌, ◌^◌, OnOk, length, CanLower, CanRaise, hit_at, count_in, limit_in};
+ghost use Rattle.std.specs.Prelude.{◌≡◌, ℕ, ◌+◌, ◌<◌, ◌≤◌, ◌^◌, OnOk, length};
+ghost use Rattle.cil_recorded.specs.Common.{CanLower, CanRaise, hit_at, count_in, limit_in};
 
 use cil_lines::Line;
 use std::alloc::{AllocError, Allocator};

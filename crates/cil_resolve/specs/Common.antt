@@ -35,4 +35,3 @@ pub use Rattle.cil_specs.specs.Violations.{rule_cmp}
 pub use Rattle.std.specs.List.{AllByRecursion, IsDistinct, list_all, prefix_len}
 pub use Rattle.std.specs.List.Sorted.{IsStrictlySortedBy}
 pub use Rattle.std.specs.Option.{option_and_then, option_to_list}
-pub use Rattle.std.specs.Prelude.{AllPairs, Contains, IfErr, IfNone, IfOk, IfSome, IsTrue, List, None, OnOk, Some, [], bytes_eq, false, fold, is_some, length, map, min, option_map, slice_get, slice_index_or, take, ℕ, ◌++◌, ◌+◌, ◌-◌, ◌<◌, ◌^◌, ◌||◌, ◌↔◌, ◌∷◌, ◌≡◌, ◌≤◌, ◌⊎◌}

@@ -1,6 +1,7 @@
 //! The optionals that drop.
 
-ghost use Rattle.cil_resolve.specs.Common.{◌≡◌, ◌<◌, ◌++◌, ℕ, List, [], Some, map, length, slice_get, IfOk, OnOk, IsTrue, Placed, Optionals, dropped_of, scopes, declared_as, is_optional, named, IsBoundTo, space_text, modules_of, dropped_with};
+ghost use Rattle.std.specs.Prelude.{◌≡◌, ◌<◌, ◌++◌, ℕ, List, [], Some, map, length, slice_get, IfOk, OnOk, IsTrue};
+ghost use Rattle.cil_resolve.specs.Common.{Placed, Optionals, dropped_of, scopes, declared_as, is_optional, named, IsBoundTo, space_text, modules_of, dropped_with};
 ghost use Rattle.cil_resolve.specs.Dropped.{mark_of, dropped_if, HaveMarks};
 
 use crate::full_names::{full_name, space_names};

@@ -1,6 +1,7 @@
 //! What names of rules stand for.
 
-ghost use Rattle.cil_resolve.specs.Common.{◌≡◌, ◌<◌, ℕ, List, Some, slice_get, slice_index_or, length, is_some, IfOk, IsTrue, Word, Placed, IsLead, IsFirstOf, IsOf, IsNoted, IsFaultless, IsElement, HaveElements, is_set, HavePlaces};
+ghost use Rattle.std.specs.Prelude.{◌≡◌, ◌<◌, ℕ, List, Some, slice_get, slice_index_or, length, is_some, IfOk, IsTrue};
+ghost use Rattle.cil_resolve.specs.Common.{Word, Placed, IsLead, IsFirstOf, IsOf, IsNoted, IsFaultless, IsElement, HaveElements, is_set, HavePlaces};
 ghost use Rattle.cil_specs.specs.Lookup.{Table, types, leads, references, actual_statement, actual_of as actual_led};
 ghost use Rattle.cil_specs.specs.Rule.{element_at as element_led};
 ghost use Rattle.cil_expression.specs.declared.expression.Element.TheVariants.{«Type»};

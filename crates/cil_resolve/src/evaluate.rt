@@ -1,6 +1,7 @@
 //! Evaluation of set statements at types.
 
-ghost use Rattle.cil_resolve.specs.Common.{◌≡◌, ◌<◌, ◌+◌, ◌-◌, ◌^◌, IfSome, false, min, map, length, slice_get, Some, None, IsTrue, [], option_map, list_all, leaves, SetStatement, keeps_type, is_in, holds_by, is_element_below, evaluations_in, adjustments_in, element_of, meaning_in, name_in, sets_in, IsAnswer, TellsMembers};
+ghost use Rattle.std.specs.Prelude.{◌≡◌, ◌<◌, ◌+◌, ◌-◌, ◌^◌, IfSome, false, min, map, length, slice_get, Some, None, IsTrue, [], option_map};
+ghost use Rattle.cil_resolve.specs.Common.{list_all, leaves, SetStatement, keeps_type, is_in, holds_by, is_element_below, evaluations_in, adjustments_in, element_of, meaning_in, name_in, sets_in, IsAnswer, TellsMembers};
 
 use crate::meter::Meter;
 use crate::resolved::Resolved;

@@ -1,6 +1,7 @@
 //! The full names of what a policy declares.
 
-ghost use Rattle.cil_resolve.specs.Common.{◌≡◌, ◌<◌, ◌++◌, ◌∷◌, ℕ, List, [], map, take, length, slice_get, slice_index_or, Some, IfOk, OnOk, Word, Placed, named, namespace_at, IsOf, IsSeen, Reads, space_text, numbered_id, is_numbered_kind, full_name_of};
+ghost use Rattle.std.specs.Prelude.{◌≡◌, ◌<◌, ◌++◌, ◌∷◌, ℕ, List, [], map, take, length, slice_get, slice_index_or, Some, IfOk, OnOk};
+ghost use Rattle.cil_resolve.specs.Common.{Word, Placed, named, namespace_at, IsOf, IsSeen, Reads, space_text, numbered_id, is_numbered_kind, full_name_of};
 ghost use Rattle.cil_bind.specs.Rows.{AreNumbered};
 ghost use Rattle.cil_resolve.specs.FullNames.{name_in};
 

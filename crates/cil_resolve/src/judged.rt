@@ -1,6 +1,7 @@
 //! What a policy keeps.
 
-ghost use Rattle.cil_resolve.specs.Common.{◌≡◌, List, IfOk, IfErr, IsFirstFault, PolicyFaultIs, IsFoundFault, fault_of, AreJudged, IsJudged, IsWhole, AreParsedFrom};
+ghost use Rattle.std.specs.Prelude.{◌≡◌, List, IfOk, IfErr};
+ghost use Rattle.cil_resolve.specs.Common.{IsFirstFault, PolicyFaultIs, IsFoundFault, fault_of, AreJudged, IsJudged, IsWhole, AreParsedFrom};
 ghost use Rattle.cil_specs.specs.Joined.{Module, Placed, joined as joined_policy};
 
 use crate::dropped::dropped_optionals;

@@ -1,6 +1,7 @@
 //! The numbers of permissions that are known, while statements are lowered.
 
-ghost use Rattle.cil_resolve.specs.Common.{◌≡◌, ◌<◌, ◌⊎◌, ℕ, List, length, slice_index_or, Some, None, IfSome, OnOk, known_at};
+ghost use Rattle.std.specs.Prelude.{◌≡◌, ◌<◌, ◌⊎◌, ℕ, List, length, slice_index_or, Some, None, IfSome, OnOk};
+ghost use Rattle.cil_resolve.specs.Common.{known_at};
 
 use crate::permission_numbers::PermissionNumbers;
 use std::alloc::{AllocError, Allocator, Global};

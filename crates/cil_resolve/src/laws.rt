@@ -1,6 +1,7 @@
 //! Laws of the definitions. They have no code.
 
-ghost use Rattle.cil_resolve.specs.Common.{◌≡◌, ◌<◌, ◌≤◌, ◌^◌, ℕ, false, List, AllPairs, Contains, IsTrue, is_some, length, IsStrictlySortedBy, Expr, leaves, Placed, Table, has_name, leads, Optionals, restricted, IsWithin, IsGood, AreKept, AreApart, Meaning, Means, keeps_type, is_in, holds, is_member, keeps_attribute, HasSoundSets, Element, rule_cmp, holds_by, StandApart, meaning_in, sets_in};
+ghost use Rattle.std.specs.Prelude.{◌≡◌, ◌<◌, ◌≤◌, ◌^◌, ℕ, false, List, AllPairs, Contains, IsTrue, is_some, length};
+ghost use Rattle.cil_resolve.specs.Common.{IsStrictlySortedBy, Expr, leaves, Placed, Table, has_name, leads, Optionals, restricted, IsWithin, IsGood, AreKept, AreApart, Meaning, Means, keeps_type, is_in, holds, is_member, keeps_attribute, HasSoundSets, Element, rule_cmp, holds_by, StandApart, meaning_in, sets_in};
 ghost use Rattle.cil_specs.specs.Dependence.{AreInOrder, AreTheSame};
 ghost use Rattle.cil_specs.specs.Sets.{holds_with, mentions};
 ghost use Rattle.cil_resolve.specs.Consistent.{is_consistent};

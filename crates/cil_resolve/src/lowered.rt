@@ -1,6 +1,7 @@
 //! What a policy without faults resolves to.
 
-ghost use Rattle.cil_resolve.specs.Common.{◌≡◌, List, map, slice_index_or, IfOk, Placed, meaning_of, IsNoted, IsFaultless, modules_of, dropped_with, meaning_in};
+ghost use Rattle.std.specs.Prelude.{◌≡◌, List, map, slice_index_or, IfOk};
+ghost use Rattle.cil_resolve.specs.Common.{Placed, meaning_of, IsNoted, IsFaultless, modules_of, dropped_with, meaning_in};
 
 use crate::elements::elements;
 use crate::lowering::Lowering;

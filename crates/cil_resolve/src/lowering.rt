@@ -1,6 +1,7 @@
 //! A policy without faults by the numbers of its names.
 
-ghost use Rattle.cil_resolve.specs.Common.{◌≡◌, ◌<◌, ◌++◌, ◌∷◌, ℕ, List, [], Some, fold, map, length, slice_get, slice_index_or, Contains, IsTrue, IfOk, OnOk, list_all, option_to_list, Word, WordExpr, leaves, map_leaves, attribute_set, Placed, types, classes, commons, leads, references, texts, has_name, with_name, own_permissions, distinct, permissions_of, read, texts_of, IsLead, IsOneName, is_numbered, IsElement, IsLowering, IsIn, IsDeclared, IsClass, AreElements, IsSet, IsExpression, AreSets, AreRules, ArePartsOf, common_of, modules_of, set_if, rule_if, KnowNumbers, list_at, AreNumbersIn, listed_names, number_in};
+ghost use Rattle.std.specs.Prelude.{◌≡◌, ◌<◌, ◌++◌, ◌∷◌, ℕ, List, [], Some, fold, map, length, slice_get, slice_index_or, Contains, IsTrue, IfOk, OnOk};
+ghost use Rattle.cil_resolve.specs.Common.{list_all, option_to_list, Word, WordExpr, leaves, map_leaves, attribute_set, Placed, types, classes, commons, leads, references, texts, has_name, with_name, own_permissions, distinct, permissions_of, read, texts_of, IsLead, IsOneName, is_numbered, IsElement, IsLowering, IsIn, IsDeclared, IsClass, AreElements, IsSet, IsExpression, AreSets, AreRules, ArePartsOf, common_of, modules_of, set_if, rule_if, KnowNumbers, list_at, AreNumbersIn, listed_names, number_in};
 ghost use Rattle.cil_specs.specs.PolicyFault.{element_words};
 ghost use Rattle.cil_specs.specs.Rule.{element_of as element_led, class_name, is_class, name_or_none};
 ghost use Rattle.cil_parse.specs.Forms.{kind_of, permissions_in};

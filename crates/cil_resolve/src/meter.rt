@@ -1,6 +1,7 @@
 //! Counts of work.
 
-ghost use Rattle.cil_resolve.specs.Common.{◌≡◌, ◌+◌, ◌-◌, ◌^◌, min, evaluations_in, adjustments_in};
+ghost use Rattle.std.specs.Prelude.{◌≡◌, ◌+◌, ◌-◌, ◌^◌, min};
+ghost use Rattle.cil_resolve.specs.Common.{evaluations_in, adjustments_in};
 
 /// Two counts of work: how often a set statement was evaluated at a type, and how often the count of an access was adjusted. A count
 /// stays at the greatest u128 where it would pass it.

@@ -1,6 +1,7 @@
 //! The names of a policy in their order.
 
-ghost use Rattle.cil_resolve.specs.Common.{◌≡◌, IsTrue, Some, IfOk, has_name, number_in};
+ghost use Rattle.std.specs.Prelude.{◌≡◌, IsTrue, Some, IfOk};
+ghost use Rattle.cil_resolve.specs.Common.{has_name, number_in};
 
 use crate::text::Text;
 use cil_names::Names;

@@ -1,6 +1,7 @@
 //! The names of a policy, and their numbers.
 
-ghost use Rattle.cil_resolve.specs.Common.{◌≡◌, ◌<◌, ◌++◌, ◌||◌, ℕ, List, [], fold, map, length, slice_get, slice_index_or, bytes_eq, IsTrue, Some, IfOk, OnOk, AllByRecursion, IsDistinct, Word, Placed, has_name, with_name, texts, names_rise, read, IsOf, IsSeen, IsOneName, full_name_of, is_numbered_kind, names_with, AreNamesOf, HavePlaces, HavePermissions, HavePermissionsOf};
+ghost use Rattle.std.specs.Prelude.{◌≡◌, ◌<◌, ◌++◌, ◌||◌, ℕ, List, [], fold, map, length, slice_get, slice_index_or, bytes_eq, IsTrue, Some, IfOk, OnOk};
+ghost use Rattle.cil_resolve.specs.Common.{AllByRecursion, IsDistinct, Word, Placed, has_name, with_name, texts, names_rise, read, IsOf, IsSeen, IsOneName, full_name_of, is_numbered_kind, names_with, AreNamesOf, HavePlaces, HavePermissions, HavePermissionsOf};
 ghost use Rattle.cil_parse.specs.Lexicon.{AreNumbersOf};
 ghost use Rattle.cil_parse.specs.Parsed.{texts_of, names_of as module_names};
 ghost use Rattle.cil_check.specs.Permissions.{lists_own as is_listing};

@@ -1,6 +1,7 @@
 //! What a joined policy resolves to.
 
-ghost use Rattle.cil_resolve.specs.Common.{◌<◌, ◌^◌, AllPairs, IsTrue, length, map, list_all, IsStrictlySortedBy, names_rise, is_rule_below, is_name_below, is_class_below, is_set_below, HasSoundSets, rule_cmp, StandApart, AreConsistent, meaning_by, rule_of, set_of};
+ghost use Rattle.std.specs.Prelude.{◌<◌, ◌^◌, AllPairs, IsTrue, length, map};
+ghost use Rattle.cil_resolve.specs.Common.{list_all, IsStrictlySortedBy, names_rise, is_rule_below, is_name_below, is_class_below, is_set_below, HasSoundSets, rule_cmp, StandApart, AreConsistent, meaning_by, rule_of, set_of};
 ghost use Rattle.std.proofs.Props.{props};
 
 use crate::numbered::{DroppedOptional, NumberedClass, NumberedName, NumberedRule};

@@ -1,6 +1,7 @@
 //! Resolves a joined policy.
 
-ghost use Rattle.cil_resolve.specs.Common.{◌≡◌, List, IfOk, IfErr, Optionals, IsFirstFault, Means, IsNoted, PolicyFaultIs, IsFaultIn, IsFaultless, IsInOrder, AreParsedFrom, meaning_in};
+ghost use Rattle.std.specs.Prelude.{◌≡◌, List, IfOk, IfErr};
+ghost use Rattle.cil_resolve.specs.Common.{Optionals, IsFirstFault, Means, IsNoted, PolicyFaultIs, IsFaultIn, IsFaultless, IsInOrder, AreParsedFrom, meaning_in};
 ghost use Rattle.cil_specs.specs.Joined.{Module, Placed, joined as joined_policy};
 ghost use Rattle.cil_bind.specs.Ordered.{IsLeast};
 

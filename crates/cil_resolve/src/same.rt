@@ -1,6 +1,7 @@
 //! Set statements that are the same as resolved.
 
-ghost use Rattle.cil_resolve.specs.Common.{◌≡◌, ◌↔◌, Some, None, false, IsTrue, slice_get, SetStatement, IsSameSet, element_of, set_of, sets_in};
+ghost use Rattle.std.specs.Prelude.{◌≡◌, ◌↔◌, Some, None, false, IsTrue, slice_get};
+ghost use Rattle.cil_resolve.specs.Common.{SetStatement, IsSameSet, element_of, set_of, sets_in};
 ghost use Rattle.cil_resolve.specs.Same.{same_element, same_set};
 
 use crate::numbered::NumberedSet;

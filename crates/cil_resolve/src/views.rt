@@ -1,6 +1,7 @@
 //! What is read of a resolved policy. It takes no memory.
 
-ghost use Rattle.cil_resolve.specs.Common.{◌≡◌, ◌<◌, ◌↔◌, false, Some, IfNone, IfSome, IsTrue, [], length, slice_get, slice_index_or, option_map, list_all, prefix_len, option_and_then, has_name, name_cmp, names_rise, is_rule_below, element_of, resolved_target_of, meaning_in, name_in, sets_in};
+ghost use Rattle.std.specs.Prelude.{◌≡◌, ◌<◌, ◌↔◌, false, Some, IfNone, IfSome, IsTrue, [], length, slice_get, slice_index_or, option_map};
+ghost use Rattle.cil_resolve.specs.Common.{list_all, prefix_len, option_and_then, has_name, name_cmp, names_rise, is_rule_below, element_of, resolved_target_of, meaning_in, name_in, sets_in};
 ghost use Rattle.std.specs.Ordering.{is_lt};
 ghost use Rattle.cil_resolve.specs.Views.{declared_seen, class_seen, class_head, element_seen, resolved_target_seen, rule_seen, rule_head, set_seen, set_head};
 

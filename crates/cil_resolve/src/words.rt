@@ -1,6 +1,7 @@
 //! Words of statements.
 
-ghost use Rattle.cil_resolve.specs.Common.{◌≡◌, ℕ, List, Some, slice_index_or, Word, read, texts_of};
+ghost use Rattle.std.specs.Prelude.{◌≡◌, ℕ, List, Some, slice_index_or};
+ghost use Rattle.cil_resolve.specs.Common.{Word, read, texts_of};
 ghost use Rattle.cil_check.specs.Permissions.{lists_own as is_listing};
 
 use cil_check::Seen;

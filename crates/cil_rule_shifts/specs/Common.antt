@@ -5,4 +5,3 @@ pub use Rattle.cil_rule_shifts.specs.Pieces.{AreApart, ArePieces, has_target, pu
 pub use Rattle.cil_rule_shifts.specs.Reach.{AreShort, IsMask, IsNext, IsNextWord, IsShort, NoneFrom, NoneFromWord, gives, has_source, is_line, is_present, one_if, reaches, takes}
 pub use Rattle.cil_sums.specs.Rises.{RisesBy}
 pub use Rattle.std.specs.List.Sorted.{IsStrictlyIncreasing}
-pub use Rattle.std.specs.Prelude.{Bool, IfOk, IfSome, MatchOption, OnOk, false, true, ℕ, ◌&&◌, ◌+◌, ◌/◌, ◌<◌, ◌==◌, ◌^◌, ◌||◌, ◌≡◌, ◌≤◌}

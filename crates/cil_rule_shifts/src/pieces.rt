@@ -1,6 +1,7 @@
 //! The targets of a source, word by word.
 
-ghost use Rattle.cil_rule_shifts.specs.Common.{◌≡◌, ℕ, IfOk, has_target, ArePieces, takes, AreShort};
+ghost use Rattle.std.specs.Prelude.{◌≡◌, ℕ, IfOk};
+ghost use Rattle.cil_rule_shifts.specs.Common.{has_target, ArePieces, takes, AreShort};
 
 use crate::targets::Targets;
 use std::alloc::{AllocError, Allocator, Global};

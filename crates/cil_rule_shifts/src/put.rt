@@ -1,6 +1,7 @@
 //! The counters of keyed lines, raised by what a rule gives, for good.
 
-ghost use Rattle.cil_rule_shifts.specs.Common.{◌≡◌, ◌+◌, ◌&&◌, ℕ, false, IfOk, OnOk, IsStrictlyIncreasing, count_now, is_key, steps_in, RiseAtMost, has_target, put_for, AreApart, ArePieces, gives, is_line, one_if, takes, AreShort, IsShort, RisesBy};
+ghost use Rattle.std.specs.Prelude.{◌≡◌, ◌+◌, ◌&&◌, ℕ, false, IfOk, OnOk};
+ghost use Rattle.cil_rule_shifts.specs.Common.{IsStrictlyIncreasing, count_now, is_key, steps_in, RiseAtMost, has_target, put_for, AreApart, ArePieces, gives, is_line, one_if, takes, AreShort, IsShort, RisesBy};
 
 use crate::head::RuleHead;
 use crate::pieces::{Piece, Pieces, pieces_of};

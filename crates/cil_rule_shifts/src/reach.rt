@@ -1,6 +1,7 @@
 //! What a rule reaches.
 
-ghost use Rattle.cil_rule_shifts.specs.Common.{◌≡◌, ◌≤◌, ◌^◌, ℕ, false, true, MatchOption, has_either, has_source, is_present, IsMask, IsNext, IsNextWord, IsShort, NoneFrom, NoneFromWord};
+ghost use Rattle.std.specs.Prelude.{◌≡◌, ◌≤◌, ◌^◌, ℕ, false, true, MatchOption};
+ghost use Rattle.cil_rule_shifts.specs.Common.{has_either, has_source, is_present, IsMask, IsNext, IsNextWord, IsShort, NoneFrom, NoneFromWord};
 
 use crate::targets::Targets;
 use crate::words::earlier;

@@ -1,6 +1,7 @@
 //! The counters of keyed lines, moved from what a rule gave to what it gives.
 
-ghost use Rattle.cil_rule_shifts.specs.Common.{◌≡◌, ◌+◌, ◌≤◌, ◌<◌, ◌^◌, ◌/◌, ◌&&◌, ◌||◌, ◌==◌, ℕ, false, true, IfOk, IfSome, OnOk, IsStrictlyIncreasing, count_before, count_now, is_key, RiseAtMost, moves_for, moves_in, moves_of, moves_where, AreTurned, AreTurnedForAll, gives, is_line, one_if, reaches, takes, AreShort, IsShort, RisesBy};
+ghost use Rattle.std.specs.Prelude.{◌≡◌, ◌+◌, ◌≤◌, ◌<◌, ◌^◌, ◌/◌, ◌&&◌, ◌||◌, ◌==◌, ℕ, false, true, IfOk, IfSome, OnOk};
+ghost use Rattle.cil_rule_shifts.specs.Common.{IsStrictlyIncreasing, count_before, count_now, is_key, RiseAtMost, moves_for, moves_in, moves_of, moves_where, AreTurned, AreTurnedForAll, gives, is_line, one_if, reaches, takes, AreShort, IsShort, RisesBy};
 
 use crate::head::RuleHead;
 use crate::reach::{Reach, next_source};

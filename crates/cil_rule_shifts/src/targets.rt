@@ -1,6 +1,7 @@
 //! The targets of a rule.
 
-ghost use Rattle.cil_rule_shifts.specs.Common.{◌≡◌, ◌/◌, ◌^◌, ◌==◌, ◌<◌, ◌&&◌, ℕ, MatchOption, one_if, takes, IsNextWord, NoneFromWord};
+ghost use Rattle.std.specs.Prelude.{◌≡◌, ◌/◌, ◌^◌, ◌==◌, ◌<◌, ◌&&◌, ℕ, MatchOption};
+ghost use Rattle.cil_rule_shifts.specs.Common.{one_if, takes, IsNextWord, NoneFromWord};
 ghost use Rattle.cil_lines.specs.Line.{hit};
 
 use cil_lines::Line;

@@ -1,6 +1,7 @@
 //! The words in which the targets that sources had differ from those that they have.
 
-ghost use Rattle.cil_rule_shifts.specs.Common.{◌≡◌, ◌==◌, ℕ, true, false, IfOk, IfSome, AreTurned, AreTurnedForAll, HasNone, takes, AreShort};
+ghost use Rattle.std.specs.Prelude.{◌≡◌, ◌==◌, ℕ, true, false, IfOk, IfSome};
+ghost use Rattle.cil_rule_shifts.specs.Common.{AreTurned, AreTurnedForAll, HasNone, takes, AreShort};
 
 use crate::targets::Targets;
 use crate::words::next_word;

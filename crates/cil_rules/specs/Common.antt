@@ -9,5 +9,4 @@ pub use Rattle.cil_specs.specs.Report.{AreAtoms, AreRows, Row, is_listed, names_
 pub use Rattle.cil_stream.specs.Device.{Gains, GainsFront, HasFailed}
 pub use Rattle.cil_text.specs.Image.{rule_kind_of}
 pub use Rattle.std.specs.List.{All, flat_map}
-pub use Rattle.std.specs.Prelude.{Bool, IfOk, IsTrue, List, OnErr, OnOk, [], codes, length, map, option_map, slice_get, ◌++◌, ◌+◌, ◌<◌, ◌==◌, ◌^◌, ◌∷◌, ◌≡◌, ◌≤◌}
 pub use Rattle.std.specs.Rc.{rc_value}

@@ -1,6 +1,7 @@
 //! The changes between two access tables.
 
-ghost use Rattle.cil_rules.specs.Common.{◌≡◌, length, map, slice_get, option_map, IfOk, atom_of, atom_at, AreNumbered};
+ghost use Rattle.std.specs.Prelude.{◌≡◌, length, map, slice_get, option_map, IfOk};
+ghost use Rattle.cil_rules.specs.Common.{atom_of, atom_at, AreNumbered};
 
 use crate::atom::Atom;
 use crate::name_list::NameList;

@@ -1,6 +1,7 @@
 //! Writes rows as lines.
 
-ghost use Rattle.cil_rules.specs.Common.{◌≡◌, ◌<◌, ◌≤◌, ◌++◌, length, map, codes, IsTrue, OnOk, OnErr, IfOk, All, flat_map, row_line, HasFailed, Gains, GainsFront, rule_kind_of, IsWithin, accesses_in, has_bit, atom_at, AreNumbered, rows_of, row_head, name_text, chunk_text, row_at, row_of};
+ghost use Rattle.std.specs.Prelude.{◌≡◌, ◌<◌, ◌≤◌, ◌++◌, length, map, codes, IsTrue, OnOk, OnErr, IfOk};
+ghost use Rattle.cil_rules.specs.Common.{All, flat_map, row_line, HasFailed, Gains, GainsFront, rule_kind_of, IsWithin, accesses_in, has_bit, atom_at, AreNumbered, rows_of, row_head, name_text, chunk_text, row_at, row_of};
 ghost use Rattle.cil_specs.specs.Statements.{rule_word};
 
 use crate::numbers::{is_listed, named};

@@ -1,6 +1,7 @@
 //! Names that several owners share.
 
-ghost use Rattle.cil_rules.specs.Common.{◌≡◌, [], IfOk, rc_value};
+ghost use Rattle.std.specs.Prelude.{◌≡◌, [], IfOk};
+ghost use Rattle.cil_rules.specs.Common.{rc_value};
 
 use cil_resolve::{Resolved, Text};
 use std::alloc::{AllocError, Allocator, Global};

@@ -1,6 +1,7 @@
 //! Accesses by numbers.
 
-ghost use Rattle.cil_rules.specs.Common.{◌≡◌, ◌≤◌, ◌^◌, length, IfOk, OnErr, is_listed, rule_kind_of, IsWithin, atom_of, atom_at};
+ghost use Rattle.std.specs.Prelude.{◌≡◌, ◌≤◌, ◌^◌, length, IfOk, OnErr};
+ghost use Rattle.cil_rules.specs.Common.{is_listed, rule_kind_of, IsWithin, atom_of, atom_at};
 
 use crate::atom::Atom;
 use cil_accesses::AccessNumbers;

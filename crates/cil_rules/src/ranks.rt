@@ -1,6 +1,7 @@
 //! The common order of two lists of names.
 
-ghost use Rattle.cil_rules.specs.Common.{◌≡◌, ◌+◌, ◌<◌, ◌≤◌, [], ◌∷◌, ◌++◌, length, IfOk, IsTrue, OnOk, names_rise};
+ghost use Rattle.std.specs.Prelude.{◌≡◌, ◌+◌, ◌<◌, ◌≤◌, [], ◌∷◌, ◌++◌, length, IfOk, IsTrue, OnOk};
+ghost use Rattle.cil_rules.specs.Common.{names_rise};
 ghost use Rattle.cil_rules.specs.Ranks.{IsMerged, IsNext};
 
 use crate::numbers::number;

@@ -1,6 +1,7 @@
 //! The rows of the listing, owned.
 
-ghost use Rattle.cil_rules.specs.Common.{◌≡◌, ◌<◌, ◌≤◌, ◌==◌, [], ◌∷◌, ◌++◌, length, map, slice_get, option_map, IfOk, OnOk, OnErr, All, flat_map, row_line, HasFailed, Gains, GainsFront, accesses_in, at_bit, atom_at, AreNumbered, rows_of, row_of, row_by, numbered_row, line_by, IsNumberedRow, AreNumberedRows};
+ghost use Rattle.std.specs.Prelude.{◌≡◌, ◌<◌, ◌≤◌, ◌==◌, [], ◌∷◌, ◌++◌, length, map, slice_get, option_map, IfOk, OnOk, OnErr};
+ghost use Rattle.cil_rules.specs.Common.{All, flat_map, row_line, HasFailed, Gains, GainsFront, accesses_in, at_bit, atom_at, AreNumbered, rows_of, row_of, row_by, numbered_row, line_by, IsNumberedRow, AreNumberedRows};
 
 use crate::listing::write_row_line;
 use crate::name_list::NameList;

@@ -1,6 +1,7 @@
 //! The access table.
 
-ghost use Rattle.cil_rules.specs.Common.{◌≡◌, ◌≤◌, ◌==◌, Bool, List, [], length, map, slice_get, option_map, IfOk, OnErr, flat_map, rc_value, AreAtoms, Row, AreRows, row_line, HasFailed, Gains, GainsFront, atom_at, atom_of, AreNumbered};
+ghost use Rattle.std.specs.Prelude.{◌≡◌, ◌≤◌, ◌==◌, Bool, List, [], length, map, slice_get, option_map, IfOk, OnErr};
+ghost use Rattle.cil_rules.specs.Common.{flat_map, rc_value, AreAtoms, Row, AreRows, row_line, HasFailed, Gains, GainsFront, atom_at, atom_of, AreNumbered};
 ghost use Rattle.cil_specs.specs.Rule as spec;
 
 use crate::atom::Atom;

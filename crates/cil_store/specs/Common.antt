@@ -20,5 +20,4 @@ pub use Rattle.cil_store_specs.specs.Store.{IsStore, Store, active, active_text,
 pub use Rattle.cil_stream.specs.Device.{Gains, GainsFront, HasFailed}
 pub use Rattle.std.specs.List.{list_all, list_any, prefix_len}
 pub use Rattle.std.specs.Ordering.{is_lt}
-pub use Rattle.std.specs.Prelude.{IfErr, IfOk, IfSome, IsErrOf, IsTrue, List, MatchResult, None, OnErr, OnOk, Option, Some, [], bytes_eq, false, find, flat_map, length, map, option_map, slice_get, slice_index_or, true, ℕ, ◌+◌, ◌<◌, ◌==◌, ◌^◌, ◌||◌, ◌↔◌, ◌∷◌, ◌≡◌, ◌≤◌, ◌⊎◌}
 pub use Rattle.std.specs.Rc.{rc_value}

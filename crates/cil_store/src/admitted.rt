@@ -1,6 +1,7 @@
 //! Edits that a store takes, as far as the store and their text go.
 
-ghost use Rattle.cil_store.specs.Common.{◌≡◌, ◌≤◌, None, length, IfErr, IfOk, OnOk, install, store_refusal, admitted_edit, IsAdmitted, edit_of, refusal_of, IsRefusedEdit, IsRefusedText};
+ghost use Rattle.std.specs.Prelude.{◌≡◌, ◌≤◌, None, length, IfErr, IfOk, OnOk};
+ghost use Rattle.cil_store.specs.Common.{install, store_refusal, admitted_edit, IsAdmitted, edit_of, refusal_of, IsRefusedEdit, IsRefusedText};
 
 use crate::edit::Edit;
 use crate::entry::Entry;

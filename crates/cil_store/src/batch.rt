@@ -1,6 +1,7 @@
 //! Batches: edits that are made as one.
 
-ghost use Rattle.cil_store.specs.Common.{◌≡◌, false, map, IfErr, IfOk, OnOk, meaning_in, edit_of, refusal_of, AreRefused, AreStopped, IsRefusedBatch, IsRefusedEdit, entry_of};
+ghost use Rattle.std.specs.Prelude.{◌≡◌, false, map, IfErr, IfOk, OnOk};
+ghost use Rattle.cil_store.specs.Common.{meaning_in, edit_of, refusal_of, AreRefused, AreStopped, IsRefusedBatch, IsRefusedEdit, entry_of};
 ghost use Rattle.cil_store_specs.specs.Next.{AreTaken, IsMeaningOf, IsTaken, install_of, is_too_long as is_too_long_for};
 
 use crate::admitted::admit;

@@ -1,6 +1,7 @@
 //! Engines that keep a store compiled.
 
-ghost use Rattle.cil_store.specs.Common.{◌≡◌, ◌≤◌, List, IfErr, IfOk, OnErr, IsErrOf, length, map, flat_map, HasFailed, Gains, GainsFront, Meaning, count_of, is_member, Row, row_line, atom_of, IsMeaningOf, a_batch, an_edit, AreRowsOf, AreViolationsOf, AreDroppedOf, Step, Violation, violations_text, batch_reply, IsCountedStep, IsRefusedStep, edit_of};
+ghost use Rattle.std.specs.Prelude.{◌≡◌, ◌≤◌, List, IfErr, IfOk, OnErr, IsErrOf, length, map, flat_map};
+ghost use Rattle.cil_store.specs.Common.{HasFailed, Gains, GainsFront, Meaning, count_of, is_member, Row, row_line, atom_of, IsMeaningOf, a_batch, an_edit, AreRowsOf, AreViolationsOf, AreDroppedOf, Step, Violation, violations_text, batch_reply, IsCountedStep, IsRefusedStep, edit_of};
 ghost use Rattle.cil_store_specs.specs.Store as spec;
 
 use crate::dropped::Dropped;

@@ -1,6 +1,7 @@
 //! A policy with its counters, changed in place.
 
-ghost use Rattle.cil_store.specs.Common.{◌≡◌, [], map, IfErr, IfOk, OnErr, OnOk, rc_value, count_of, is_in_table, meaning_of, is_member, AreAtoms, AreViolations, CountsSome, meaning_in, atom_of, listed, AreTaken, IsMeaningOf, install_of, empty, counted_meaning, AreCountedChanges, IsKept, refusal_of, AreRefused, entry_of};
+ghost use Rattle.std.specs.Prelude.{◌≡◌, [], map, IfErr, IfOk, OnErr, OnOk};
+ghost use Rattle.cil_store.specs.Common.{rc_value, count_of, is_in_table, meaning_of, is_member, AreAtoms, AreViolations, CountsSome, meaning_in, atom_of, listed, AreTaken, IsMeaningOf, install_of, empty, counted_meaning, AreCountedChanges, IsKept, refusal_of, AreRefused, entry_of};
 ghost use Rattle.cil_counters.specs.Counted.{steps_in, IsNow, WasBefore};
 
 use crate::batch::{installs, judge};

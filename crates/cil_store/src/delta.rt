@@ -1,6 +1,7 @@
 //! The engine that changes its counters in place.
 
-ghost use Rattle.cil_store.specs.Common.{◌≡◌, false, map, IfErr, IfOk, OnErr, OnOk, rc_value, Meaning, is_in_table, AreAtoms, CountsSome, meaning_in, listed, AreTaken, IsMeaningOf, Of, accepts, install_of, is_too_long, a_batch, an_edit, Step, empty, batch_reply, IsCountedStep, IsRefusedStep, counted_meaning, meaning_kept, AreCountedBetween, IsKept, IsKeptWhere, IsUncounted, edit_of, refusal_of, AreRefused, IsRefusedBatch, entry_of};
+ghost use Rattle.std.specs.Prelude.{◌≡◌, false, map, IfErr, IfOk, OnErr, OnOk};
+ghost use Rattle.cil_store.specs.Common.{rc_value, Meaning, is_in_table, AreAtoms, CountsSome, meaning_in, listed, AreTaken, IsMeaningOf, Of, accepts, install_of, is_too_long, a_batch, an_edit, Step, empty, batch_reply, IsCountedStep, IsRefusedStep, counted_meaning, meaning_kept, AreCountedBetween, IsKept, IsKeptWhere, IsUncounted, edit_of, refusal_of, AreRefused, IsRefusedBatch, entry_of};
 
 use crate::batch::judge_batch;
 use crate::compiled::{Compiled, WriteFault};

@@ -1,6 +1,7 @@
 //! The names that are disabled.
 
-ghost use Rattle.cil_store.specs.Common.{◌≡◌, [], ◌≤◌, ◌<◌, ◌↔◌, IsTrue, bytes_eq, length, slice_get, option_map, IfOk, OnOk, OnErr, list_any, prefix_len, is_lt, name_cmp, put_name, without_name};
+ghost use Rattle.std.specs.Prelude.{◌≡◌, [], ◌≤◌, ◌<◌, ◌↔◌, IsTrue, bytes_eq, length, slice_get, option_map, IfOk, OnOk, OnErr};
+ghost use Rattle.cil_store.specs.Common.{list_any, prefix_len, is_lt, name_cmp, put_name, without_name};
 ghost use Rattle.cil_specs.proofs.SearchLemmas.{IsTiedAt};
 
 use cil_resolve::Text;

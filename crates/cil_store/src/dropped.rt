@@ -1,6 +1,7 @@
 //! The optionals that drop, owned.
 
-ghost use Rattle.cil_store.specs.Common.{◌≡◌, ◌==◌, [], length, slice_get, option_map, IfOk, meaning_in};
+ghost use Rattle.std.specs.Prelude.{◌≡◌, ◌==◌, [], length, slice_get, option_map, IfOk};
+ghost use Rattle.cil_store.specs.Common.{meaning_in};
 ghost use Rattle.cil_resolve.specs.Views.{declared_seen};
 
 use cil_resolve::{NameView, Resolved, Text};

@@ -1,6 +1,7 @@
 //! Edits of the store.
 
-ghost use Rattle.cil_store.specs.Common.{◌≡◌, ◌≤◌, edit_of, name_of, priority_of};
+ghost use Rattle.std.specs.Prelude.{◌≡◌, ◌≤◌};
+ghost use Rattle.cil_store.specs.Common.{edit_of, name_of, priority_of};
 ghost use Rattle.cil_store_specs.specs.Next.{held_bytes as held_in};
 
 /// The most bytes that a batch counts of a text: one more than a store takes of one.

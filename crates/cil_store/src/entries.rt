@@ -1,6 +1,7 @@
 //! The entries of a store, in order.
 
-ghost use Rattle.cil_store.specs.Common.{◌≡◌, ◌+◌, ◌≤◌, ◌<◌, ◌↔◌, ◌^◌, [], ℕ, List, IsTrue, bytes_eq, find, length, option_map, IfOk, OnOk, OnErr, prefix_len, is_lt, name_cmp, entry_cmp, has_entry, has_room, is_installed, put, text_bytes, without, entry_at, entry_of};
+ghost use Rattle.std.specs.Prelude.{◌≡◌, ◌+◌, ◌≤◌, ◌<◌, ◌↔◌, ◌^◌, [], ℕ, List, IsTrue, bytes_eq, find, length, option_map, IfOk, OnOk, OnErr};
+ghost use Rattle.cil_store.specs.Common.{prefix_len, is_lt, name_cmp, entry_cmp, has_entry, has_room, is_installed, put, text_bytes, without, entry_at, entry_of};
 ghost use Rattle.cil_specs.proofs.SearchLemmas.{IsTiedAt};
 
 use crate::entry::{Entry, StoredEntry};

@@ -1,6 +1,7 @@
 //! The entries of a store.
 
-ghost use Rattle.cil_store.specs.Common.{◌≡◌, IfOk, bytes_eq, length, is_lt, IsParsed, entry_cmp, is_entry, entry_at};
+ghost use Rattle.std.specs.Prelude.{◌≡◌, IfOk, bytes_eq, length};
+ghost use Rattle.cil_store.specs.Common.{is_lt, IsParsed, entry_cmp, is_entry, entry_at};
 
 use crate::edit::Edit;
 use cil_parse::ParsedModule;

@@ -1,6 +1,7 @@
 //! Joins the parsed modules that a store compiles.
 
-ghost use Rattle.cil_store.specs.Common.{IfOk, active, AreParsedOf};
+ghost use Rattle.std.specs.Prelude.{IfOk};
+ghost use Rattle.cil_store.specs.Common.{active, AreParsedOf};
 
 use crate::modules::Store;
 use cil_resolve::{Joined, NamedModule};

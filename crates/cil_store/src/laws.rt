@@ -1,6 +1,7 @@
 //! Laws of the definitions, which make the contracts of engines exact. They have no code.
 
-ghost use Rattle.cil_store.specs.Common.{◌≡◌, ◌⊎◌, ◌∷◌, [], ℕ, List, map, true, false, IsTrue, list_all, Meaning, meaning_of, Changes, Edit, Refusal, for_memory, Judgement, IsMeaningOf, IsPolicyOf, IsPolicyRefusal, accepts, is_too_long, Next, NextOfAll, Call, a_batch, an_edit, Reply, changed_by, refused, Step, Run, is_answered, Store, IsStore, empty};
+ghost use Rattle.std.specs.Prelude.{◌≡◌, ◌⊎◌, ◌∷◌, [], ℕ, List, map, true, false, IsTrue};
+ghost use Rattle.cil_store.specs.Common.{list_all, Meaning, meaning_of, Changes, Edit, Refusal, for_memory, Judgement, IsMeaningOf, IsPolicyOf, IsPolicyRefusal, accepts, is_too_long, Next, NextOfAll, Call, a_batch, an_edit, Reply, changed_by, refused, Step, Run, is_answered, Store, IsStore, empty};
 ghost use Rattle.cil_specs.specs.Joined.{Placed};
 ghost use Rattle.cil_specs.specs.Kept.{AreApart};
 ghost use Rattle.cil_store_specs.specs.Limits.{IsWithinLimits, HasGoodTexts};

@@ -1,6 +1,7 @@
 //! The modules of a store.
 
-ghost use Rattle.cil_store.specs.Common.{◌≡◌, ◌<◌, ◌==◌, [], Option, Some, None, length, slice_get, slice_index_or, option_map, IfOk, OnOk, OnErr, MatchResult, Refusal, changed, install_refusal, remove_refusal, state_refusal, store_refusal, name_refusal, priority_refusal, active_text, empty, is_active, edit_of, name_of, priority_of, store_refusal_of, admitted_edit, IsAdmitted, entry_at, IsParsed, entry_of};
+ghost use Rattle.std.specs.Prelude.{◌≡◌, ◌<◌, ◌==◌, [], Option, Some, None, length, slice_get, slice_index_or, option_map, IfOk, OnOk, OnErr, MatchResult};
+ghost use Rattle.cil_store.specs.Common.{Refusal, changed, install_refusal, remove_refusal, state_refusal, store_refusal, name_refusal, priority_refusal, active_text, empty, is_active, edit_of, name_of, priority_of, store_refusal_of, admitted_edit, IsAdmitted, entry_at, IsParsed, entry_of};
 ghost use Rattle.cil_store_specs.specs.StoreReport.{is_disabled, state_word};
 ghost use Rattle.cil_store.specs.States.{word_of};
 ghost use Rattle.cil_store_specs.proofs.ActiveLemmas.{is_first_at};

@@ -1,6 +1,7 @@
 //! The plain engine, which compiles its store anew at each batch.
 
-ghost use Rattle.cil_store.specs.Common.{◌≡◌, map, IfErr, IfOk, Of, accepts, install_of, empty, refusal_of, AreRefused, entry_of};
+ghost use Rattle.std.specs.Prelude.{◌≡◌, map, IfErr, IfOk};
+ghost use Rattle.cil_store.specs.Common.{Of, accepts, install_of, empty, refusal_of, AreRefused, entry_of};
 
 use crate::compiled::{Compiled, WriteFault};
 use crate::delta::Delta;

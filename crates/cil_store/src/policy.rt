@@ -1,6 +1,7 @@
 //! Entries that are compiled at once.
 
-ghost use Rattle.cil_store.specs.Common.{◌≡◌, ◌≤◌, List, IfErr, IfOk, IsErrOf, OnErr, flat_map, length, map, rc_value, HasFailed, Gains, GainsFront, is_in_table, AreAtoms, Row, row_line, Violation, AreViolations, violations_text, meaning_in, listed, Of, accepts, install_of, AreRowsOf, AreViolationsOf, empty, refusal_of, AreRefused, entry_of};
+ghost use Rattle.std.specs.Prelude.{◌≡◌, ◌≤◌, List, IfErr, IfOk, IsErrOf, OnErr, flat_map, length, map};
+ghost use Rattle.cil_store.specs.Common.{rc_value, HasFailed, Gains, GainsFront, is_in_table, AreAtoms, Row, row_line, Violation, AreViolations, violations_text, meaning_in, listed, Of, accepts, install_of, AreRowsOf, AreViolationsOf, empty, refusal_of, AreRefused, entry_of};
 
 use crate::compiled::WriteFault;
 use crate::counted_policy::{CountedPolicy, NextPolicy, Prepared};

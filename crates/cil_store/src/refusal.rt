@@ -1,6 +1,7 @@
 //! Why an edit is refused.
 
-ghost use Rattle.cil_store.specs.Common.{◌≡◌, ◌||◌, ◌==◌, list_all};
+ghost use Rattle.std.specs.Prelude.{◌≡◌, ◌||◌, ◌==◌};
+ghost use Rattle.cil_store.specs.Common.{list_all};
 ghost use Rattle.cil_store_specs.specs.Next.{begins_module_name as front_byte, is_module_name as module_name};
 
 use cil_resolve::{PolicyFaultKind, Text};

@@ -1,6 +1,7 @@
 //! Makes refusals, which own their words. Where there is no memory for the words the refusal is out of memory.
 
-ghost use Rattle.cil_store.specs.Common.{◌≡◌, IfOk, IfSome, at_place, fault_code, refusal_of, store_refusal_of, IsRefusalOf, IsRefusalOfText, IsRefusalOfPolicy};
+ghost use Rattle.std.specs.Prelude.{◌≡◌, IfOk, IfSome};
+ghost use Rattle.cil_store.specs.Common.{at_place, fault_code, refusal_of, store_refusal_of, IsRefusalOf, IsRefusalOfText, IsRefusalOfPolicy};
 ghost use Rattle.cil_specs.specs.Bytes.{hex};
 ghost use Rattle.cil_text.specs.Image.{place_of, shown};
 

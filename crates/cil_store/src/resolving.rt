@@ -1,6 +1,7 @@
 //! The policy that a store compiles to.
 
-ghost use Rattle.cil_store.specs.Common.{◌≡◌, [], IfErr, IfOk, meaning_of, meaning_in, IsMeaningOf, refusal_of, IsRefusedPolicy};
+ghost use Rattle.std.specs.Prelude.{◌≡◌, [], IfErr, IfOk};
+ghost use Rattle.cil_store.specs.Common.{meaning_of, meaning_in, IsMeaningOf, refusal_of, IsRefusedPolicy};
 
 use crate::join::join;
 use crate::modules::Store;

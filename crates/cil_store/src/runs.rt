@@ -1,6 +1,7 @@
 //! A list of calls, one after another.
 
-ghost use Rattle.cil_store.specs.Common.{◌≡◌, List, flat_map, map, IfOk, OnErr, Row, row_line, AreRowsOf, Step, Run, call_of, reply_of};
+ghost use Rattle.std.specs.Prelude.{◌≡◌, List, flat_map, map, IfOk, OnErr};
+ghost use Rattle.cil_store.specs.Common.{Row, row_line, AreRowsOf, Step, Run, call_of, reply_of};
 
 use crate::call::{Call, Reply};
 use crate::compiled::Compiled;

@@ -9,4 +9,3 @@ pub use Rattle.cil_symbol_changes.specs.Numbered.{AreNumbered, ArePresentNumbere
 pub use Rattle.cil_symbol_changes.specs.SourceOrder.{AreAllPlaces, AreListedPlaces, AreParts, HasAppeared, HasGone, IsAmong, IsAt, IsAtWord, IsListedIn}
 pub use Rattle.std.specs.List.{All}
 pub use Rattle.std.specs.List.Sorted.{IsStrictlySortedBy}
-pub use Rattle.std.specs.Prelude.{Contains, IfOk, IsTrue, MatchOption, OnErr, OnOk, [], count_ones, length, nat_lt, sum_by, ◌*◌, ◌+◌, ◌<◌, ◌^◌, ◌↔◌, ◌≡◌, ◌≢◌, ◌≤◌}

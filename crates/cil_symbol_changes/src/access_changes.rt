@@ -1,6 +1,7 @@
 //! Which accesses appeared and which went in lines of their counters.
 
-ghost use Rattle.cil_symbol_changes.specs.Common.{◌↔◌, Contains, IfOk, IsStrictlySortedBy, numbers_cmp, AccessNumbers, count_before, count_now, AreNumbered, IsNew};
+ghost use Rattle.std.specs.Prelude.{◌↔◌, Contains, IfOk};
+ghost use Rattle.cil_symbol_changes.specs.Common.{IsStrictlySortedBy, numbers_cmp, AccessNumbers, count_before, count_now, AreNumbered, IsNew};
 
 use crate::changed_chunks::{ChangedChunks, collect};
 use cil_accesses::Accesses;

@@ -1,6 +1,7 @@
 //! The accesses that appeared and those that went, before they are put in order.
 
-ghost use Rattle.cil_symbol_changes.specs.Common.{◌↔◌, length, IfOk, OnOk, All, IsGiven, AccessNumbers, count_before, count_now, AreGained, AreKnownIn, IsIn, IsShort, AreNumbered, IsNew, AreAllPlaces, HasAppeared, HasGone, IsAmong};
+ghost use Rattle.std.specs.Prelude.{◌↔◌, length, IfOk, OnOk};
+ghost use Rattle.cil_symbol_changes.specs.Common.{All, IsGiven, AccessNumbers, count_before, count_now, AreGained, AreKnownIn, IsIn, IsShort, AreNumbered, IsNew, AreAllPlaces, HasAppeared, HasGone, IsAmong};
 ghost use Rattle.cil_recorded.specs.Differences.{appeared_at, gone_at};
 ghost use Rattle.cil_recorded.specs.Log.{hit_at};
 

@@ -1,6 +1,7 @@
 //! How many accesses stand in lines of their counters.
 
-ghost use Rattle.cil_symbol_changes.specs.Common.{length, nat_lt, IfOk, count_now, now_at, has_come, AreSoMany};
+ghost use Rattle.std.specs.Prelude.{length, nat_lt, IfOk};
+ghost use Rattle.cil_symbol_changes.specs.Common.{count_now, now_at, has_come, AreSoMany};
 ghost use Rattle.cil_sums.specs.Rises.{below, RisesBy};
 
 use cil_keyed_lines::KeyedLines;

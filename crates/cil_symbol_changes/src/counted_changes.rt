@@ -1,6 +1,7 @@
 //! How many accesses appeared and how many went in lines of their counters.
 
-ghost use Rattle.cil_symbol_changes.specs.Common.{◌≡◌, ◌+◌, ◌<◌, ◌^◌, count_ones, sum_by, IfOk, All, count_before, count_now, came, has_come, went, AreSoMany};
+ghost use Rattle.std.specs.Prelude.{◌≡◌, ◌+◌, ◌<◌, ◌^◌, count_ones, sum_by, IfOk};
+ghost use Rattle.cil_symbol_changes.specs.Common.{All, count_before, count_now, came, has_come, went, AreSoMany};
 
 use cil_keyed_lines::KeyedLines;
 use cil_recorded::{Change, Step};

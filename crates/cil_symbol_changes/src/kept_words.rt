@@ -1,6 +1,7 @@
 //! The accesses of the lines of a source, word by word, where each symbol is its own number.
 
-ghost use Rattle.cil_symbol_changes.specs.Common.{◌≢◌, ◌*◌, ◌<◌, ◌≤◌, length, IsTrue, OnOk, All, now_at, IsLineOf, hit, AreGained, AreKept, AreKnown, AreKnownIn, IsShort, IsTo, IsAmong, IsAt, IsAtWord};
+ghost use Rattle.std.specs.Prelude.{◌≢◌, ◌*◌, ◌<◌, ◌≤◌, length, IsTrue, OnOk};
+ghost use Rattle.cil_symbol_changes.specs.Common.{All, now_at, IsLineOf, hit, AreGained, AreKept, AreKnown, AreKnownIn, IsShort, IsTo, IsAmong, IsAt, IsAtWord};
 
 use crate::source_order::LinePlace;
 use crate::targets::short_word;

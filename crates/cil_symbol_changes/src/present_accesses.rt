@@ -1,6 +1,7 @@
 //! Which accesses a listing has.
 
-ghost use Rattle.cil_symbol_changes.specs.Common.{◌↔◌, Contains, IfOk, IsStrictlySortedBy, numbers_cmp, AccessNumbers, count_now, listed, ArePresentNumbered, IsPresent};
+ghost use Rattle.std.specs.Prelude.{◌↔◌, Contains, IfOk};
+ghost use Rattle.cil_symbol_changes.specs.Common.{IsStrictlySortedBy, numbers_cmp, AccessNumbers, count_now, listed, ArePresentNumbered, IsPresent};
 
 use crate::present_chunks::collect_present;
 use cil_accesses::Accesses;

@@ -1,6 +1,7 @@
 //! The accesses that a listing has, before they are put in order.
 
-ghost use Rattle.cil_symbol_changes.specs.Common.{◌<◌, ◌↔◌, IfOk, IsTrue, OnOk, All, IsGiven, AccessNumbers, count_now, now_at, IsLineOf, AreGained, AreKept, AreKnownIn, IsShort, IsTo, listed, ArePresentNumbered, IsPresent, AreListedPlaces, IsAmong, IsAt, IsListedIn};
+ghost use Rattle.std.specs.Prelude.{◌<◌, ◌↔◌, IfOk, IsTrue, OnOk};
+ghost use Rattle.cil_symbol_changes.specs.Common.{All, IsGiven, AccessNumbers, count_now, now_at, IsLineOf, AreGained, AreKept, AreKnownIn, IsShort, IsTo, listed, ArePresentNumbered, IsPresent, AreListedPlaces, IsAmong, IsAt, IsListedIn};
 
 use crate::kept_words::{are_kept, push_words, words_len};
 use crate::source_order::{LinePlace, by_source, is_listed_at, split_source};

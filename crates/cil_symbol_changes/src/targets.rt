@@ -1,6 +1,7 @@
 //! The accesses of a line to the targets of a word.
 
-ghost use Rattle.cil_symbol_changes.specs.Common.{◌≡◌, ◌<◌, ◌≤◌, ◌^◌, [], IfOk, OnErr, OnOk, All, hit, AreGained, AreKnown, chunk_by, IsShort, IsTo};
+ghost use Rattle.std.specs.Prelude.{◌≡◌, ◌<◌, ◌≤◌, ◌^◌, [], IfOk, OnErr, OnOk};
+ghost use Rattle.cil_symbol_changes.specs.Common.{All, hit, AreGained, AreKnown, chunk_by, IsShort, IsTo};
 
 use cil_accesses::{Chunk, ChunkPlaces, push_renumbered};
 use cil_keyed_lines::SymbolKey;

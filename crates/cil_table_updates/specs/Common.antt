@@ -13,4 +13,3 @@ pub use Rattle.cil_table_updates.specs.Adjusted.{AdjustsAtLeast, AdjustsAtMost, 
 pub use Rattle.cil_table_updates.specs.Given.{given, gives_by}
 pub use Rattle.cil_table_updates.specs.Moves.{AreReplaced, HaveSameHead, IsKnown, IsReady, IsReplaced, gives_as}
 pub use Rattle.cil_table_updates.specs.Policies.{AreApart, IsPolicy, count_named}
-pub use Rattle.std.specs.Prelude.{IfOk, IsTrue, OnOk, false, length, nat_lt, true, ℕ, ◌&&◌, ◌+◌, ◌<◌, ◌==◌, ◌||◌, ◌≡◌, ◌≤◌}

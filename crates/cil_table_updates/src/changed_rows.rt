@@ -1,6 +1,7 @@
 //! The attributes whose members changed.
 
-ghost use Rattle.cil_table_updates.specs.Common.{◌≡◌, ◌<◌, ◌≤◌, ◌==◌, ◌||◌, ℕ, IsTrue, false, true, length, nat_lt, IfOk, is_element_below, is_rule_below, is_target_below, aims_by, covers_by, has_by};
+ghost use Rattle.std.specs.Prelude.{◌≡◌, ◌<◌, ◌≤◌, ◌==◌, ◌||◌, ℕ, IsTrue, false, true, length, nat_lt, IfOk};
+ghost use Rattle.cil_table_updates.specs.Common.{is_element_below, is_rule_below, is_target_below, aims_by, covers_by, has_by};
 ghost use Rattle.cil_member_rows.specs.Rows.{count_before, count_now};
 ghost use Rattle.cil_keyed_lines.specs.declared.symbol_key.SymbolKey.{SymbolKey};
 ghost use Rattle.cil_table_updates.specs.Changed.{is_marked};

@@ -1,6 +1,7 @@
 //! Counters of the accesses of a first policy, counted from nothing.
 
-ghost use Rattle.cil_table_updates.specs.Common.{◌≡◌, ◌+◌, ◌≤◌, ℕ, IsTrue, length, OnOk, AreNumbersOf, is_rule_below, adjustments_in, evaluations_in, meaning_in, AreMembersOf, one_if, below, RisesBy, sum_below, count_now, steps_in, RiseAtMost, comes, gives_it, AdjustsAtLeast, AdjustsAtMost, given, gives_by, IsKnown, IsReady, count_named};
+ghost use Rattle.std.specs.Prelude.{◌≡◌, ◌+◌, ◌≤◌, ℕ, IsTrue, length, OnOk};
+ghost use Rattle.cil_table_updates.specs.Common.{AreNumbersOf, is_rule_below, adjustments_in, evaluations_in, meaning_in, AreMembersOf, one_if, below, RisesBy, sum_below, count_now, steps_in, RiseAtMost, comes, gives_it, AdjustsAtLeast, AdjustsAtMost, given, gives_by, IsKnown, IsReady, count_named};
 ghost use Rattle.cil_member_rows.specs.Rows as members;
 ghost use Rattle.cil_specs.specs.Meaning.{Meaning};
 

@@ -1,6 +1,7 @@
 //! Counters moved from what a rule gave to what it gives.
 
-ghost use Rattle.cil_table_updates.specs.Common.{◌≡◌, ◌+◌, ◌≤◌, ◌&&◌, ℕ, IsTrue, length, OnOk, is_rule_below, adjustments_in, evaluations_in, one_if, IsShort, RisesBy, count_before, count_now, NoneRises, RiseAtMost, gives_it, replaces, shifts, gives_by, gives_as, HaveSameHead, IsKnown};
+ghost use Rattle.std.specs.Prelude.{◌≡◌, ◌+◌, ◌≤◌, ◌&&◌, ℕ, IsTrue, length, OnOk};
+ghost use Rattle.cil_table_updates.specs.Common.{is_rule_below, adjustments_in, evaluations_in, one_if, IsShort, RisesBy, count_before, count_now, NoneRises, RiseAtMost, gives_it, replaces, shifts, gives_by, gives_as, HaveSameHead, IsKnown};
 
 use crate::policy::Policy;
 use cil_keyed_lines::{KeyedLines, SymbolKey};

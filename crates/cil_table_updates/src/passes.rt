@@ -1,6 +1,7 @@
 //! Rules taken out, put in and replaced, one by one.
 
-ghost use Rattle.cil_table_updates.specs.Common.{◌≡◌, ◌+◌, ◌≤◌, ◌<◌, ℕ, length, OnOk, adjustments_in, evaluations_in, below, RisesBy, across, alone, sum_below, count_before, count_now, NoneRises, RiseAtMost, goes, swaps, turns, given, AreReplaced, IsReady, IsReplaced};
+ghost use Rattle.std.specs.Prelude.{◌≡◌, ◌+◌, ◌≤◌, ◌<◌, ℕ, length, OnOk};
+ghost use Rattle.cil_table_updates.specs.Common.{adjustments_in, evaluations_in, below, RisesBy, across, alone, sum_below, count_before, count_now, NoneRises, RiseAtMost, goes, swaps, turns, given, AreReplaced, IsReady, IsReplaced};
 
 use crate::changed_rows::ChangedRows;
 use crate::moves::{put_rule, replace_rule, take_rule};

@@ -1,6 +1,7 @@
 //! One of two policies, by symbols.
 
-ghost use Rattle.cil_table_updates.specs.Common.{◌≡◌, ◌≤◌, IsTrue, length, AreNumbersOf, is_rule_below, meaning_in, AreMembersOf, members_at, members_of, IsReady, AreApart, IsPolicy};
+ghost use Rattle.std.specs.Prelude.{◌≡◌, ◌≤◌, IsTrue, length};
+ghost use Rattle.cil_table_updates.specs.Common.{AreNumbersOf, is_rule_below, meaning_in, AreMembersOf, members_at, members_of, IsReady, AreApart, IsPolicy};
 ghost use Rattle.std.specs.List.{list_all};
 ghost use Rattle.cil_resolve.specs.Consistent.{is_consistent};
 

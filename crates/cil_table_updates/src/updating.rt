@@ -1,6 +1,7 @@
 //! Counters of accesses brought from an old policy to a new one.
 
-ghost use Rattle.cil_table_updates.specs.Common.{◌≡◌, ◌+◌, ◌≤◌, ℕ, length, OnOk, AreNumbersOf, adjustments_in, evaluations_in, meaning_in, AreMembersOf, count_now, StaysBefore, AdjustsAtLeast, AdjustsAtMost, count_named};
+ghost use Rattle.std.specs.Prelude.{◌≡◌, ◌+◌, ◌≤◌, ℕ, length, OnOk};
+ghost use Rattle.cil_table_updates.specs.Common.{AreNumbersOf, adjustments_in, evaluations_in, meaning_in, AreMembersOf, count_now, StaysBefore, AdjustsAtLeast, AdjustsAtMost, count_named};
 ghost use Rattle.cil_member_rows.specs.Rows as members;
 
 use crate::changed_rows::ChangedRows;

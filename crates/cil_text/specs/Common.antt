@@ -13,4 +13,3 @@ pub use Rattle.cil_text.specs.Tree.{is_nothing, is_one, tree_count}
 pub use Rattle.cil_text.specs.Walk.{AreGood, Checks, IsFirstAmong, IsFirstOf, IsHeading, IsHeadingFault, IsNext, IsStatement}
 pub use Rattle.cil_text.specs.Words.{HasOne}
 pub use Rattle.std.specs.List.{list_all, list_any, prefix_len, slice_split}
-pub use Rattle.std.specs.Prelude.{IfErr, IfNone, IfOk, IfSome, IsTrue, List, MatchOption, None, OnOk, Some, [], drop, false, if◌then◌else◌, length, map, not, slice_index, take, ℕ, ◌&&◌, ◌++◌, ◌+◌, ◌<◌, ◌==◌, ◌^◌, ◌||◌, ◌∷◌, ◌≡◌, ◌≢◌, ◌≤◌}

@@ -1,6 +1,7 @@
 //! Whether the words of a statement are spelt and free as their places ask.
 
-ghost use Rattle.cil_text.specs.Common.{◌≡◌, [], ◌∷◌, ◌++◌, map, leaves, as_declared, as_referred, target_words, words_of, word_of, expr_of, target_of, role_of, exprs_of, form_of, Checks};
+ghost use Rattle.std.specs.Prelude.{◌≡◌, [], ◌∷◌, ◌++◌, map};
+ghost use Rattle.cil_text.specs.Common.{leaves, as_declared, as_referred, target_words, words_of, word_of, expr_of, target_of, role_of, exprs_of, form_of, Checks};
 
 use crate::fault::{ShownWord, TextFault, TextFaultKind};
 use crate::name::{Role, name_fault};

@@ -1,6 +1,7 @@
 //! Recognising set expressions.
 
-ghost use Rattle.cil_text.specs.Common.{◌≡◌, ℕ, IfOk, MatchOption, a_list, HasNoOperator, trees_of, tree_then, operator_word, SpellsExpr, SpellsElements, SpellsOperation, SpellsOne, SpellsTwo, BeginsOperation};
+ghost use Rattle.std.specs.Prelude.{◌≡◌, ℕ, IfOk, MatchOption};
+ghost use Rattle.cil_text.specs.Common.{a_list, HasNoOperator, trees_of, tree_then, operator_word, SpellsExpr, SpellsElements, SpellsOperation, SpellsOne, SpellsTwo, BeginsOperation};
 ghost use Rattle.cil_specs.specs.Place.{Place as SpecPlace};
 
 use crate::split::{only_tree, split_word};

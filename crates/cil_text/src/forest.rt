@@ -1,6 +1,7 @@
 //! The trees of a whole text.
 
-ghost use Rattle.cil_text.specs.Common.{IsTrue, are_lists, in_order, trees_in};
+ghost use Rattle.std.specs.Prelude.{IsTrue};
+ghost use Rattle.cil_text.specs.Common.{are_lists, in_order, trees_in};
 
 use crate::node::Node;
 use crate::tree::TreeSlice;

@@ -1,7 +1,8 @@
 //! Fitting the operands of a statement's first word to its form (CIL Reference Guide, under the
 //! word of each).
 
-ghost use Rattle.cil_text.specs.Common.{◌≡◌, ◌≢◌, IfOk, Trees, put_word, IsTargetThen, place_of, word_of, trees_of, target_of, FitsAs, IsWithoutUnordered, AreClasses, AreClassAndPermissions, IsAttributeAndSet};
+ghost use Rattle.std.specs.Prelude.{◌≡◌, ◌≢◌, IfOk};
+ghost use Rattle.cil_text.specs.Common.{Trees, put_word, IsTargetThen, place_of, word_of, trees_of, target_of, FitsAs, IsWithoutUnordered, AreClasses, AreClassAndPermissions, IsAttributeAndSet};
 
 use crate::expr::expression;
 use crate::keyword::Keyword;

@@ -1,6 +1,7 @@
 //! Laws of the definitions, which make the contracts of `read` and `shape` exact. They have no code.
 
-ghost use Rattle.cil_text.specs.Common.{◌≡◌, ℕ, false, List, drop, IsTrue, Stops, IsStuck, IsReadingFault, Shapes, IsShapeFault, IsFirstShapeFault, Statements, Trees, Reads, in_order};
+ghost use Rattle.std.specs.Prelude.{◌≡◌, ℕ, false, List, drop, IsTrue};
+ghost use Rattle.cil_text.specs.Common.{Stops, IsStuck, IsReadingFault, Shapes, IsShapeFault, IsFirstShapeFault, Statements, Trees, Reads, in_order};
 ghost use Rattle.cil_specs.specs.Parts.{Part, IsClean};
 ghost use Rattle.cil_specs.specs.TextFault.{TextFaultKind, TextFault};
 

@@ -1,6 +1,7 @@
 //! The statements of a whole text.
 
-ghost use Rattle.cil_text.specs.Common.{IsTrue, false, statement_offsets, are_apart, rise_from, statements_of};
+ghost use Rattle.std.specs.Prelude.{IsTrue, false};
+ghost use Rattle.cil_text.specs.Common.{statement_offsets, are_apart, rise_from, statements_of};
 
 use crate::statement::Statement;
 use std::alloc::{Allocator, Global};

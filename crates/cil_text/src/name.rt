@@ -1,7 +1,8 @@
 //! How names are spelt, and the words that name nothing. Names are narrower than in the CIL
 //! Reference Guide ("Declarations"): this is this project's own choice.
 
-ghost use Rattle.cil_text.specs.Common.{◌≡◌, ◌==◌, Some, None, if◌then◌else◌, slice_split, list_all, list_any, without_dot, role_of, kind_option};
+ghost use Rattle.std.specs.Prelude.{◌≡◌, ◌==◌, Some, None, if◌then◌else◌};
+ghost use Rattle.cil_text.specs.Common.{slice_split, list_all, list_any, without_dot, role_of, kind_option};
 ghost use Rattle.cil_specs.specs.Names.{begins_name, is_name_byte, is_name, is_reserved, is_reference, components, is_spelt, name_fault};
 ghost use Rattle.cil_specs.specs.TextFault as spec_faults;
 

@@ -1,6 +1,7 @@
 //! The reader: over a text from its front, part by part.
 
-ghost use Rattle.cil_text.specs.Common.{◌≡◌, ◌+◌, ◌<◌, ◌^◌, ◌∷◌, ◌++◌, ℕ, List, length, slice_index, IsTrue, IfSome, IfNone, prefix_len, list_all, HasOne, place_of, ◌≤◌, IfOk, IfErr, Trees, Reads, IsReadingFault, FaultIs, IsMemory, forest_of};
+ghost use Rattle.std.specs.Prelude.{◌≡◌, ◌+◌, ◌<◌, ◌^◌, ◌∷◌, ◌++◌, ℕ, List, length, slice_index, IsTrue, IfSome, IfNone, ◌≤◌, IfOk, IfErr};
+ghost use Rattle.cil_text.specs.Common.{prefix_len, list_all, HasOne, place_of, Trees, Reads, IsReadingFault, FaultIs, IsMemory, forest_of};
 ghost use Rattle.cil_specs.specs.Bytes.{is_white as white_byte, is_word_byte as word_byte, is_comment_byte as comment_byte, is_string_byte as string_byte};
 
 use crate::fault::{ShownWord, TextFault, TextFaultKind};

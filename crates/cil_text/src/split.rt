@@ -1,6 +1,7 @@
 //! Trees from the front on, as the forms of statements ask for them.
 
-ghost use Rattle.cil_text.specs.Common.{◌≡◌, ◌≢◌, false, IfOk, MatchOption, Trees, none, are_lists, IsListThen, put_word, tree_then, trees_of, word_of, is_one};
+ghost use Rattle.std.specs.Prelude.{◌≡◌, ◌≢◌, false, IfOk, MatchOption};
+ghost use Rattle.cil_text.specs.Common.{Trees, none, are_lists, IsListThen, put_word, tree_then, trees_of, word_of, is_one};
 ghost use Rattle.cil_specs.specs.Names.{Word as SpecWord};
 ghost use Rattle.cil_text.specs.Split.{AreWords, AreWordList, AreWordAndList};
 

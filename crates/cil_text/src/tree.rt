@@ -1,6 +1,7 @@
 //! Trees of words, strings and lists.
 
-ghost use Rattle.cil_text.specs.Common.{◌≡◌, take, drop, MatchOption, none, place_of, word_of, tree_then, trees_of, tree_count, is_nothing};
+ghost use Rattle.std.specs.Prelude.{◌≡◌, take, drop, MatchOption};
+ghost use Rattle.cil_text.specs.Common.{none, place_of, word_of, tree_then, trees_of, tree_count, is_nothing};
 
 use crate::node::Node;
 use crate::place::Place;

@@ -1,6 +1,7 @@
 //! Recognising the statements that trees spell.
 
-ghost use Rattle.cil_text.specs.Common.{◌≡◌, ◌&&◌, ◌||◌, false, not, IfOk, IfErr, OnOk, IsTrue, are_lists, is_optional, words_of, is_among, outside_optionals, Shapes, IsFirstShapeFault, place_of, trees_of, statements_of, FaultIs, forest_of, form_of, has_body, inner_of, HasBody, AreGood, IsHeading, IsHeadingFault, IsStatement, IsNext, IsFirstOf, IsFirstAmong};
+ghost use Rattle.std.specs.Prelude.{◌≡◌, ◌&&◌, ◌||◌, false, not, IfOk, IfErr, OnOk, IsTrue};
+ghost use Rattle.cil_text.specs.Common.{are_lists, is_optional, words_of, is_among, outside_optionals, Shapes, IsFirstShapeFault, place_of, trees_of, statements_of, FaultIs, forest_of, form_of, has_body, inner_of, HasBody, AreGood, IsHeading, IsHeadingFault, IsStatement, IsNext, IsFirstOf, IsFirstAmong};
 ghost use Rattle.cil_text.specs.Keyword.{spelling};
 
 use crate::check::{check_statement, fault_at};

@@ -9,4 +9,3 @@ pub use Rattle.cil_violations.specs.Permissions.{AreOrdered, IsOrdered, is_among
 pub use Rattle.cil_violations.specs.Rows.{IsSearch, all_rows, hits, names_in, pair_rows, permissions_at, row_with, rows_of, rules_in, sources_of, targets_of, tests_of}
 pub use Rattle.cil_violations.specs.Views.{violation_head, violation_seen}
 pub use Rattle.std.specs.List.{flat_map}
-pub use Rattle.std.specs.Prelude.{Contains, IfOk, IsTrue, List, MatchOption, OnErr, OnOk, Some, [], length, map, option_map, slice_get, ℕ, ◌++◌, ◌+◌, ◌<◌, ◌==◌, ◌^◌, ◌↔◌, ◌∷◌, ◌≡◌, ◌≤◌, ◌⊎◌}

@@ -1,6 +1,7 @@
 //! The allow rules of a policy by their classes.
 
-ghost use Rattle.cil_violations.specs.Common.{◌≡◌, ◌+◌, ◌<◌, List, length, slice_get, Some, IfOk, IsIndexFrom, IsIndexOf};
+ghost use Rattle.std.specs.Prelude.{◌≡◌, ◌+◌, ◌<◌, List, length, slice_get, Some, IfOk};
+ghost use Rattle.cil_violations.specs.Common.{IsIndexFrom, IsIndexOf};
 ghost use Rattle.cil_resolve.specs.declared.numbered.NumberedRule.{NumberedRule};
 
 use cil_resolve::{NumberedRule, Resolved};

@@ -1,6 +1,7 @@
 //! Writes violations as lines.
 
-ghost use Rattle.cil_violations.specs.Common.{◌≡◌, ◌<◌, ◌≤◌, length, OnOk, OnErr, flat_map, HasFailed, Gains, GainsFront, meaning_in, violation_line, rule_in, place_text, rule_text, access_text, head_text, shared_text, violation_by, IsRow};
+ghost use Rattle.std.specs.Prelude.{◌≡◌, ◌<◌, ◌≤◌, length, OnOk, OnErr};
+ghost use Rattle.cil_violations.specs.Common.{flat_map, HasFailed, Gains, GainsFront, meaning_in, violation_line, rule_in, place_text, rule_text, access_text, head_text, shared_text, violation_by, IsRow};
 ghost use Rattle.cil_specs.specs.Statements.{rule_word};
 ghost use Rattle.cil_text.specs.Image.{place_of, rule_kind_of};
 ghost use Rattle.cil_resolve.specs.Views.{rule_seen, rule_head};

@@ -1,6 +1,7 @@
 //! The types that names of rules stand for, by symbols and word by word.
 
-ghost use Rattle.cil_violations.specs.Common.{◌==◌, ℕ, IsTrue, MatchOption, both_hold, holds_symbol, is_known, AreShort};
+ghost use Rattle.std.specs.Prelude.{◌==◌, ℕ, IsTrue, MatchOption};
+ghost use Rattle.cil_violations.specs.Common.{both_hold, holds_symbol, is_known, AreShort};
 ghost use Rattle.cil_violations.specs.Search.{NoneFromWord, IsFirstWordFrom, IsWordOf};
 
 use cil_member_rows::MemberRows;

@@ -1,6 +1,7 @@
 //! The permissions of rules.
 
-ghost use Rattle.cil_violations.specs.Common.{◌≡◌, ◌++◌, ◌∷◌, [], ◌<◌, ◌↔◌, ℕ, Contains, IfOk, length, AreOrdered, IsOrdered, is_among, share};
+ghost use Rattle.std.specs.Prelude.{◌≡◌, ◌++◌, ◌∷◌, [], ◌<◌, ◌↔◌, ℕ, Contains, IfOk, length};
+ghost use Rattle.cil_violations.specs.Common.{AreOrdered, IsOrdered, is_among, share};
 ghost use Rattle.std.specs.List.Sorted.{IsStrictlySortedBy};
 ghost use Rattle.std.specs.Ordering.{nat_cmp};
 

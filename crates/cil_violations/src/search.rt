@@ -1,6 +1,7 @@
 //! Looks for violations: pairs of rules of one class first, then the types that they have in common.
 
-ghost use Rattle.cil_violations.specs.Common.{◌≡◌, ◌+◌, ◌++◌, ◌∷◌, [], ◌<◌, ℕ, length, slice_get, Some, IfOk, OnOk, flat_map, is_met, IsNext, share, names_in, permissions_at, rules_in, tests_of, IsSearch, all_rows, pair_rows, row_with, rows_of, sources_of, targets_of};
+ghost use Rattle.std.specs.Prelude.{◌≡◌, ◌+◌, ◌++◌, ◌∷◌, [], ◌<◌, ℕ, length, slice_get, Some, IfOk, OnOk};
+ghost use Rattle.cil_violations.specs.Common.{flat_map, is_met, IsNext, share, names_in, permissions_at, rules_in, tests_of, IsSearch, all_rows, pair_rows, row_with, rows_of, sources_of, targets_of};
 ghost use Rattle.cil_violations.specs.Aims.{aim_of};
 
 use crate::index::ClassIndex;

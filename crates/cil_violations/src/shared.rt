@@ -1,6 +1,7 @@
 //! The types that two names of rules have in common.
 
-ghost use Rattle.cil_violations.specs.Common.{◌≡◌, ◌⊎◌, ◌<◌, ◌^◌, ◌↔◌, ℕ, Contains, IsTrue, length, slice_get, Some, IfOk, OnOk, are_both_held, is_known, symbols_in, AreShort, hits};
+ghost use Rattle.std.specs.Prelude.{◌≡◌, ◌⊎◌, ◌<◌, ◌^◌, ◌↔◌, ℕ, Contains, IsTrue, length, slice_get, Some, IfOk, OnOk};
+ghost use Rattle.cil_violations.specs.Common.{are_both_held, is_known, symbols_in, AreShort, hits};
 ghost use Rattle.cil_violations.specs.Shared.{HasBit};
 
 use crate::members::{Members, WORD};

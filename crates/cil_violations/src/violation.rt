@@ -1,6 +1,7 @@
 //! Violations by full names.
 
-ghost use Rattle.cil_violations.specs.Common.{◌≡◌, ◌==◌, length, slice_get, option_map, meaning_in, violation_by, IsRow, violation_seen, violation_head};
+ghost use Rattle.std.specs.Prelude.{◌≡◌, ◌==◌, length, slice_get, option_map};
+ghost use Rattle.cil_violations.specs.Common.{meaning_in, violation_by, IsRow, violation_seen, violation_head};
 
 use crate::line::rule_at;
 use crate::permissions::is_among;

@@ -1,6 +1,7 @@
 //! The violations of a policy.
 
-ghost use Rattle.cil_violations.specs.Common.{◌≡◌, ◌≤◌, ◌==◌, length, map, slice_get, option_map, IfOk, OnOk, OnErr, flat_map, HasFailed, Gains, GainsFront, meaning_in, AreViolations, violation_line, violations_text, symbols_in, line_by, violation_by, AreRows, violation_seen, violation_head};
+ghost use Rattle.std.specs.Prelude.{◌≡◌, ◌≤◌, ◌==◌, length, map, slice_get, option_map, IfOk, OnOk, OnErr};
+ghost use Rattle.cil_violations.specs.Common.{flat_map, HasFailed, Gains, GainsFront, meaning_in, AreViolations, violation_line, violations_text, symbols_in, line_by, violation_by, AreRows, violation_seen, violation_head};
 ghost use Rattle.std.specs.Rc.{rc_value};
 ghost use Rattle.cil_member_rows.specs.Rows.{count_now};
 ghost use Rattle.cil_rule_reach.specs.Named.{AreMembersBy};

@@ -1,6 +1,7 @@
 //! Words that are left without counters once steps have ended.
 
-ghost use Rattle.cil_member_rows.specs.Common.{◌≡◌, ℕ, count_before, count_now, lines_in, steps_in};
+ghost use Rattle.std.specs.Prelude.{◌≡◌, ℕ};
+ghost use Rattle.cil_member_rows.specs.Common.{count_before, count_now, lines_in, steps_in};
 
 use cil_recorded::{RecordedLines, Step};
 use std::alloc::Allocator;

@@ -1,6 +1,7 @@
 //! The bits at a settling.
 
-ghost use Rattle.cil_member_rows.specs.Common.{◌≡◌, ℕ, length, IsPresence, count_now, bits_at, words_of, IsHeld};
+ghost use Rattle.std.specs.Prelude.{◌≡◌, ℕ, length};
+ghost use Rattle.cil_member_rows.specs.Common.{IsPresence, count_now, bits_at, words_of, IsHeld};
 
 use crate::bit_row::BitRow;
 use crate::held;

@@ -1,6 +1,7 @@
 //! The memory and the steps of a shift.
 
-ghost use Rattle.cil_member_rows.specs.Common.{◌≡◌, ◌↔◌, ℕ, ◌+◌, ◌<◌, ◌≤◌, ◌^◌, length, min, IsTrue, OnOk, hit_at, count_before, count_now, limit_now, lines_in, spare, steps_in, bits_at, words_of};
+ghost use Rattle.std.specs.Prelude.{◌≡◌, ◌↔◌, ℕ, ◌+◌, ◌<◌, ◌≤◌, ◌^◌, length, min, IsTrue, OnOk};
+ghost use Rattle.cil_member_rows.specs.Common.{hit_at, count_before, count_now, limit_now, lines_in, spare, steps_in, bits_at, words_of};
 ghost use Rattle.cil_lines.specs.Limit.{CanLower, CanRaise};
 
 use crate::bit_row::BitRow;

@@ -1,6 +1,7 @@
 //! The compilation of entries at once.
 
-ghost use Rattle.cil_program.specs.Common.{◌≡◌, ◌⊎◌, ◌≤◌, [], List, ℕ, map, length, IfOk, IsErrOf, OnErr, Gains, GainsFront, HasFailed, for_memory, Of, accepts, refusal_line, entry_of, Compiles};
+ghost use Rattle.std.specs.Prelude.{◌≡◌, ◌⊎◌, ◌≤◌, [], List, ℕ, map, length, IfOk, IsErrOf, OnErr};
+ghost use Rattle.cil_program.specs.Common.{Gains, GainsFront, HasFailed, for_memory, Of, accepts, refusal_line, entry_of, Compiles};
 
 use crate::script::reply;
 use cil_store::{Entry, Policy, Seed, WriteFault};

@@ -1,6 +1,7 @@
 //! The files that are compiled.
 
-ghost use Rattle.cil_program.specs.Common.{◌≡◌, ◌⊎◌, ◌<◌, All, Contains, List, ℕ, length, map, IfOk, IfErr, IsErrOf, AllZip, Gives, HasEnded, HasFailed, entry_of, Content, IsBaseName, IsEntryFor, IsReadOf, IsUnreadable, NamesModule, untold};
+ghost use Rattle.std.specs.Prelude.{◌≡◌, ◌⊎◌, ◌<◌, All, Contains, List, ℕ, length, map, IfOk, IfErr, IsErrOf};
+ghost use Rattle.cil_program.specs.Common.{AllZip, Gives, HasEnded, HasFailed, entry_of, Content, IsBaseName, IsEntryFor, IsReadOf, IsUnreadable, NamesModule, untold};
 ghost use Rattle.cil_program.specs.declared.command_line.files.ReadFault.TheVariants.{Unreadable};
 
 use cil_store::Entry;

@@ -1,6 +1,7 @@
 //! The words of the command line, as `clap` reads them.
 
-ghost use Rattle.cil_program.specs.Common.{◌≡◌, Some, true, false, map, codes, IfErr, IfOk, app_of, kind_of, subcommand_name_of, subcommand_of, subcommand_rows_of, takes, OutOfMemory, AsksSession, compile_app, program_app, session_app};
+ghost use Rattle.std.specs.Prelude.{◌≡◌, Some, true, false, map, codes, IfErr, IfOk};
+ghost use Rattle.cil_program.specs.Common.{app_of, kind_of, subcommand_name_of, subcommand_of, subcommand_rows_of, takes, OutOfMemory, AsksSession, compile_app, program_app, session_app};
 ghost use Rattle.clap.specs.declared.builder.command.Command.TheViews.{out-Command};
 
 use clap::{Arg, ArgAction, ArgMatches, Command, Error};

@@ -1,6 +1,7 @@
 //! The batch of a session.
 
-ghost use Rattle.cil_program.specs.Common.{◌≡◌, ◌≤◌, ◌+◌, [], ℕ, List, length, min, true, false, IfOk, IfErr, OnOk, Err, Some, None, vec_capacity, edit_of, held_of, held_answer, given_up, CanHold, IsOpen, Adds, IsGiven};
+ghost use Rattle.std.specs.Prelude.{◌≡◌, ◌≤◌, ◌+◌, [], ℕ, List, length, min, true, false, IfOk, IfErr, OnOk, Err, Some, None, vec_capacity};
+ghost use Rattle.cil_program.specs.Common.{edit_of, held_of, held_answer, given_up, CanHold, IsOpen, Adds, IsGiven};
 ghost use Rattle.cil_store_specs.specs.Next.{Edit as SpecEdit, install, held_bytes};
 ghost use Rattle.cil_store_specs.specs.Answers.{Batch as Open, IsHeld, all_held, held_as, name_of};
 

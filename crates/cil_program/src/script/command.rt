@@ -1,6 +1,7 @@
 //! The commands on the lines of a script.
 
-ghost use Rattle.cil_program.specs.Common.{◌≡◌, ◌<◌, ◌↔◌, ◌∷◌, ◌++◌, ℕ, decimal, codes, IsTrue, Some, IfSome, IfNone, list_all, IsLine, IsNoCommandLine, IsNoQuestion, question_asked};
+ghost use Rattle.std.specs.Prelude.{◌≡◌, ◌<◌, ◌↔◌, ◌∷◌, ◌++◌, ℕ, decimal, codes, IsTrue, Some, IfSome, IfNone};
+ghost use Rattle.cil_program.specs.Common.{list_all, IsLine, IsNoCommandLine, IsNoQuestion, question_asked};
 ghost use Rattle.cil_store_specs.specs.Script.{is_shown as shown_byte, IsGoodName, line_of};
 ghost use Rattle.cil_store_specs.proofs.WordLemmas.{is_no_space};
 ghost use Rattle.cil_program.specs.declared.script.command.ScriptLine.TheVariants.{Whole};

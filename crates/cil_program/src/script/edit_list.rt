@@ -1,6 +1,7 @@
 //! A list of edits that are held, within the limits of a batch.
 
-ghost use Rattle.cil_program.specs.Common.{◌≡◌, ◌++◌, ◌∷◌, [], map, true, false, IfOk, OnOk, edit_of, held_edit};
+ghost use Rattle.std.specs.Prelude.{◌≡◌, ◌++◌, ◌∷◌, [], map, true, false, IfOk, OnOk};
+ghost use Rattle.cil_program.specs.Common.{edit_of, held_edit};
 ghost use Rattle.cil_store_specs.specs.Next.{Edit as SpecEdit, held_bytes, is_too_long};
 
 use crate::script::held_edit::HeldEdit;

@@ -1,6 +1,7 @@
 //! The edits that an open batch holds.
 
-ghost use Rattle.cil_program.specs.Common.{◌≡◌, IfOk, install, held_as, edit_of, held_edit};
+ghost use Rattle.std.specs.Prelude.{◌≡◌, IfOk};
+ghost use Rattle.cil_program.specs.Common.{install, held_as, edit_of, held_edit};
 
 use cil_resolve::Text;
 use cil_store::Edit;

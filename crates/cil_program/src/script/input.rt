@@ -1,6 +1,7 @@
 //! What a session reads from its source, and holds back until it reads on.
 
-ghost use Rattle.cil_program.specs.Common.{◌≡◌, ◌≢◌, ◌↔◌, ◌+◌, ◌<◌, ◌≤◌, ◌^◌, ◌∷◌, [], false, ℕ, List, length, count_by, IsTrue, IfOk, IfSome, IfNone, OnErr, list_all, HasFailed, HasEnded, Gives, HasStopped};
+ghost use Rattle.std.specs.Prelude.{◌≡◌, ◌≢◌, ◌↔◌, ◌+◌, ◌<◌, ◌≤◌, ◌^◌, ◌∷◌, [], false, ℕ, List, length, count_by, IsTrue, IfOk, IfSome, IfNone, OnErr};
+ghost use Rattle.cil_program.specs.Common.{list_all, HasFailed, HasEnded, Gives, HasStopped};
 ghost use Rattle.cil_specs.specs.Place.{is_line_feed};
 
 use crate::script::line::Line;

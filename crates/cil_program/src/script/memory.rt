@@ -1,6 +1,7 @@
 //! Scripts that stand in memory as a whole.
 
-ghost use Rattle.cil_program.specs.Common.{◌≡◌, ◌≤◌, ◌++◌, List, ℕ, true, IfOk, OnOk, IsErrOf, IsSession, IsCutByRead, IsCutByWrite, HasFailed, Gains, status_of};
+ghost use Rattle.std.specs.Prelude.{◌≡◌, ◌≤◌, ◌++◌, List, ℕ, true, IfOk, OnOk, IsErrOf};
+ghost use Rattle.cil_program.specs.Common.{IsSession, IsCutByRead, IsCutByWrite, HasFailed, Gains, status_of};
 
 use crate::script::session::{SessionFault, Status, session};
 use cil_store::Compiled;

@@ -1,6 +1,7 @@
 //! The lines that answer a script (a form of this project's own).
 
-ghost use Rattle.cil_program.specs.Common.{◌+◌, ◌++◌, flat_map, length, by_store, at_place, for_memory, refusal_line, reply_text, end_line, last_line, stops, dump_edits, dump_commands, dump_text, dropped_optionals, refusal_of, entry_of, Writes, counts_line};
+ghost use Rattle.std.specs.Prelude.{◌+◌, ◌++◌, flat_map, length};
+ghost use Rattle.cil_program.specs.Common.{by_store, at_place, for_memory, refusal_line, reply_text, end_line, last_line, stops, dump_edits, dump_commands, dump_text, dropped_optionals, refusal_of, entry_of, Writes, counts_line};
 ghost use Rattle.cil_specs.specs.Report.{dropped_line};
 ghost use Rattle.cil_text.specs.Image.{place_of};
 ghost use Rattle.cil_resolve.specs.Views.{declared_seen};

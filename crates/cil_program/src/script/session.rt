@@ -1,6 +1,7 @@
 //! A session: it answers a script, command by command.
 
-ghost use Rattle.cil_program.specs.Common.{◌≡◌, ◌≢◌, ◌≤◌, ◌+◌, [], List, ℕ, IfOk, IfErr, OnOk, OnErr, IsErrOf, IsTrue, Some, None, HasFailed, HasEnded, GainsFront, has_ended, answer_of, a_line, a_refusal, state_of, Answers, for_memory, refused, makes, begins, commits, aborts, asks_rules, asks_violations, asks_dropped, asks_modules, asks_dump, refusal_line, last_line, ends, last_end, Store, edit_of, store_refusal_of, held_answer, IsOpen, command_of, question_asked, Fits, Writes, moment, progress, standing, state_with, Tries, Does, IsAnswerFor, AnswersBatch, Makes, EndsSo, IsOutcome, IsInstallOutcome, IsInstallCut, IsLineCut, IsTurn, IsTurnCut, Leaves, LeavesByRead, LeavesByWrite};
+ghost use Rattle.std.specs.Prelude.{◌≡◌, ◌≢◌, ◌≤◌, ◌+◌, [], List, ℕ, IfOk, IfErr, OnOk, OnErr, IsErrOf, IsTrue, Some, None};
+ghost use Rattle.cil_program.specs.Common.{HasFailed, HasEnded, GainsFront, has_ended, answer_of, a_line, a_refusal, state_of, Answers, for_memory, refused, makes, begins, commits, aborts, asks_rules, asks_violations, asks_dropped, asks_modules, asks_dump, refusal_line, last_line, ends, last_end, Store, edit_of, store_refusal_of, held_answer, IsOpen, command_of, question_asked, Fits, Writes, moment, progress, standing, state_with, Tries, Does, IsAnswerFor, AnswersBatch, Makes, EndsSo, IsOutcome, IsInstallOutcome, IsInstallCut, IsLineCut, IsTurn, IsTurnCut, Leaves, LeavesByRead, LeavesByWrite};
 ghost use Rattle.cil_program.specs.declared.script.input.LineEnd.TheVariants.{LastByte};
 ghost use Rattle.cil_program.specs.declared.script.session.Status.TheVariants.{Script};
 

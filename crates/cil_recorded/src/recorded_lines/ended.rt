@@ -1,6 +1,7 @@
 //! Lines that are left without counters once steps have ended.
 
-ghost use Rattle.cil_recorded.specs.Common.{◌≡◌, ◌≢◌, ℕ, ◌+◌, ◌<◌, ◌⊎◌, false, length, min, slice_index_or, true, falls, has_line, count_before, count_now, lines_in, steps_in, HasCount};
+ghost use Rattle.std.specs.Prelude.{◌≡◌, ◌≢◌, ℕ, ◌+◌, ◌<◌, ◌⊎◌, false, length, min, slice_index_or, true};
+ghost use Rattle.cil_recorded.specs.Common.{falls, has_line, count_before, count_now, lines_in, steps_in, HasCount};
 
 use crate::recorded_lines::RecordedLines;
 use crate::step::Step;

@@ -1,6 +1,7 @@
 //! Where the steps were.
 
-ghost use Rattle.cil_recorded.specs.Common.{◌≡◌, ℕ, ◌/◌, ◌<◌, count_before, count_now, steps_in};
+ghost use Rattle.std.specs.Prelude.{◌≡◌, ℕ, ◌/◌, ◌<◌};
+ghost use Rattle.cil_recorded.specs.Common.{count_before, count_now, steps_in};
 ghost use Rattle.cil_recorded.specs.Places.{step_at, IsUntouched};
 
 use crate::recorded_lines::RecordedLines;
