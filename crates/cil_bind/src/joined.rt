@@ -1,8 +1,9 @@
 //! The joined policy: several parsed modules by their names.
 
 ghost use Rattle.std.specs.Prelude.{IsTrue, map, bytes_eq};
-ghost use Rattle.cil_bind.specs.Common.{IsDistinct, names_rise};
+ghost use Rattle.std.specs.List.{IsDistinct};
 ghost use Rattle.std.specs.List.Sorted.{IsPermutation};
+ghost use Rattle.cil_specs.specs.Report.{names_rise};
 
 use cil_names::Seed;
 use cil_parse::ParsedModule;

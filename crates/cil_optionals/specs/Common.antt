@@ -10,6 +10,6 @@ pub use Rattle.cil_parse.specs.Builder.{read}
 pub use Rattle.cil_parse.specs.Parsed.{texts_of}
 pub use Rattle.cil_specs.specs.Joined.{Placed}
 pub use Rattle.cil_specs.specs.Kept.{AreApart, Optionals, is_within, restricted}
-pub use Rattle.cil_specs.specs.Lookup.{has_name, named_permissions, texts}
+pub use Rattle.cil_specs.specs.Lookup.{has_name, texts}
 pub use Rattle.cil_specs.specs.Names.{Word}
 pub use Rattle.std.specs.List.{list_all, list_any, range_with_len}

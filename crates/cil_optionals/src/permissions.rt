@@ -1,10 +1,18 @@
 //! The permissions of classes, as they are asked.
 
 ghost use Rattle.std.specs.Prelude.{◌≡◌, ◌<◌, ℕ, List, Some, true, false, bytes_eq, map, slice_get, IfOk, IsTrue};
-ghost use Rattle.cil_optionals.specs.Common.{list_all, Word, Placed, named_permissions, texts, NamedModule, read, texts_of, HavePermissions, IsReady};
+ghost use Rattle.std.specs.List.{list_all};
+ghost use Rattle.cil_specs.specs.Names.{Word};
+ghost use Rattle.cil_specs.specs.Joined.{Placed};
+ghost use Rattle.cil_specs.specs.Lookup.{named_permissions, texts};
 ghost use Rattle.cil_bind.specs.KnownLists.{texts_listed, AreKnown};
+ghost use Rattle.cil_bind.specs.declared.joined.NamedModule.{NamedModule};
+ghost use Rattle.cil_parse.specs.Builder.{read};
+ghost use Rattle.cil_parse.specs.Parsed.{texts_of};
 ghost use Rattle.cil_optionals.specs.Asks.{are_there as all_there, IsOf};
 ghost use Rattle.cil_optionals.specs.Given.{permissions_in, last_bound as last_of, is_rule as is_rule_kind, has_list as has_listed, AreAnswers, AreRecent, IsInverse};
+ghost use Rattle.cil_optionals.specs.Permissions.{HavePermissions};
+ghost use Rattle.cil_optionals.specs.Providers.{IsReady};
 
 use crate::listed::{Listed, Permission};
 use cil_bind::{Joined, KnownLists, PermissionList, Policy};

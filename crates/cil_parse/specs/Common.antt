@@ -1,10 +1,10 @@
 -- The names from elsewhere that this crate's contracts cite most, passed on from one place.
 pub use Rattle.cil_parse.specs.Builder.{Adds, AddsExpr, AddsForm, Closes, IsAt, Places, Puts, read, top}
-pub use Rattle.cil_parse.specs.Flat.{FlatStatement, count, flat}
+pub use Rattle.cil_parse.specs.Flat.{FlatStatement, flat}
 pub use Rattle.cil_parse.specs.Forms.{expr_nodes, kind_of, permissions_in}
-pub use Rattle.cil_parse.specs.Lexicon.{AddsNames, AreNumbersOf, AreSplit, IsLexicon, SplitsText, names_in, seen, texts_in}
+pub use Rattle.cil_parse.specs.Lexicon.{AddsNames, AreNumbersOf, IsLexicon, SplitsText, seen, texts_in}
 pub use Rattle.cil_parse.specs.PermissionLists.{AreListed, permission_texts, permission_words}
-pub use Rattle.cil_specs.specs.Lookup.{declared_in, references, texts, with_name}
+pub use Rattle.cil_specs.specs.Lookup.{declared_in, references, with_name}
 pub use Rattle.cil_specs.specs.Shape.{IsFirstShapeFault}
 pub use Rattle.cil_specs.specs.Statements.{Statements, rule, target_words}
 pub use Rattle.cil_text.specs.Forest.{forest_of}

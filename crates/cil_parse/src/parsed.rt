@@ -1,8 +1,16 @@
 //! Modules that borrow nothing.
 
 ghost use Rattle.std.specs.Prelude.{◌≡◌, ◌<◌, [], List, length, slice_get, slice_index_or, Some, IfOk, IfErr};
-ghost use Rattle.cil_parse.specs.Common.{texts, IsFirstShapeFault, Statements, FaultIs, forest_of, texts_in, names_in, AreNumbersOf, AreSplit, FlatStatement, flat, count, kind_of, permissions_in, AreListed};
+ghost use Rattle.cil_specs.specs.Lookup.{texts};
 ghost use Rattle.cil_specs.specs.Names.{components as components_of};
+ghost use Rattle.cil_specs.specs.Shape.{IsFirstShapeFault};
+ghost use Rattle.cil_specs.specs.Statements.{Statements};
+ghost use Rattle.cil_text.specs.Image.{FaultIs};
+ghost use Rattle.cil_text.specs.Forest.{forest_of};
+ghost use Rattle.cil_parse.specs.Lexicon.{texts_in, names_in, AreNumbersOf, AreSplit};
+ghost use Rattle.cil_parse.specs.Flat.{FlatStatement, flat, count};
+ghost use Rattle.cil_parse.specs.Forms.{kind_of, permissions_in};
+ghost use Rattle.cil_parse.specs.PermissionLists.{AreListed};
 
 use crate::builder::Builder;
 use crate::copied::copied_names;

@@ -1,7 +1,7 @@
 -- The names from elsewhere that this crate's contracts cite most, passed on from one place.
 pub use Rattle.cil_program.specs.Batch.{Adds, CanHold, IsGiven, IsOpen, given_up, held_answer, held_of}
 pub use Rattle.cil_program.specs.Command.{IsLine, IsNoCommandLine, IsNoQuestion, command_of, question_asked}
-pub use Rattle.cil_program.specs.CommandLine.{AnswersSession, AsksSession, Compiles, CompilesFiles, Content, IsBaseName, IsEntryFor, IsReadOf, IsUnreadable, LacksMemory, NamesModule, exit_status_of, unreadable_line, untold}
+pub use Rattle.cil_program.specs.CommandLine.{AnswersSession, AsksSession, Compiles, CompilesFiles, LacksMemory, exit_status_of, unreadable_line, untold}
 pub use Rattle.cil_program.specs.HeldEdit.{held_edit}
 pub use Rattle.cil_program.specs.Input.{Fits, HasStopped}
 pub use Rattle.cil_program.specs.Program.{AnswersCompile, IsToBeWritten, compile_app, program_app, session_app}
@@ -18,4 +18,4 @@ pub use Rattle.cil_store_specs.specs.Store.{IsStore, Store, empty}
 pub use Rattle.cil_stream.specs.Device.{Gains, GainsFront, Gives, HasEnded, HasFailed, has_ended}
 pub use Rattle.clap.specs.Words.{Row, app_of, found_of, kind_of, rows_of, subcommand_name_of, subcommand_of, subcommand_rows_of, takes}
 pub use Rattle.clap.specs.declared.error.kind.ErrorKind.TheVariants.{OutOfMemory}
-pub use Rattle.std.specs.List.{AllZip, list_all}
+pub use Rattle.std.specs.List.{list_all}

@@ -1,10 +1,19 @@
 //! The names of a policy, and their numbers.
 
 ghost use Rattle.std.specs.Prelude.{◌≡◌, ◌<◌, ◌++◌, ◌||◌, ℕ, List, [], fold, map, length, slice_get, slice_index_or, bytes_eq, IsTrue, Some, IfOk, OnOk};
-ghost use Rattle.cil_resolve.specs.Common.{AllByRecursion, IsDistinct, Word, Placed, has_name, with_name, texts, names_rise, read, IsOf, IsSeen, IsOneName, full_name_of, is_numbered_kind, names_with, AreNamesOf, HavePlaces, HavePermissions, HavePermissionsOf};
+ghost use Rattle.std.specs.List.{AllByRecursion, IsDistinct};
+ghost use Rattle.cil_specs.specs.Names.{Word};
+ghost use Rattle.cil_specs.specs.Joined.{Placed};
+ghost use Rattle.cil_specs.specs.Lookup.{has_name, with_name, texts};
+ghost use Rattle.cil_specs.specs.Report.{names_rise};
+ghost use Rattle.cil_parse.specs.Builder.{read};
 ghost use Rattle.cil_parse.specs.Lexicon.{AreNumbersOf};
 ghost use Rattle.cil_parse.specs.Parsed.{texts_of, names_of as module_names};
+ghost use Rattle.cil_check.specs.Bound.{IsOf, IsSeen};
+ghost use Rattle.cil_bind.specs.Written.{IsOneName};
 ghost use Rattle.cil_check.specs.Permissions.{lists_own as is_listing};
+ghost use Rattle.cil_resolve.specs.FullNames.{full_name_of, is_numbered_kind};
+ghost use Rattle.cil_resolve.specs.Numbering.{names_with, AreNamesOf, HavePlaces, HavePermissions, HavePermissionsOf};
 
 use crate::full_names::{full_names, is_numbered};
 use crate::names::{number_of, to_texts};

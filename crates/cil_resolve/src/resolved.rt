@@ -1,8 +1,15 @@
 //! What a joined policy resolves to.
 
 ghost use Rattle.std.specs.Prelude.{◌<◌, ◌^◌, AllPairs, IsTrue, length, map};
-ghost use Rattle.cil_resolve.specs.Common.{list_all, IsStrictlySortedBy, names_rise, is_rule_below, is_name_below, is_class_below, is_set_below, HasSoundSets, rule_cmp, StandApart, AreConsistent, meaning_by, rule_of, set_of};
+ghost use Rattle.std.specs.List.{list_all};
+ghost use Rattle.std.specs.List.Sorted.{IsStrictlySortedBy};
+ghost use Rattle.cil_specs.specs.Report.{names_rise};
+ghost use Rattle.cil_resolve.specs.Below.{is_rule_below, is_name_below, is_class_below, is_set_below};
+ghost use Rattle.cil_specs.specs.Members.{HasSoundSets};
+ghost use Rattle.cil_specs.specs.Violations.{rule_cmp};
 ghost use Rattle.std.proofs.Props.{props};
+ghost use Rattle.cil_resolve.specs.Apart.{StandApart};
+ghost use Rattle.cil_resolve.specs.Numbers.{AreConsistent, meaning_by, rule_of, set_of};
 
 use crate::numbered::{DroppedOptional, NumberedClass, NumberedName, NumberedRule};
 use crate::set_order::OrderedSets;

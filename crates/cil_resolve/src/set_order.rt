@@ -1,8 +1,10 @@
 //! Set statements in the order of their dependence.
 
 ghost use Rattle.std.specs.Prelude.{◌≡◌, ◌<◌, ◌⊎◌, ◌↔◌, ℕ, List, length, map, slice_get, option_map, IfOk, IsTrue, OnOk};
-ghost use Rattle.cil_resolve.specs.Common.{list_all, option_and_then, is_set_below};
+ghost use Rattle.std.specs.List.{list_all};
+ghost use Rattle.std.specs.Option.{option_and_then};
 ghost use Rattle.cil_dependence.specs.Graph.{IsEdge};
+ghost use Rattle.cil_resolve.specs.Below.{is_set_below};
 ghost use Rattle.cil_resolve.specs.SetOrder.{names_in, attributes_in, sets_at, AreStraight, IsNext, IsSetOrder, Mentions};
 
 use crate::numbered::NumberedSet;

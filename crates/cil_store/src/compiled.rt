@@ -1,8 +1,17 @@
 //! Engines that keep a store compiled.
 
 ghost use Rattle.std.specs.Prelude.{◌≡◌, ◌≤◌, List, IfErr, IfOk, OnErr, IsErrOf, length, map, flat_map};
-ghost use Rattle.cil_store.specs.Common.{HasFailed, Gains, GainsFront, Meaning, count_of, is_member, Row, row_line, atom_of, IsMeaningOf, a_batch, an_edit, AreRowsOf, AreViolationsOf, AreDroppedOf, Step, Violation, violations_text, batch_reply, IsCountedStep, IsRefusedStep, edit_of};
+ghost use Rattle.cil_stream.specs.Device.{HasFailed, Gains, GainsFront};
+ghost use Rattle.cil_specs.specs.Meaning.{Meaning, count_of};
+ghost use Rattle.cil_specs.specs.Members.{is_member};
+ghost use Rattle.cil_specs.specs.Report.{Row, row_line};
+ghost use Rattle.cil_rules.specs.Atoms.{atom_of};
+ghost use Rattle.cil_store_specs.specs.Next.{IsMeaningOf};
+ghost use Rattle.cil_store_specs.specs.Run.{a_batch, an_edit, AreRowsOf, AreViolationsOf, AreDroppedOf, Step};
 ghost use Rattle.cil_store_specs.specs.Store as spec;
+ghost use Rattle.cil_specs.specs.Violations.{Violation, violations_text};
+ghost use Rattle.cil_store.specs.Calls.{batch_reply, IsCountedStep, IsRefusedStep};
+ghost use Rattle.cil_store.specs.Edits.{edit_of};
 
 use crate::dropped::Dropped;
 use crate::edit::Edit;

@@ -1,8 +1,22 @@
 //! A policy with its counters, changed in place.
 
 ghost use Rattle.std.specs.Prelude.{◌≡◌, [], map, IfErr, IfOk, OnErr, OnOk};
-ghost use Rattle.cil_store.specs.Common.{rc_value, count_of, is_in_table, meaning_of, is_member, AreAtoms, AreViolations, CountsSome, meaning_in, atom_of, listed, AreTaken, IsMeaningOf, install_of, empty, counted_meaning, AreCountedChanges, IsKept, refusal_of, AreRefused, entry_of};
+ghost use Rattle.std.specs.Rc.{rc_value};
+ghost use Rattle.cil_specs.specs.Meaning.{count_of, is_in_table, meaning_of};
+ghost use Rattle.cil_specs.specs.Members.{is_member};
+ghost use Rattle.cil_specs.specs.Report.{AreAtoms};
+ghost use Rattle.cil_specs.specs.Violations.{AreViolations};
+ghost use Rattle.cil_counters.specs.ChangeCounts.{CountsSome};
 ghost use Rattle.cil_counters.specs.Counted.{steps_in, IsNow, WasBefore};
+ghost use Rattle.cil_resolve.specs.Resolved.{meaning_in};
+ghost use Rattle.cil_rules.specs.Atoms.{atom_of};
+ghost use Rattle.cil_rules.specs.Rows.{listed};
+ghost use Rattle.cil_store_specs.specs.Next.{AreTaken, IsMeaningOf, install_of};
+ghost use Rattle.cil_store_specs.specs.Store.{empty};
+ghost use Rattle.cil_store.specs.Counted.{counted_meaning, AreCountedChanges, IsKept};
+ghost use Rattle.cil_store.specs.Edits.{refusal_of};
+ghost use Rattle.cil_store.specs.Refusing.{AreRefused};
+ghost use Rattle.cil_store.specs.Stored.{entry_of};
 
 use crate::batch::{installs, judge};
 use crate::dropped::Dropped;

@@ -1,7 +1,8 @@
 //! The trees of a whole text.
 
 ghost use Rattle.std.specs.Prelude.{IsTrue};
-ghost use Rattle.cil_text.specs.Common.{are_lists, in_order, trees_in};
+ghost use Rattle.cil_specs.specs.Trees.{are_lists, in_order};
+ghost use Rattle.cil_text.specs.Image.{trees_in};
 
 use crate::node::Node;
 use crate::tree::TreeSlice;

@@ -1,7 +1,8 @@
 //! The statements of a whole text.
 
 ghost use Rattle.std.specs.Prelude.{IsTrue, false};
-ghost use Rattle.cil_text.specs.Common.{statement_offsets, are_apart, rise_from, statements_of};
+ghost use Rattle.cil_specs.specs.Statements.{statement_offsets, are_apart, rise_from};
+ghost use Rattle.cil_text.specs.Image.{statements_of};
 
 use crate::statement::Statement;
 use std::alloc::{Allocator, Global};

@@ -1,7 +1,10 @@
 //! The files that are compiled.
 
 ghost use Rattle.std.specs.Prelude.{◌≡◌, ◌⊎◌, ◌<◌, All, Contains, List, ℕ, length, map, IfOk, IfErr, IsErrOf};
-ghost use Rattle.cil_program.specs.Common.{AllZip, Gives, HasEnded, HasFailed, entry_of, Content, IsBaseName, IsEntryFor, IsReadOf, IsUnreadable, NamesModule, untold};
+ghost use Rattle.std.specs.List.{AllZip};
+ghost use Rattle.cil_stream.specs.Device.{Gives, HasEnded, HasFailed};
+ghost use Rattle.cil_store.specs.Stored.{entry_of};
+ghost use Rattle.cil_program.specs.CommandLine.{Content, IsBaseName, IsEntryFor, IsReadOf, IsUnreadable, NamesModule, untold};
 ghost use Rattle.cil_program.specs.declared.command_line.files.ReadFault.TheVariants.{Unreadable};
 
 use cil_store::Entry;
