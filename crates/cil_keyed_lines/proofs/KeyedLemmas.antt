@@ -258,11 +258,6 @@ module _ (f g : ℕ → ℕ → ℕ) (keys : List SymbolKey) (key : SymbolKey) (
   count_raised k t =
       omega (arith, by_index g keys past_raised k t, by_index f keys past k t, raised (index keys k) t, hit_key keys key place word mask at k t)
 
--- the memory that a shift took or lacks
-module _ {E : Type 0} (keys : List SymbolKey) (old new : State) (key : SymbolKey) (place word gone come : ℕ) (at : position (is_key key) keys ≡ Some place) (keyed : AreKeyed keys old)
-    (r : Result (Unit {0}) E) (shifted : OnOk r ((l t : ℕ) → recorded.count_now new l t + hit_at place word gone l t ≡ recorded.count_now old l t + hit_at place word come l t))
-    (kept : OnErr r ((l t : ℕ) → recorded.count_now new l t ≡ recorded.count_now old l t)) where
-
 -- ---- the targets that go and those that come
 
 -- they differ as those before and after do
