@@ -1,10 +1,23 @@
 -- What look-ups by numbers find is what the definitions lead to.
-use Rattle.cil_bind.proofs.Common.{◌≡◌, ◌⊎◌, inl, inr, ℕ, zero, suc, ◌+◌, ◌<◌, ◌≤◌, ◌==◌, Bool, true, false, ◌&&◌, cond, List, [], ◌∷◌, length, get_or, drop, Option, Some, None, IfNone, is_some, All, position, nat_eq, nat_lt, Contains, refl, sym, ap, ◌∙◌, subst, arith, true≢false, add-one, drop-cons, if◌then◌else◌, find, position_or_len, option_and_then, cases_lt, eqb-true, Contains-get_or, find_at, position-Some, slice_get_past, get_or_from_slice_get, Word, components, Placed, Table, declared_in, is_word, declares, is_same, same_namespace, declaration, has_block, outward, nearest_block, inside, from_namespace, leads, is_global, word_text, first_true, second_true, one-namespace, word_at, named, namespace_at, path_of, table_index, is_key, AreOpened, IsFirstOf, IsLead, AreWithin, Key}
-use Rattle.std.proofs.Common.{slice_get, IfSome}
+use Rattle.std.proofs.Common.{◌≡◌, ◌⊎◌, inl, inr, ℕ, zero, suc, ◌+◌, ◌<◌, ◌≤◌, ◌==◌, Bool, true, false, ◌&&◌, cond, List, [], ◌∷◌, length, get_or, drop, slice_get, Option, Some, None, IfSome, IfNone, is_some, All, position, nat_eq, nat_lt, Contains, refl, sym, ap, ◌∙◌, subst, arith, true≢false, add-one, drop-cons, if◌then◌else◌}
+use Rattle.std.specs.List.{find, position_or_len}
+use Rattle.std.specs.Option.{option_or, option_and_then}
 use Rattle.std.proofs.Math.ListN.{drop_of_length-le}
+use Rattle.std.proofs.lemmas.Bool.{cases_lt, eqb-true}
 use Rattle.std.proofs.lemmas.Bool.Decides.{Decides-ltb}
+use Rattle.std.proofs.lemmas.List.Elements.{Contains-get_or}
+use Rattle.std.proofs.lemmas.List.Folds.{find_at}
+use Rattle.std.proofs.lemmas.List.Quantifiers.{position-Some}
+use Rattle.std.proofs.lemmas.Option.{slice_get_past, slice_get_cases, get_or_from_slice_get}
+use Rattle.cil_specs.specs.Names.{Word, components}
+use Rattle.cil_specs.specs.Joined.{Placed}
+use Rattle.cil_specs.specs.Lookup.{Table, declared_in, is_word, declares, is_same, same_namespace, declaration, has_block, outward, nearest_block, inside, from_namespace, leads, is_global, word_text}
+use Rattle.cil_specs.proofs.Runs.{first_true, second_true}
+use Rattle.cil_specs.proofs.DeclaredLemmas.{one-namespace}
+use Rattle.cil_bind.specs.Lookup.{word_at, named, namespace_at, path_of, table_index, is_key, AreOpened, IsFirstOf, IsLead, AreWithin}
 use Rattle.cil_parse.specs.declared.table.Table as code
 use Rattle.cil_parse.specs.declared.table.Table.TheVariants.{Types, Classes, Commons, Scopes}
+use Rattle.cil_bind.specs.declared.lookup.Key.{Key}
 use Rattle.cil_parse.specs.contracts.table.TablePartialEq.TheImpl as table_eq
 use Rattle.cil_bind.specs.contracts.lookup.KeyPartialEq.TheImpl as key_eq
 use Rattle.cil_bind.proofs.NamespaceLemmas.{bytes_eq-true}
@@ -61,9 +74,41 @@ declaration-lead table policy namespace name found e = subst (λ f. IsLead table
 pub no-lead : (table : Table) (policy : List Placed) (lead : Option Placed) → lead ≡ None → IsLead table policy None lead
 no-lead table policy lead e = record { is = sym e; within = tt; first = tt }
 
+-- a plain name is looked up here first
+pub outward-here : (table : Table) (policy : List Placed) (namespace : List (List ℕ)) (name : List ℕ) (i : ℕ)
+    → IsLead table policy (Some i) (declaration policy table namespace name) → IsLead table policy (Some i) (outward policy table namespace name)
+outward-here table policy [] name i lead = lead
+outward-here table policy (inner ∷ outer) name i lead = subst (IsLead table policy (Some i)) (by (slice_get_cases policy i).1) lead
+  where
+    here : Option Placed
+    here = declaration policy table (inner ∷ outer) name
+
+    by : ((x : Placed) × (i < length policy) × (slice_get policy i ≡ Some x) × (get_or policy i x ≡ x)) ⊎ ((length policy ≤ i) × (slice_get policy i ≡ None))
+        → here ≡ outward policy table (inner ∷ outer) name
+    by (inl (x, low, at, same)) =
+        let found : here ≡ Some x = sym lead.is ∙ at in
+        found ∙ sym (ap (λ o. option_or o (outward policy table outer name)) found)
+    by (inr (past, at)) = absurd (let l = lead.within in omega arith)
+
+pub outward-global : (table : Table) (policy : List Placed) (namespace : List (List ℕ)) (name : List ℕ) → namespace ≡ []
+    → IsLead table policy None (declaration policy table namespace name) → IsLead table policy None (outward policy table namespace name)
+outward-global table policy namespace name e lead =
+    subst (λ n. IsLead table policy None (outward policy table n name)) (sym e) (subst (λ n. IsLead table policy None (declaration policy table n name)) e lead)
+
+outward-cons : (table : Table) (policy : List Placed) (namespace : List (List ℕ)) (name inner : List ℕ) (outer : List (List ℕ)) → namespace ≡ inner ∷ outer
+    → IsLead table policy None (declaration policy table namespace name) → outward policy table namespace name ≡ outward policy table outer name
+outward-cons table policy namespace name inner outer e lead =
+    ap (λ n. outward policy table n name) e
+    ∙ ap (λ o. option_or o (outward policy table outer name)) (ap (λ n. declaration policy table n name) (sym e) ∙ sym lead.is)
+
 -- the namespace around one
 pub around : (names spaces : List (List ℕ)) (n m w : ℕ) → get_or spaces n [] ≡ w ∷ get_or spaces m [] → namespace_at names spaces n ≡ word_at names w ∷ namespace_at names spaces m
 around names spaces n m w e = ap (named names) e
+
+pub outward-next : (table : Table) (policy : List Placed) (names spaces : List (List ℕ)) (n m w : ℕ) (name : List ℕ) → get_or spaces n [] ≡ w ∷ get_or spaces m []
+    → IsLead table policy None (declaration policy table (namespace_at names spaces n) name) → outward policy table (namespace_at names spaces n) name ≡ outward policy table (namespace_at names spaces m) name
+outward-next table policy names spaces n m w name e lead =
+    outward-cons table policy (namespace_at names spaces n) name (word_at names w) (namespace_at names spaces m) (around names spaces n m w e) lead
 
 -- whether there is a block, by the namespaces
 pub has_block-true : (names spaces : List (List ℕ)) (policy : List Placed) (n m w : ℕ) → AreOpened names spaces policy → n < length spaces → w < length names → m < length spaces
@@ -153,6 +198,10 @@ pub inside-last : (table : Table) (policy : List Placed) (names : List (List ℕ
     → inside policy table namespace (path_of names words (drop i path)) ≡ declaration policy table namespace (word_at names (get_or words (get_or path i 0) 0))
 inside-last table policy names namespace words path i low last =
     ap (inside policy table namespace) (path-from names words path i low ∙ ap (λ l. word_at names (get_or words (get_or path i 0) 0) ∷ path_of names words l) (drop_of_length-le path last))
+
+pub inside-end : (table : Table) (policy : List Placed) (names : List (List ℕ)) (namespace : List (List ℕ)) (words path : List ℕ) (i : ℕ) → length path ≤ i
+    → inside policy table namespace (path_of names words (drop i path)) ≡ None
+inside-end table policy names namespace words path i le = ap (λ l. inside policy table namespace (path_of names words l)) (drop_of_length-le path le)
 
 -- a path of one name, and one of more
 pub from-one : (table : Table) (policy : List Placed) (names namespace : List (List ℕ)) (words path : List ℕ) (k : ℕ) (rest : List ℕ) → path ≡ k ∷ rest → (length rest == 0) ≡ true
