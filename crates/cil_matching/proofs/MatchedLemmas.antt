@@ -1,5 +1,6 @@
 -- Statements that stand in two lists.
 use Rattle.cil_matching.proofs.Common.{◌≡◌, ◌∙◌, ◌↔◌, ℕ, zero, suc, ◌+◌, ◌<◌, ◌≤◌, inl, inr, Bool, true, false, true≢false, List, ◌∷◌, [], ◌++◌, length, map, position, slice_get, Option, None, Some, option_map, IsTrue, refl, sym, ap, subst, arith, cases_lt, length-append, none-some, same_Some, slice_get_within, slice_get-map, get-append, get-last, AreSameAt, AreMatched, ArePlaces, AreRight, Spot, same_spot, AreApart}
+use Rattle.core.specs.Bool.{then_some}
 use Rattle.cil_optionals.proofs.DependentLemmas.{got-push}
 use Rattle.cil_matching.proofs.SpotLemmas.{found-spot, stands-found}
 
@@ -62,7 +63,7 @@ module _ {S : Type 0} (IsSame : S → S → Type 0) (old new : List S) where
   })
 
   -- what a test at two places tells
-  pub tested-same : (i k : ℕ) (test : Bool) → i < length old → ((s t : S) → slice_get old i ≡ Some s → slice_get new k ≡ Some t → IsTrue test ↔ IsSame s t)
+  tested-same : (i k : ℕ) (test : Bool) → i < length old → ((s t : S) → slice_get old i ≡ Some s → slice_get new k ≡ Some t → IsTrue test ↔ IsSame s t)
       → (slice_get new k ≡ None → test ≡ false) → test ≡ true → AreSameAt IsSame old new i k
   tested-same i k test low tells none passes = by (slice_get old i) (slice_get new k) refl refl
     where
@@ -70,6 +71,11 @@ module _ {S : Type 0} (IsSame : S → S → Type 0) (old new : List S) where
       by None p here there = let (s, at) = mapped-there (λ x. x) old i low in absurd (none-some s (ap (option_map (λ x. x)) (sym here) ∙ sym (slice_get-map (λ x. x) old i) ∙ at))
       by (Some s) None here there = absurd (true≢false (sym passes ∙ none there))
       by (Some s) (Some t) here there = record { statement = s; other = t; here = here; there = there; same = (tells s t here there).0 passes }
+
+  pub tested-right : (i k j : ℕ) (test : Bool) → i < length old → ((s t : S) → slice_get old i ≡ Some s → slice_get new k ≡ Some t → IsTrue test ↔ IsSame s t)
+      → (slice_get new k ≡ None → test ≡ false) → then_some test k ≡ Some j → AreSameAt IsSame old new i j
+  tested-right i k j true low tells none is = subst (AreSameAt IsSame old new i) (same_Some k j is) (tested-same i k true low tells none refl)
+  tested-right i k j false low tells none is = absurd (none-some j is)
 
   -- of all places
   pub places-all : (count : ℕ) (ahead : List (Option ℕ)) → length old ≤ count → ArePlaces IsSame old new count ahead → (i j : ℕ) → (slice_get ahead i ≡ Some (Some j)) ↔ AreSameAt IsSame old new i j
@@ -135,7 +141,7 @@ module _ {S : Type 0} (IsSame : S → S → Type 0) (old new : List S) where
     )
 
     -- and else the one at its place, if that is the same
-    pub found-same : (i k : ℕ) (p : Spot) (test : Bool) → AreApart (map spot new) → slice_get (map spot old) i ≡ Some p → position (same_spot p) (map spot new) ≡ Some k
+    found-same : (i k : ℕ) (p : Spot) (test : Bool) → AreApart (map spot new) → slice_get (map spot old) i ≡ Some p → position (same_spot p) (map spot new) ≡ Some k
         → ((s t : S) → slice_get old i ≡ Some s → slice_get new k ≡ Some t → IsTrue test ↔ IsSame s t) → test ≡ true → (j : ℕ) → (Some k ≡ Some j) ↔ AreSameAt IsSame old new i j
     found-same i k p test apart at found tells passes j = (
       λ is. subst (AreSameAt IsSame old new i) (same_Some k j is) here,
@@ -148,7 +154,7 @@ module _ {S : Type 0} (IsSame : S → S → Type 0) (old new : List S) where
             let (t, its, theirs) = from-mapped spot new k p (found-spot (map spot new) p k found) in
             record { statement = s; other = t; here = own; there = its; same = (tells s t own its).0 passes }
 
-    pub found-other : (i k : ℕ) (p : Spot) (test : Bool) → AreApart (map spot new) → slice_get (map spot old) i ≡ Some p → position (same_spot p) (map spot new) ≡ Some k
+    found-other : (i k : ℕ) (p : Spot) (test : Bool) → AreApart (map spot new) → slice_get (map spot old) i ≡ Some p → position (same_spot p) (map spot new) ≡ Some k
         → ((s t : S) → slice_get old i ≡ Some s → slice_get new k ≡ Some t → IsTrue test ↔ IsSame s t) → test ≡ false → (j : ℕ) → (◌≡◌ {A = Option ℕ} None (Some j)) ↔ AreSameAt IsSame old new i j
     found-other i k p test apart at found tells fails j = (
       λ is. absurd (none-some j is),
@@ -156,3 +162,8 @@ module _ {S : Type 0} (IsSame : S → S → Type 0) (old new : List S) where
           let place = same_Some k j (sym found ∙ stands-found (map spot new) p j apart (spot-there i j p at same)) in
           absurd (true≢false (sym ((tells same.statement same.other same.here (ap (slice_get new) place ∙ same.there)).1 same.same) ∙ fails)),
     )
+
+    pub found-tested : (i k : ℕ) (p : Spot) (test : Bool) → AreApart (map spot new) → slice_get (map spot old) i ≡ Some p → position (same_spot p) (map spot new) ≡ Some k
+        → ((s t : S) → slice_get old i ≡ Some s → slice_get new k ≡ Some t → IsTrue test ↔ IsSame s t) → (j : ℕ) → (then_some test k ≡ Some j) ↔ AreSameAt IsSame old new i j
+    found-tested i k p true apart at found tells = found-same i k p true apart at found tells refl
+    found-tested i k p false apart at found tells = found-other i k p false apart at found tells refl

@@ -1,5 +1,6 @@
 -- The places of one policy's rules in another one.
-use Rattle.cil_matching.proofs.Common.{◌≡◌, ◌∙◌, ◌↔◌, ℕ, ◌<◌, Bool, true, false, true≢false, List, [], ◌∷◌, length, map, get_or, slice_get, Option, None, Some, IsTrue, sym, ap, subst, arith, IsStrictlySortedBy, Ordering, Equal, tied_itself, length-map, none-some, same_Some, slice_get-get_or, Rule, IsSameRule, content_of, rule_cmp, rule_total, meaning_in, SayTheSame, AreNumbers, AreSameAt, IsFoundAt, IsMissedAt, Spot, spot_cmp, rule_spot}
+use Rattle.cil_matching.proofs.Common.{◌≡◌, ◌∙◌, ◌↔◌, ℕ, ◌<◌, Bool, true, false, true≢false, List, [], ◌∷◌, length, map, get_or, slice_get, Option, None, Some, IsTrue, refl, sym, ap, subst, arith, IsStrictlySortedBy, Ordering, Equal, tied_itself, length-map, none-some, same_Some, slice_get-get_or, Rule, IsSameRule, content_of, rule_cmp, rule_total, meaning_in, SayTheSame, AreNumbers, AreSameAt, IsFoundAt, IsMissedAt, Spot, spot_cmp, rule_spot}
+use Rattle.core.specs.Bool.{then_some}
 use Rattle.cil_optionals.proofs.GreatestLemmas.{all-got}
 use Rattle.cil_resolve.specs.Below.{is_rule_below}
 use Rattle.cil_resolve.specs.Numbers.{rule_of}
@@ -7,7 +8,7 @@ use Rattle.cil_resolve.specs.declared.numbered.NumberedRule.{NumberedRule}
 use Rattle.cil_resolve.specs.declared.resolved.Resolved.{Resolved}
 use Rattle.cil_matching.proofs.ApartLemmas.{rules-agree}
 use Rattle.cil_matching.proofs.ContentLemmas.{content-tells, is-below}
-use Rattle.cil_matching.proofs.MatchedLemmas.{to-mapped}
+use Rattle.cil_matching.proofs.MatchedLemmas.{from-mapped, to-mapped}
 use Rattle.cil_matching.proofs.MergedLemmas.{found-place}
 use Rattle.cil_matching.proofs.SpotLemmas.{tied-spots}
 
@@ -15,13 +16,13 @@ use Rattle.cil_matching.proofs.SpotLemmas.{tied-spots}
 same-alike : (r s : Rule) → IsSameRule r s → rule_cmp s r ≡ Equal
 same-alike r s same = ap (spot_cmp (rule_spot s)) (rules-agree r s same) ∙ tied_itself rule_total s
 
--- the order of two rules is that of their spots
+-- two rules by their spots, whose order is theirs
 pub spots-tell : (olds news : List Rule) (i j : ℕ) (p q : Spot) (o : Ordering) → slice_get (map rule_spot olds) i ≡ Some p → slice_get (map rule_spot news) j ≡ Some q → o ≡ spot_cmp q p
-    → (r s : Rule) → slice_get olds i ≡ Some r → slice_get news j ≡ Some s → rule_cmp s r ≡ o
-spots-tell olds news i j p q o mine its is r s here there =
-    let one = same_Some (rule_spot r) p (sym (to-mapped rule_spot olds i r here) ∙ mine) in
-    let two = same_Some (rule_spot s) q (sym (to-mapped rule_spot news j s there) ∙ its) in
-    (λ k. spot_cmp (two k) (one k)) ∙ sym is
+    → (r : Rule) × (s : Rule) × (slice_get olds i ≡ Some r) × (slice_get news j ≡ Some s) × (rule_cmp s r ≡ o)
+spots-tell olds news i j p q o mine its is =
+    let (r, here, one) = from-mapped rule_spot olds i p mine in
+    let (s, there, two) = from-mapped rule_spot news j q its in
+    (r, s, here, there, (λ k. spot_cmp (two k) (one k)) ∙ sym is)
 
 pub rule-missed : (olds news : List Rule) (i j : ℕ) → IsMissedAt rule_cmp olds news i j → (k : ℕ) → (◌≡◌ {A = Option ℕ} None (Some k)) ↔ AreSameAt IsSameRule olds news i k
 rule-missed olds news i j missed k = (
@@ -41,7 +42,7 @@ module _ (olds news : List Rule) (i j : ℕ) (low : i < length olds) (sorted : I
 
   -- the test of what two rules say, where they stand at one spot
   module _ (test : Bool) (tells : (r s : Rule) → slice_get olds i ≡ Some r → slice_get news j ≡ Some s → IsTrue test ↔ (content_of r ≡ content_of s)) where
-    pub rule-found : test ≡ true → (k : ℕ) → (◌≡◌ {A = Option ℕ} (Some j) (Some k)) ↔ AreSameAt IsSameRule olds news i k
+    rule-found : test ≡ true → (k : ℕ) → (◌≡◌ {A = Option ℕ} (Some j) (Some k)) ↔ AreSameAt IsSameRule olds news i k
     rule-found passes k = (
       λ is. subst (AreSameAt IsSameRule olds news i) (same_Some j k is) stands,
       λ same. ap Some (sym (only-there k same)),
@@ -57,13 +58,20 @@ module _ (olds news : List Rule) (i j : ℕ) (low : i < length olds) (sorted : I
             taken [] n within = absurd (omega (arith, within))
             taken (r ∷ rules) n within = (get_or (r ∷ rules) n r, slice_get-get_or (r ∷ rules) n r within)
 
-    pub rule-other : test ≡ false → (k : ℕ) → (◌≡◌ {A = Option ℕ} None (Some k)) ↔ AreSameAt IsSameRule olds news i k
+    rule-other : test ≡ false → (k : ℕ) → (◌≡◌ {A = Option ℕ} None (Some k)) ↔ AreSameAt IsSameRule olds news i k
     rule-other fails k = (
       λ is. absurd (none-some k is),
       λ same.
           let there = ap (slice_get news) (sym (only-there k same)) ∙ same.there in
           absurd (true≢false (sym ((tells same.statement same.other same.here there).1 same.same.2) ∙ fails)),
     )
+
+    pub rule-tested : (k : ℕ) → (then_some test j ≡ Some k) ↔ AreSameAt IsSameRule olds news i k
+    rule-tested k = by test refl
+      where
+        by : (b : Bool) → test ≡ b → (then_some b j ≡ Some k) ↔ AreSameAt IsSameRule olds news i k
+        by true passes = rule-found passes k
+        by false fails = rule-other fails k
 
 -- the test of two rules that stand somewhere, by their numbers
 pub contents-tell : {A : Type 0} (p q : Resolved A) (numbers : List (Option ℕ)) → AreNumbers p.names.items q.names.items numbers → (i j : ℕ) (x y : NumberedRule A) (test : Bool)

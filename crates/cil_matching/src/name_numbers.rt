@@ -1,8 +1,8 @@
 //! The numbers of one policy's names in another one.
 
 ghost use Rattle.std.specs.Prelude.{◌≡◌, ◌<◌, length, IfOk, IfErr};
-ghost use Rattle.cil_matching.specs.Common.{AreNumbers, AreBefore, IsFoundAt, IsMissedAt};
 ghost use Rattle.cil_specs.specs.Report.{name_cmp};
+ghost use Rattle.cil_matching.specs.Common.{AreNumbers, AreBefore, IsFoundAt, IsMissedAt};
 
 use cil_resolve::Resolved;
 use std::alloc::{AllocError, Allocator};

@@ -1,11 +1,11 @@
 //! Positions of statements.
 
 ghost use Rattle.std.specs.Prelude.{◌≡◌, ◌++◌, ◌∷◌, [], false, position, OnOk};
-ghost use Rattle.cil_matching.specs.Common.{same_spot, spot_cmp, spot_of};
 ghost use Rattle.std.specs.Cmp.Rules.{hashing};
 ghost use Rattle.std.specs.Hash as fed;
 ghost use Rattle.std.specs.List.{list_any};
 ghost use Rattle.std.proofs.Common.{rules};
+ghost use Rattle.cil_matching.specs.Spot.{same_spot, spot_cmp, spot_of};
 
 use cil_names::Seed;
 use indexmap::IndexSet;

@@ -60,11 +60,7 @@ fn same<A: Allocator>(
     requires numbers { AreNumbers old.now.names.items new.now.names.items numbers.now }
     ensures { (k : ℕ) → (result ≡ Some k) ↔ AreSameAt IsSameRule (meaning_in old.now).rules (meaning_in new.now).rules i k }
 {
-    if is_same_content(numbers, &old.rules()[i], &new.rules()[j]) {
-        Some(j)
-    } else {
-        None
-    }
+    is_same_content(numbers, &old.rules()[i], &new.rules()[j]).then_some(j)
 }
 
 /// For each rule of the old policy the place of the same one in the new one, if that has it. The rules of both stand in order, so it goes

@@ -79,11 +79,7 @@ pub fn same<A: Allocator>(
 {
     resolved_sets_are_apart(new);
     let j = place?;
-    if old.is_same_set(i, new, j) {
-        Some(j)
-    } else {
-        None
-    }
+    old.is_same_set(i, new, j).then_some(j)
 }
 
 /// What a list has at a number, if there is a number.

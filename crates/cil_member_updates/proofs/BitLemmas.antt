@@ -1,5 +1,5 @@
 -- Bits of words.
-use Rattle.cil_member_updates.proofs.Common.{◌≡◌, ◌≢◌, ◌==◌, ◌+◌, ◌*◌, ◌/◌, ◌%◌, ◌^◌, ◌<◌, ◌≤◌, ◌&&◌, ℕ, Bool, true, false, bit_and, bit_or, nat_lt, refl, sym, ap, ◌∙◌, inl, inr, arith, w64, below_more, cases_lt, eq-eqb, ne_eqb, le-ltb, shr_and_one, bit_at_and, bit_at_or, bit_at_set_same, bit_at-lt, bit_at-pow_same, bit_at-pow_other, bit_at-zero, and-false, bit_at, IsPresence, one_if, differ, AreBits, AreHeld, Cover}
+use Rattle.cil_member_updates.proofs.Common.{◌≡◌, ◌≢◌, ◌==◌, ◌+◌, ◌*◌, ◌/◌, ◌%◌, ◌^◌, ◌<◌, ◌≤◌, ◌&&◌, ℕ, Bool, true, false, bit_and, bit_or, nat_lt, refl, sym, ap, ◌∙◌, inl, inr, arith, w64, below_more, cases_lt, eq-eqb, ne_eqb, le-ltb, shr_and_one, bit_at_and, bit_at_or, bit_at_set_same, bit_at-lt, bit_at-pow_same, bit_at-pow_other, bit_at-zero, and-false, bit_at, IsPresence, one_if, differ, AreBits, Cover}
 
 pub cover-first : (test : ℕ → Bool) (word one other : ℕ) → Cover test word one → Cover test word (bit_or one other)
 cover-first test word one other covers b within none = covers b within (omega (arith, none, bit_at_or one other b))
@@ -59,36 +59,31 @@ module _ (visits : ℕ) (test : ℕ → Bool) (word b mask : ℕ) (held : HeldBe
           ∙ omega (arith, bit_at_or mask more b, held.behind b (omega arith), here)
           ∙ ap one_if (is ∙ sym (ap (λ x. x && test (64 * word + b)) (eq-eqb (bit_at visits b) 1 set)) ∙ sym (ap (λ j. (bit_at visits j == 1) && test (64 * word + j)) same))
 
--- without a bit to visit no mask has a bit
-pub held-zero : (visits : ℕ) (test : ℕ → Bool) (word : ℕ) → visits ≡ 0 → AreHeld visits test word 0
-held-zero visits test word none b within =
-    bit_at-zero b
-    ∙ sym (ap (λ x. one_if (x && test (64 * word + b))) (ne_eqb (bit_at visits b) 1 (λ e. let zero_bit = ap (λ v. bit_at v b) none ∙ bit_at-zero b in omega (arith, e, zero_bit))))
-
 -- a bit alone
 pub one-bit : (k : ℕ) → k < 64 → bit_at (1 * 2 ^ k % 2 ^ 64) k ≡ 1
 one-bit k within = omega (arith, bit_at_set_same w64 0 k within, bit_at_or 0 (1 * 2 ^ k % 2 ^ 64) k, bit_at-zero k)
 
 -- the bit of an answer
+one-times : (n : ℕ) → 1 * n ≡ n
+one-times n = omega arith
+
+no-times : (n : ℕ) → 0 * n ≡ 0
+no-times n = omega arith
+
 pub answer-bit : (answer : Bool) (t b : ℕ) → t % 64 ≡ b → bit_at (one_if answer * 2 ^ (t % 64)) b ≡ one_if answer
-answer-bit true t b at = ap (λ n. bit_at n b) (zero-one (2 ^ (t % 64))) ∙ ap (λ k. bit_at (2 ^ k) b) at ∙ bit_at-pow_same b
-  where
-    zero-one : (n : ℕ) → 1 * n ≡ n
-    zero-one n = omega arith
-answer-bit false t b at = ap (λ n. bit_at n b) (none (2 ^ (t % 64))) ∙ bit_at-zero b
-  where
-    none : (n : ℕ) → 0 * n ≡ 0
-    none n = omega arith
+answer-bit true t b at = ap (λ n. bit_at n b) (one-times (2 ^ (t % 64))) ∙ ap (λ k. bit_at (2 ^ k) b) at ∙ bit_at-pow_same b
+answer-bit false t b at = ap (λ n. bit_at n b) (no-times (2 ^ (t % 64))) ∙ bit_at-zero b
 
 pub answer-other : (answer : Bool) (t b : ℕ) → t % 64 ≡ b → (k : ℕ) → k ≢ b → bit_at (one_if answer * 2 ^ (t % 64)) k ≡ 0
-answer-other true t b at k other = ap (λ n. bit_at n k) (zero-one (2 ^ (t % 64))) ∙ bit_at-pow_other (t % 64) k (λ e. other (omega (arith, e, at)))
-  where
-    zero-one : (n : ℕ) → 1 * n ≡ n
-    zero-one n = omega arith
-answer-other false t b at k other = ap (λ n. bit_at n k) (none (2 ^ (t % 64))) ∙ bit_at-zero k
-  where
-    none : (n : ℕ) → 0 * n ≡ 0
-    none n = omega arith
+answer-other true t b at k other = ap (λ n. bit_at n k) (one-times (2 ^ (t % 64))) ∙ bit_at-pow_other (t % 64) k (λ e. other (omega (arith, e, at)))
+answer-other false t b at k other = ap (λ n. bit_at n k) (no-times (2 ^ (t % 64))) ∙ bit_at-zero k
+
+-- two answers that don't differ
+pub alike : (p q : Bool) → differ p q ≡ false → p ≡ q
+alike true true e = refl
+alike true false e = e
+alike false true e = sym e
+alike false false e = refl
 
 -- a bit that is set among others
 pub set-among : (bits among b : ℕ) → bit_at (bit_and bits among) b ≡ 1 → bit_at bits b ≡ 1

@@ -10,10 +10,11 @@ pub use Rattle.cil_member_updates.specs.Evaluated.{AreUnsettledAt, Comes, Evalua
 pub use Rattle.cil_member_updates.specs.Given.{IsUnchanged, Tell, gives, of_name}
 unfoldable pub use Rattle.cil_member_updates.specs.Given.{element_holds, holds, is_of, keeps}
 pub use Rattle.cil_member_updates.specs.Moved.{AreMoved, IsMoved, nothing}
-pub use Rattle.cil_member_updates.specs.Passes.{given_by, gone, stayed}
+pub use Rattle.cil_member_updates.specs.Passes.{gave_in, given_by, gives_in, gone, gone_in, stayed, stayed_in}
 pub use Rattle.cil_member_updates.specs.Places.{no_declared, no_set, set_at}
 pub use Rattle.cil_member_updates.specs.Policy.{AreCounts, counts_at}
 unfoldable pub use Rattle.cil_member_updates.specs.Policy.{given}
+pub use Rattle.cil_member_updates.specs.Reading.{ArePolicies, AreVisits, CoversStayed, HasStayed, IsRead, MayHold, MayMove, MustHold, MustMove, Reads, Stays, given_of, held_by, is_given, is_held, lowered, new_in, old_in, raised, set_of, was_given, was_held}
 pub use Rattle.cil_parse.specs.Lexicon.{AreNumbersOf}
 pub use Rattle.cil_resolve.specs.Meter.{adjustments_in, evaluations_in}
 pub use Rattle.cil_resolve.specs.Numbers.{element_of}

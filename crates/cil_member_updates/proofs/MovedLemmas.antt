@@ -1,8 +1,29 @@
 -- Counters moved word by word.
-use Rattle.cil_member_updates.proofs.Common.{◌≡◌, ◌==◌, ◌+◌, ◌*◌, ◌/◌, ◌%◌, ◌<◌, ◌≤◌, ◌&&◌, ℕ, Bool, true, false, refl, sym, ap, ◌∙◌, inl, inr, arith, cases_eq, cases_lt, eq-eqb, ne_eqb, bit_at-lt, bit_at, differ, hit, IsMoved, AreMoved, one_if, AreHeld, Cover}
+use Rattle.cil_member_updates.proofs.Common.{◌≡◌, ◌==◌, ◌+◌, ◌*◌, ◌/◌, ◌%◌, ◌<◌, ◌≤◌, ◌&&◌, ℕ, Bool, refl, sym, ap, ◌∙◌, inl, inr, arith, cases_eq, cases_lt, eq-eqb, ne_eqb, bit_at-lt, bit_at, differ, hit, IsMoved, AreMoved, Stays, lowered, one_if, raised, AreHeld, Cover}
+use Rattle.cil_resolve.specs.declared.meter.Meter.{Meter}
+use Rattle.cil_member_updates.specs.declared.when.When.{When}
+use Rattle.cil_member_updates.specs.declared.when.When.TheVariants.{Before, Now}
+use Rattle.cil_recorded.specs.Recorded.{State}
+use Rattle.cil_member_updates.proofs.BitLemmas.{alike}
 use Rattle.cil_lines.proofs.StepLemmas.{hit-there}
 use Rattle.cil_recorded.specs.Log.{hit_at}
 use Rattle.cil_recorded.proofs.LogLemmas.{hit_in, hit_off, hit_on, hit_out}
+
+-- nothing moved
+pub stays-first : (s : State) (m : Meter) → Stays s s m m
+stays-first s m = record { counts = λ a t. refl; rows = refl; adjustments = refl }
+
+pub stays-next : (s t u : State) (l m n : Meter) → Stays s t l m → Stays t u m n → Stays s u l n
+stays-next s t u l m n one other = record {
+  counts = λ a k. other.counts a k ∙ one.counts a k;
+  rows = other.rows ∙ one.rows;
+  adjustments = other.adjustments ∙ one.adjustments;
+}
+
+-- what gives nothing neither lowers nor raises
+pub none-given : (when : When) (gives : ℕ → ℕ → ℕ) (a t : ℕ) → gives a t ≡ 0 → lowered when gives a t ≡ raised when gives a t
+none-given Before gives a t none = none
+none-given Now gives a t none = sym none
 
 -- the counters of the words so far
 pub record MovedBelow (word : ℕ) (was is : ℕ → ℕ → ℕ) (old new : ℕ → ℕ → ℕ) : Type 0 where
@@ -21,6 +42,12 @@ module _ (was is : ℕ → ℕ → ℕ) where
   moved-from word old same = record {
     below = λ a t low. ap (λ n. old a t + n) (same a t low);
     behind = λ a t high. refl;
+  }
+
+  pub moved-still : (word : ℕ) (old : ℕ → ℕ → ℕ) → ((a t : ℕ) → t / 64 ≡ word → was a t ≡ is a t) → IsMoved word was is old old
+  moved-still word old same = record {
+    here = λ a t at. ap (λ n. old a t + n) (same a t at);
+    others = λ a t other. refl;
   }
 
   pub moved-more : (word : ℕ) (old mid new : ℕ → ℕ → ℕ) → MovedBelow word was is old mid → IsMoved word was is mid new → MovedBelow (word + 1) was is old new
@@ -75,19 +102,7 @@ hit-most row word mask most here t =
       | inr other ↦ omega (arith, hit-there word mask t other)
     ]
 
--- a symbol that isn't visited is one where the test fails
-pub visited : (visits word : ℕ) (test : ℕ → Bool) → Cover test word visits → (t : ℕ) → t / 64 ≡ word → ((bit_at visits (t % 64) == 1) && test t) ≡ test t
-visited visits word test covers t at =
-    elim (cases_eq (bit_at visits (t % 64)) 1) [
-      | inl set ↦ ap (λ b. b && test t) (eq-eqb (bit_at visits (t % 64)) 1 set)
-      | inr clear ↦
-          let here : 64 * word + t % 64 ≡ t = omega (arith, at) in
-          let none : bit_at visits (t % 64) ≡ 0 = omega (arith, bit_at-lt visits (t % 64), clear) in
-          let fails : test t ≡ false = sym (ap test here) ∙ covers (t % 64) (omega arith) none in
-          ap (λ b. b && test t) (ne_eqb (bit_at visits (t % 64)) 1 clear) ∙ sym fails
-    ]
-
--- and one that isn't visited is one where two tests are the same
+-- a symbol that isn't visited is one where two tests are the same
 pub visited-same : (visits word : ℕ) (was is : ℕ → Bool) → Cover (λ t. differ (was t) (is t)) word visits → (t : ℕ) → t / 64 ≡ word
     → one_if (was t) + one_if ((bit_at visits (t % 64) == 1) && is t) ≡ one_if (is t) + one_if ((bit_at visits (t % 64) == 1) && was t)
 visited-same visits word was is covers t at =
@@ -102,9 +117,3 @@ visited-same visits word was is covers t at =
           let off : (h : Bool) → one_if ((bit_at visits (t % 64) == 1) && h) ≡ 0 = (λ h. ap (λ b. one_if (b && h)) (ne_eqb (bit_at visits (t % 64)) 1 clear)) in
           omega (arith, off (was t), off (is t), ap one_if same)
     ]
-  where
-    alike : (p q : Bool) → differ p q ≡ false → p ≡ q
-    alike true true e = refl
-    alike true false e = e
-    alike false true e = sym e
-    alike false false e = refl

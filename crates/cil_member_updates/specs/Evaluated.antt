@@ -59,23 +59,6 @@ AreTurnedAt symbols before now r i word bits = (b : ℕ) → b < 64 → bit_at b
 abbrev pub AreUnsettledAt : List (List ℕ) → Meaning → Meaning → SetStatement → ℕ → ℕ → Type 0
 AreUnsettledAt symbols old new s word bits = (b : ℕ) → b < 64 → bit_at bits b ≡ 1 → IsTrue (keeps symbols old (64 * word + b) || keeps symbols new (64 * word + b)) → IsUnsettled symbols old new s (64 * word + b)
 
--- The set statement at a place is evaluated at types of a word: at kept types alone, and at each that it holds.
-abbrev pub EvaluatesWord : {A : Type 0} → List (List ℕ) → Resolved A → ℕ → ℕ → (before after : ℕ) → Type 0
-EvaluatesWord symbols r i word = RisesWithin (InWord word (IsKept symbols (meaning_in r))) (InWord word (IsHeld symbols (meaning_in r) (set_at r i)))
-
--- at types of all words
-abbrev pub EvaluatesSet : {A : Type 0} → List (List ℕ) → Resolved A → ℕ → (before after : ℕ) → Type 0
-EvaluatesSet symbols r i = RisesWithin (IsKept symbols (meaning_in r)) (IsHeld symbols (meaning_in r) (set_at r i))
-
--- A set statement that stands at a place in each of two policies is evaluated at unsettled types of a word alone, and at each that it holds in one of the two alone.
-abbrev pub MovesWord : {A B : Type 0} → List (List ℕ) → Resolved A → ℕ → Resolved B → ℕ → ℕ → (before after : ℕ) → Type 0
-MovesWord symbols old i new j word =
-    RisesWithin (InWord word (IsUnsettled symbols (meaning_in old) (meaning_in new) (set_at new j))) (InWord word (IsMovedAt symbols (meaning_in old) (set_at old i) (meaning_in new) (set_at new j)))
-
--- at types of all words
-abbrev pub MovesSet : {A B : Type 0} → List (List ℕ) → Resolved A → ℕ → Resolved B → ℕ → (before after : ℕ) → Type 0
-MovesSet symbols old i new j = RisesWithin (IsUnsettled symbols (meaning_in old) (meaning_in new) (set_at new j)) (IsMovedAt symbols (meaning_in old) (set_at old i) (meaning_in new) (set_at new j))
-
 -- the new policy doesn't have the set statement at a place of the old one, which keeps the type
 abbrev pub MayGo : {A : Type 0} → List (List ℕ) → Resolved A → Matched → ℕ → ℕ → Type 0
 MayGo symbols old m i t = ((j : ℕ) → slice_get m.ahead i ≡ Some (Some j) → ⊥) × IsKept symbols (meaning_in old) t

@@ -7,3 +7,4 @@ pub mod Moved
 pub mod Passes
 pub mod Places
 pub mod Policy
+pub mod Reading

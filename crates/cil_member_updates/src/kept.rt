@@ -1,7 +1,8 @@
 //! The kept types of a policy by symbols.
 
 ghost use Rattle.std.specs.Prelude.{◌≡◌, ◌<◌, ◌≤◌, ℕ, length, slice_get, slice_index, slice_index_or, IfOk, Some};
-ghost use Rattle.cil_member_updates.specs.Common.{meaning_in, no_declared, AreKept, IsNumbering};
+ghost use Rattle.cil_member_updates.specs.Common.{meaning_in, IsOutside, AreKept, IsNumbering};
+ghost use Rattle.cil_member_updates.specs.Places.{no_declared};
 
 use cil_member_rows::Words;
 use cil_resolve::Resolved;
@@ -103,8 +104,7 @@ fn last_unlike<A: Allocator>(one: &KeptTypes<A>, other: &KeptTypes<A>, words: us
 
 /// The words from the first one to behind the last one in which two policies keep different types.
 pub fn unlike_words<A: Allocator>(one: &KeptTypes<A>, other: &KeptTypes<A>) -> Words
-    ensures before { (w : ℕ) → w < result.first → slice_index one.now w ≡ slice_index other.now w }
-    ensures behind { (w : ℕ) → result.end ≤ w → slice_index one.now w ≡ slice_index other.now w }
+    ensures { (w : ℕ) → IsOutside result w → slice_index one.now w ≡ slice_index other.now w }
 {
     let words = one.words.len().max(other.words.len());
     Words {

@@ -1,9 +1,12 @@
-//! A policy, by symbols.
+//! A policy, by symbols, and its set statements.
 
 ghost use Rattle.std.specs.Prelude.{◌≡◌, ◌<◌, length, slice_get, Some};
-ghost use Rattle.cil_member_updates.specs.Common.{sets_in, set_at, IsSide};
+ghost use Rattle.cil_member_updates.specs.Common.{sets_in, set_of, IsSide};
 
 use crate::kept::KeptTypes;
+use crate::when::When;
+use cil_matching::SetMatching;
+use cil_member_rows::Words;
 use cil_resolve::Resolved;
 use cil_symbols::{Numbering, Symbols};
 use std::alloc::{Allocator, Global};
@@ -16,12 +19,40 @@ pub struct Side<'p, A: Allocator = Global> {
     pub kept: &'p KeptTypes<A>,
 }
 
-/// The symbol of the attribute of the set statement at a place.
-pub fn row_of<A: Allocator>(symbols: &Symbols<A>, side: &Side<'_, A>, i: usize) -> usize
-    requires side { IsSide symbols.now side.now }
-    requires within { i < length (sets_in side.now.resolved.now) }
-    ensures { slice_get symbols.now result ≡ Some (set_at side.now.resolved.now i).attribute }
+/// The set statement of a policy at a place. Its expression is read by who was a member before the steps, or is one now.
+#[derive(Clone, Copy)]
+pub struct Reading<'p, A: Allocator = Global> {
+    pub symbols: &'p Symbols<A>,
+    pub side: &'p Side<'p, A>,
+    pub when: When,
+    pub place: usize,
+}
+
+/// Two policies with their set statements matched, and words outside which they keep the same types.
+#[derive(Clone, Copy)]
+pub struct Policies<'p, A: Allocator = Global> {
+    pub symbols: &'p Symbols<A>,
+    pub old: &'p Side<'p, A>,
+    pub new: &'p Side<'p, A>,
+    pub matching: &'p SetMatching<A>,
+    pub unlike: Words,
+}
+
+/// A set statement that both policies have, by its places.
+#[derive(Clone, Copy)]
+pub struct Stayed<'p, A: Allocator = Global> {
+    pub policies: &'p Policies<'p, A>,
+    pub i: usize,
+    pub j: usize,
+}
+
+/// The symbol of the attribute of a set statement.
+pub fn row_of<A: Allocator>(reading: &Reading<'_, A>) -> usize
+    requires side { IsSide reading.now.symbols.now reading.now.side.now }
+    requires within { reading.now.place < length (sets_in reading.now.side.now.resolved.now) }
+    ensures row { slice_get reading.now.symbols.now result ≡ Some (set_of reading.now).attribute }
+    ensures within { result < length reading.now.symbols.now }
 {
-    let attribute = side.resolved.set_attribute(i).unwrap();
-    side.numbering.symbol(attribute).unwrap()
+    let attribute = reading.side.resolved.set_attribute(reading.place).unwrap();
+    reading.side.numbering.symbol(attribute).unwrap()
 }

@@ -1,20 +1,18 @@
 //! Where a set statement may hold a type, word by word.
 
-ghost use Rattle.std.specs.Prelude.{◌≡◌, ◌<◌, ◌==◌, ℕ, Contains, IsTrue, length, slice_index};
-ghost use Rattle.cil_member_updates.specs.Common.{meaning_in, sets_in, set_at, IsSameSet, count_before, count_now, IsOutside, AreTurnedAt, AreUnsettledAt, IsTurnedAt, element_holds, holds, IsUnchanged, Tell, counts_at, AreUnchanged, CoverNames, IsSide, Cover};
+ghost use Rattle.std.specs.Prelude.{◌<◌, ◌==◌, ℕ, Contains, IsTrue, length};
 ghost use Rattle.cil_resolve.specs.Below.{is_element_below};
 ghost use Rattle.cil_resolve.specs.Numbers.{element_of};
+ghost use Rattle.cil_member_updates.specs.Common.{meaning_in, sets_in, count_before, count_now, IsOutside, AreTurnedAt, IsTurnedAt, element_holds, IsUnchanged, AreUnchanged, CoverNames, IsSide, ArePolicies, AreVisits, CoversStayed, HasStayed, held_by, Reads, set_of, Cover};
 ghost use Rattle.cil_specs.specs.Expr.{leaves};
-ghost use Rattle.cil_specs.specs.Sets.{differ};
 
-use crate::side::Side;
+use crate::side::{Reading, Stayed};
 use crate::when::{When, members};
 use cil_member_rows::{MemberRows, Words};
 use cil_resolve::{
     Element, expressions_agree, reach_is_a_bound, resolved_is_sound, resolved_names_are_kept,
     resolved_sets_are_in_order,
 };
-use cil_symbols::Symbols;
 use std::alloc::Allocator;
 
 // How many symbols a word has.
@@ -33,242 +31,198 @@ fn symbol_bit(symbol: usize, word: usize) -> u64
 
 /// The types of a word that a name of an expression may hold.
 fn element_bits<A: Allocator>(
-    symbols: &Symbols<A>,
-    side: &Side<'_, A>,
+    reading: &Reading<'_, A>,
     rows: &MemberRows<A>,
-    when: &When,
-    i: usize,
     element: Element,
     word: usize,
 ) -> u64
-    requires side { IsSide symbols.now side.now }
-    requires below { IsTrue (is_element_below (length side.now.resolved.now.names.items) element) }
-    requires named { Contains (leaves (set_at side.now.resolved.now i).expr) (element_of side.now.resolved.now.names.items element) }
-    requires tell { Tell symbols.now (meaning_in side.now.resolved.now) (set_at side.now.resolved.now i) (counts_at when.now rows.now) }
-    ensures { Cover (element_holds symbols.now (meaning_in side.now.resolved.now) (element_of side.now.resolved.now.names.items element)) word result }
+    requires reads { Reads reading.now rows.now }
+    requires below { IsTrue (is_element_below (length reading.now.side.now.resolved.now.names.items) element) }
+    requires named { Contains (leaves (set_of reading.now).expr)
+        (element_of reading.now.side.now.resolved.now.names.items element) }
+    ensures { Cover (element_holds reading.now.symbols.now (meaning_in reading.now.side.now.resolved.now)
+        (element_of reading.now.side.now.resolved.now.names.items element)) word result }
 {
     match element {
-        Element::Type(ty) => symbol_bit(side.numbering.symbol(ty).unwrap(), word),
+        Element::Type(ty) => symbol_bit(reading.side.numbering.symbol(ty).unwrap(), word),
         Element::Attribute(attribute) => members(
             rows,
-            when,
-            side.numbering.symbol(attribute).unwrap(),
+            &reading.when,
+            reading.side.numbering.symbol(attribute).unwrap(),
             word,
         ),
     }
 }
 
-/// The types of a word that one of the names may hold of the set statement at a place.
-fn name_bits<A: Allocator>(
-    symbols: &Symbols<A>,
-    side: &Side<'_, A>,
-    rows: &MemberRows<A>,
-    when: &When,
-    i: usize,
-    word: usize,
-) -> u64
-    requires side { IsSide symbols.now side.now }
-    requires within { i < length (sets_in side.now.resolved.now) }
-    requires tell { Tell symbols.now (meaning_in side.now.resolved.now) (set_at side.now.resolved.now i) (counts_at when.now rows.now) }
-    ensures { CoverNames symbols.now side.now.resolved.now i word result }
+/// The types of a word that one of the names of a set statement may hold.
+fn name_bits<A: Allocator>(reading: &Reading<'_, A>, rows: &MemberRows<A>, word: usize) -> u64
+    requires { Reads reading.now rows.now }
+    ensures { CoverNames reading.now.symbols.now reading.now.side.now.resolved.now reading.now.place word result }
 {
-    let names = side.resolved.set_names(i);
+    let names = reading.side.resolved.set_names(reading.place);
     let mut bits = 0;
     for k in 0..names.len() {
-        bits |= element_bits(symbols, side, rows, when, i, names[k], word);
+        bits |= element_bits(reading, rows, names[k], word);
     }
     bits
 }
 
-/// The types of a word that the set statement at a place may hold.
-pub fn reached<A: Allocator>(
-    symbols: &Symbols<A>,
-    side: &Side<'_, A>,
-    rows: &MemberRows<A>,
-    when: &When,
-    i: usize,
-    word: usize,
-) -> u64
-    requires side { IsSide symbols.now side.now }
-    requires within { i < length (sets_in side.now.resolved.now) }
-    requires tell { Tell symbols.now (meaning_in side.now.resolved.now) (set_at side.now.resolved.now i) (counts_at when.now rows.now) }
-    ensures { Cover (holds symbols.now (meaning_in side.now.resolved.now) (set_at side.now.resolved.now i)) word result }
+/// The types of a word that a set statement may hold.
+pub fn reached<A: Allocator>(reading: &Reading<'_, A>, rows: &MemberRows<A>, word: usize) -> u64
+    requires { Reads reading.now rows.now }
+    ensures { Cover (held_by reading.now) word result }
 {
     reach_is_a_bound();
-    if side.resolved.may_hold_any(i) {
-        side.kept.word(word)
+    if reading.side.resolved.may_hold_any(reading.place) {
+        reading.side.kept.word(word)
     } else {
-        name_bits(symbols, side, rows, when, i, word)
+        name_bits(reading, rows, word)
     }
 }
 
 /// The types of a word that became members of the attribute of a name of an expression, or are none any more.
 fn changed_by_name<A: Allocator>(
-    symbols: &Symbols<A>,
-    side: &Side<'_, A>,
+    reading: &Reading<'_, A>,
     rows: &MemberRows<A>,
     element: Element,
     word: usize,
 ) -> u64
-    requires side { IsSide symbols.now side.now }
-    requires below { IsTrue (is_element_below (length side.now.resolved.now.names.items) element) }
-    ensures unchanged { IsUnchanged symbols.now (count_before rows.now) (count_now rows.now) (element_of side.now.resolved.now.names.items element) word result }
-    ensures turned { IsTurnedAt symbols.now (count_before rows.now) (count_now rows.now) (element_of side.now.resolved.now.names.items element) word result }
+    requires side { IsSide reading.now.symbols.now reading.now.side.now }
+    requires below { IsTrue (is_element_below (length reading.now.side.now.resolved.now.names.items) element) }
+    ensures unchanged { IsUnchanged reading.now.symbols.now (count_before rows.now) (count_now rows.now)
+        (element_of reading.now.side.now.resolved.now.names.items element) word result }
+    ensures turned { IsTurnedAt reading.now.symbols.now (count_before rows.now) (count_now rows.now)
+        (element_of reading.now.side.now.resolved.now.names.items element) word result }
 {
     match element {
         Element::Type(_) => 0,
         Element::Attribute(attribute) => {
-            rows.changed(side.numbering.symbol(attribute).unwrap(), word)
+            let row = reading.side.numbering.symbol(attribute).unwrap();
+            rows.changed(row, word)
         }
     }
 }
 
-/// The types of a word that became members of an attribute that the set statement at a place mentions, or are none any more.
+/// The types of a word that became members of an attribute that a set statement mentions, or are none any more.
 fn changed_by_names<A: Allocator>(
-    symbols: &Symbols<A>,
-    side: &Side<'_, A>,
+    reading: &Reading<'_, A>,
     rows: &MemberRows<A>,
-    i: usize,
     word: usize,
 ) -> u64
-    requires side { IsSide symbols.now side.now }
-    requires within { i < length (sets_in side.now.resolved.now) }
-    ensures unchanged { AreUnchanged symbols.now (count_before rows.now) (count_now rows.now) side.now.resolved.now i word result }
-    ensures turned { AreTurnedAt symbols.now (count_before rows.now) (count_now rows.now) side.now.resolved.now i word result }
+    requires side { IsSide reading.now.symbols.now reading.now.side.now }
+    requires within { reading.now.place < length (sets_in reading.now.side.now.resolved.now) }
+    ensures unchanged { AreUnchanged reading.now.symbols.now (count_before rows.now) (count_now rows.now)
+        reading.now.side.now.resolved.now reading.now.place word result }
+    ensures turned { AreTurnedAt reading.now.symbols.now (count_before rows.now) (count_now rows.now)
+        reading.now.side.now.resolved.now reading.now.place word result }
 {
-    let names = side.resolved.set_names(i);
+    let names = reading.side.resolved.set_names(reading.place);
     let mut bits = 0;
     for k in 0..names.len() {
-        bits |= changed_by_name(symbols, side, rows, names[k], word);
+        bits |= changed_by_name(reading, rows, names[k], word);
     }
     bits
 }
 
 /// The types of a word that one of two policies keeps alone, or that turned in an attribute that a set statement of both mentions.
-fn touched<A: Allocator>(
-    symbols: &Symbols<A>,
-    old: &Side<'_, A>,
-    new: &Side<'_, A>,
-    rows: &MemberRows<A>,
-    i: usize,
-    j: usize,
-    word: usize,
-) -> u64
-    requires old { IsSide symbols.now old.now }
-    requires new { IsSide symbols.now new.now }
-    requires i_within { i < length (sets_in old.now.resolved.now) }
-    requires j_within { j < length (sets_in new.now.resolved.now) }
-    requires same { IsSameSet (set_at old.now.resolved.now i) (set_at new.now.resolved.now j) }
-    requires was { Tell symbols.now (meaning_in old.now.resolved.now) (set_at old.now.resolved.now i) (count_before rows.now) }
-    requires is { Tell symbols.now (meaning_in new.now.resolved.now) (set_at new.now.resolved.now j) (count_now rows.now) }
-    ensures cover { Cover (λ t. differ (holds symbols.now (meaning_in old.now.resolved.now) (set_at old.now.resolved.now i) t)
-        (holds symbols.now (meaning_in new.now.resolved.now) (set_at new.now.resolved.now j) t)) word result }
-    ensures unsettled { AreUnsettledAt symbols.now (meaning_in old.now.resolved.now) (meaning_in new.now.resolved.now) (set_at new.now.resolved.now j) word result }
+fn touched<A: Allocator>(stayed: &Stayed<'_, A>, rows: &MemberRows<A>, word: usize) -> u64
+    requires stayed { HasStayed stayed.now rows.now }
+    ensures { AreVisits stayed.now word result }
 {
+    let old = stayed.policies.old;
+    let new = stayed.policies.new;
     expressions_agree();
     resolved_is_sound(new.resolved);
     resolved_names_are_kept(new.resolved);
     resolved_sets_are_in_order(new.resolved);
-    let changed = changed_by_names(symbols, new, rows, j, word);
+    let is = Reading {
+        symbols: stayed.policies.symbols,
+        side: new,
+        when: When::Now,
+        place: stayed.j,
+    };
+    let changed = changed_by_names(&is, rows, word);
     changed | (old.kept.word(word) ^ new.kept.word(word))
 }
 
 /// The types of a word at which a set statement that both policies have may hold in one of them alone: of those that are touched, the
 /// types that it may hold in either.
-pub fn unsettled<A: Allocator>(
-    symbols: &Symbols<A>,
-    old: &Side<'_, A>,
-    new: &Side<'_, A>,
-    rows: &MemberRows<A>,
-    i: usize,
-    j: usize,
-    word: usize,
-) -> u64
-    requires old { IsSide symbols.now old.now }
-    requires new { IsSide symbols.now new.now }
-    requires i_within { i < length (sets_in old.now.resolved.now) }
-    requires j_within { j < length (sets_in new.now.resolved.now) }
-    requires same { IsSameSet (set_at old.now.resolved.now i) (set_at new.now.resolved.now j) }
-    requires was { Tell symbols.now (meaning_in old.now.resolved.now) (set_at old.now.resolved.now i) (count_before rows.now) }
-    requires is { Tell symbols.now (meaning_in new.now.resolved.now) (set_at new.now.resolved.now j) (count_now rows.now) }
-    ensures cover { Cover (λ t. differ (holds symbols.now (meaning_in old.now.resolved.now) (set_at old.now.resolved.now i) t)
-        (holds symbols.now (meaning_in new.now.resolved.now) (set_at new.now.resolved.now j) t)) word result }
-    ensures unsettled { AreUnsettledAt symbols.now (meaning_in old.now.resolved.now) (meaning_in new.now.resolved.now) (set_at new.now.resolved.now j) word result }
+pub fn unsettled<A: Allocator>(stayed: &Stayed<'_, A>, rows: &MemberRows<A>, word: usize) -> u64
+    requires stayed { HasStayed stayed.now rows.now }
+    ensures { AreVisits stayed.now word result }
 {
-    let bits = touched(symbols, old, new, rows, i, j, word);
+    let bits = touched(stayed, rows, word);
     if bits == 0 {
         return 0;
     }
-    let was = reached(symbols, old, rows, &When::Before, i, word);
-    let is = reached(symbols, new, rows, &When::Now, j, word);
-    bits & (was | is)
+    let was = Reading {
+        symbols: stayed.policies.symbols,
+        side: stayed.policies.old,
+        when: When::Before,
+        place: stayed.i,
+    };
+    let is = Reading {
+        symbols: stayed.policies.symbols,
+        side: stayed.policies.new,
+        when: When::Now,
+        place: stayed.j,
+    };
+    bits & (reached(&was, rows, word) | reached(&is, rows, word))
 }
 
 /// Words outside which the attribute of a name of an expression has the members that it had.
 fn words_of_name<A: Allocator>(
-    symbols: &Symbols<A>,
-    side: &Side<'_, A>,
+    reading: &Reading<'_, A>,
     rows: &MemberRows<A>,
     element: Element,
 ) -> Words
-    requires side { IsSide symbols.now side.now }
-    requires below { IsTrue (is_element_below (length side.now.resolved.now.names.items) element) }
+    requires side { IsSide reading.now.symbols.now reading.now.side.now }
+    requires below { IsTrue (is_element_below (length reading.now.side.now.resolved.now.names.items) element) }
     ensures { (w : ℕ) → IsOutside result w
-        → IsUnchanged symbols.now (count_before rows.now) (count_now rows.now)
-        (element_of side.now.resolved.now.names.items element) w 0 }
+        → IsUnchanged reading.now.symbols.now (count_before rows.now) (count_now rows.now)
+        (element_of reading.now.side.now.resolved.now.names.items element) w 0 }
 {
     match element {
         Element::Type(_) => Words::none(),
         Element::Attribute(attribute) => {
-            rows.turned_words(side.numbering.symbol(attribute).unwrap())
+            rows.turned_words(reading.side.numbering.symbol(attribute).unwrap())
         }
     }
 }
 
-/// Words outside which each attribute that the set statement at a place mentions has the members that it had.
-fn words_of_names<A: Allocator>(
-    symbols: &Symbols<A>,
-    side: &Side<'_, A>,
-    rows: &MemberRows<A>,
-    i: usize,
-) -> Words
-    requires side { IsSide symbols.now side.now }
-    requires within { i < length (sets_in side.now.resolved.now) }
+/// Words outside which each attribute that a set statement mentions has the members that it had.
+fn words_of_names<A: Allocator>(reading: &Reading<'_, A>, rows: &MemberRows<A>) -> Words
+    requires side { IsSide reading.now.symbols.now reading.now.side.now }
+    requires within { reading.now.place < length (sets_in reading.now.side.now.resolved.now) }
     ensures { (w : ℕ) → IsOutside result w
-        → AreUnchanged symbols.now (count_before rows.now) (count_now rows.now) side.now.resolved.now i w 0 }
+        → AreUnchanged reading.now.symbols.now (count_before rows.now) (count_now rows.now)
+        reading.now.side.now.resolved.now reading.now.place w 0 }
 {
-    let names = side.resolved.set_names(i);
+    let names = reading.side.resolved.set_names(reading.place);
     let mut words = Words::none();
     for k in 0..names.len() {
-        words = words.joined(words_of_name(symbols, side, rows, names[k]));
+        words = words.joined(words_of_name(reading, rows, names[k]));
     }
     words
 }
 
-/// Words outside which a set statement of both policies holds in one of them alone only types that one of them keeps alone: none but those
-/// in which an attribute that it mentions had a step, and what stands between them.
-pub fn turned_words<A: Allocator>(
-    symbols: &Symbols<A>,
-    old: &Side<'_, A>,
-    new: &Side<'_, A>,
-    rows: &MemberRows<A>,
-    i: usize,
-    j: usize,
-) -> Words
-    requires old { IsSide symbols.now old.now }
-    requires new { IsSide symbols.now new.now }
-    requires i_within { i < length (sets_in old.now.resolved.now) }
-    requires j_within { j < length (sets_in new.now.resolved.now) }
-    requires same { IsSameSet (set_at old.now.resolved.now i) (set_at new.now.resolved.now j) }
-    requires was { Tell symbols.now (meaning_in old.now.resolved.now) (set_at old.now.resolved.now i) (count_before rows.now) }
-    requires is { Tell symbols.now (meaning_in new.now.resolved.now) (set_at new.now.resolved.now j) (count_now rows.now) }
-    ensures { (w : ℕ) → IsOutside result w → slice_index old.now.kept.now w ≡ slice_index new.now.kept.now w
-        → Cover (λ t. differ (holds symbols.now (meaning_in old.now.resolved.now) (set_at old.now.resolved.now i) t)
-        (holds symbols.now (meaning_in new.now.resolved.now) (set_at new.now.resolved.now j) t)) w 0 }
+/// Words outside which a set statement of both policies holds the same in both: those in which the policies keep different types or an
+/// attribute that it mentions had a step, and what stands between them.
+pub fn turned_words<A: Allocator>(stayed: &Stayed<'_, A>, rows: &MemberRows<A>) -> Words
+    requires policies { ArePolicies stayed.now.policies.now }
+    requires stayed { HasStayed stayed.now rows.now }
+    ensures { (w : ℕ) → IsOutside result w → CoversStayed stayed.now w 0 }
 {
+    let new = stayed.policies.new;
     expressions_agree();
     resolved_is_sound(new.resolved);
     resolved_names_are_kept(new.resolved);
     resolved_sets_are_in_order(new.resolved);
-    words_of_names(symbols, new, rows, j)
+    let is = Reading {
+        symbols: stayed.policies.symbols,
+        side: new,
+        when: When::Now,
+        place: stayed.j,
+    };
+    stayed.policies.unlike.joined(words_of_names(&is, rows))
 }

@@ -1,8 +1,8 @@
 //! Who is a member, or was before the steps.
 
 ghost use Rattle.std.specs.Prelude.{◌≡◌, nat_lt};
-ghost use Rattle.cil_member_updates.specs.Common.{counts_at};
 ghost use Rattle.cil_lines.specs.Line.{IsPresence};
+ghost use Rattle.cil_member_updates.specs.Policy.{counts_at};
 
 use cil_member_rows::MemberRows;
 use std::alloc::Allocator;

@@ -7,7 +7,7 @@ pub use Rattle.cil_parse.specs.Lexicon.{AreNumbersOf}
 pub use Rattle.cil_specs.specs.Lookup.{has_name, with_name}
 pub use Rattle.cil_symbols.specs.InUse.{AreUsed, AreUsedBelow, IsUsed, used_in}
 pub use Rattle.cil_symbols.specs.Numbered.{AreApart, AreInverse}
-pub use Rattle.std.proofs.Common.{Bool, IfSome, IsTrue, List, None, Option, Some, [], ap, append-nil, append_assoc, arith, bytes_eq, cond, drop, false, fold, get_or, if◌then◌else◌, inl, inr, is_some, length, map, max, position, refl, replicate, set, slice_get, subst, suc, sym, take, true, true≢false, zero, ℕ, ◌++◌, ◌+◌, ◌-◌, ◌<◌, ◌∙◌, ◌∷◌, ◌≡◌, ◌≤◌}
+pub use Rattle.std.proofs.Common.{Bool, IfSome, IsTrue, List, None, Option, Some, [], ap, append-nil, append_assoc, arith, bytes_eq, cond, drop, false, fold, get_or, if◌then◌else◌, inl, inr, is_some, length, map, max, position, refl, replicate, rules, set, slice_get, subst, suc, sym, take, true, true≢false, zero, ℕ, ◌++◌, ◌+◌, ◌-◌, ◌<◌, ◌∙◌, ◌∷◌, ◌≡◌, ◌≤◌}
 pub use Rattle.std.proofs.lemmas.List.{get_or-replicate, length-append, length-map, length-replicate, length-set, map-set, set-append_left, take-append-drop, take_all}
 pub use Rattle.std.proofs.lemmas.List.Sums.{fold_more, sum_by-append, sum_by-cons, sum_by-set}
 pub use Rattle.std.proofs.lemmas.Option.{get_or_from_slice_get, none-some, same_Some, slice_get-get_or, slice_get-map, slice_get_within}

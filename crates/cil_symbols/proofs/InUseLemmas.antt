@@ -1,5 +1,5 @@
 -- Symbols in use, and names that come in the place of others.
-use Rattle.cil_symbols.proofs.Common.{◌≡◌, ◌∙◌, ℕ, ◌+◌, ◌-◌, ◌<◌, ◌≤◌, suc, Bool, true, false, List, [], ◌∷◌, ◌++◌, length, map, cond, take, set, get_or, slice_get, Option, None, Some, IfSome, inl, inr, is_some, position, bytes_eq, refl, sym, ap, subst, arith, true≢false, if◌then◌else◌, length-append, length-map, length-set, map-set, set-append_left, is_none, sum_by-append, sum_by-cons, none-some, slice_get_within, slice_get-get_or, get_or_from_slice_get, same_Some, has_name, AreNumbersOf, any-position, get-append, get-set_same, get-set_other, used_in, AreUsedBelow, IsUsed, has_name-texts, same, texts}
+use Rattle.cil_symbols.proofs.Common.{◌≡◌, ◌∙◌, ℕ, ◌+◌, ◌-◌, ◌<◌, ◌≤◌, suc, Bool, true, false, List, [], ◌∷◌, ◌++◌, length, map, cond, take, set, get_or, slice_get, Option, None, Some, IfSome, inl, inr, is_some, position, bytes_eq, refl, sym, ap, subst, arith, true≢false, if◌then◌else◌, length-append, length-map, length-set, map-set, set-append_left, is_none, sum_by-append, sum_by-cons, none-some, slice_get_within, slice_get-get_or, get_or_from_slice_get, same_Some, has_name, AreNumbersOf, any-position, get-append, get-set_same, get-set_other, used_in, AreUsedBelow, IsUsed, found-name, has_name-texts, same, texts}
 use Rattle.std.specs.List.{count_by, swap_remove}
 use Rattle.std.proofs.Math.Seq.{take-append_seam, get_or-append_seam}
 use Rattle.std.proofs.lemmas.Bool.{cases_eq, cases_lt}
@@ -40,6 +40,10 @@ reused {K} text names name i more gone others within new is_more at by_swap = by
     by : (o : Option K) → o ≡ slice_get more i → IfSome o (λ k. others ≡ swap_remove more i k) → texts text others ≡ set (texts text names) i (text name)
     by None e swapped = absurd (none-some (get_or names i name) (e ∙ there))
     by (Some k) e swapped = ap (texts text) (swapped ∙ ap (λ l. swap_remove l i k) keys ∙ swap-last names name i k low) ∙ map-set text names i name
+
+-- a name that is found has a mark, where there are as many as names
+pub found-within : (names : List (List ℕ)) (name : List ℕ) (n : ℕ) (marks : List Bool) → position (bytes_eq name) names ≡ Some n → length marks ≡ length names → n < length marks
+found-within names name n marks is long = omega (arith, slice_get_within names n name (found-name names name n is), long)
 
 pub now-used : (marks : List Bool) (i : ℕ) → i < length marks → IsUsed (set marks i true) i
 now-used marks i low = get-set_same marks i (get_or marks i false) true (slice_get-get_or marks i false low)

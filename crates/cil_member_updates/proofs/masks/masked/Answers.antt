@@ -1,4 +1,4 @@
-use Rattle.cil_member_updates.proofs.Common.{◌≡◌, ◌+◌, ◌*◌, ◌==◌, ◌∙◌, ap, bit_and, arith, refl, subst, sym, bit_at, eq-eqb, ne_eqb, shr_and_one, adjustments_in, evaluations_in, meaning_in, set_at, up_to, RisesBy, up_to-add, up_to-skip, AreBits, is_asked, holds, keeps}
+use Rattle.cil_member_updates.proofs.Common.{◌≡◌, ◌+◌, ◌*◌, ◌==◌, ◌∙◌, ap, bit_and, arith, refl, subst, sym, bit_at, eq-eqb, ne_eqb, shr_and_one, adjustments_in, evaluations_in, meaning_in, up_to, RisesBy, up_to-add, up_to-skip, AreBits, is_asked, held_by, keeps, set_of}
 use Rattle.cil_sums.proofs.RiseLemmas.{rises-same}
 use Rattle.cil_member_updates.proofs.BitLemmas.{answer-bit, answer-other, held-add, held-skip, looked-kept, looked-past, looked-visit, HeldBelow}
 use Rattle.cil_member_updates.proofs.NameLemmas.{holds-kept}
@@ -7,19 +7,19 @@ use Rattle.cil_member_updates.proofs.masks.masked.Goals.{then-kept-b-eq1, else-k
 
 pub held_bit-mask-requires-clause-kept : goal.held_bit-mask-requires-clause-kept
 held_bit-mask-requires-clause-kept g c =
-    let r = c.args.side.now.resolved.now in
-    let symbols = c.args.symbols.now in
-    looked-kept (keeps symbols (meaning_in r)) (holds symbols (meaning_in r) (set_at r c.args.i)) c.args.word c.args.visits c.word.result c.loop-b.b c.loop-b-test.true
-    (subst (AreBits (keeps symbols (meaning_in r)) c.args.word) (sym c.word.ensures) (c.requires.side.kept c.args.word)) c.if-kept-b-eq1.true
+    let r = c.args.reading.now.side.now.resolved.now in
+    let symbols = c.args.reading.now.symbols.now in
+    looked-kept (keeps symbols (meaning_in r)) (held_by c.args.reading.now) c.args.word c.args.visits c.word.result c.loop-b.b c.loop-b-test.true
+    (subst (AreBits (keeps symbols (meaning_in r)) c.args.word) (sym c.word.ensures) (c.requires.reads.side.kept c.args.word)) c.if-kept-b-eq1.true
 
 pub loop-b-preserved : goal.loop-b-preserved
 loop-b-preserved g c =
-    let r = c.args.side.now.resolved.now in
-    let symbols = c.args.symbols.now in
-    let test = holds symbols (meaning_in r) (set_at r c.args.i) in
+    let r = c.args.reading.now.side.now.resolved.now in
+    let symbols = c.args.reading.now.symbols.now in
+    let test = held_by c.args.reading.now in
     let b = c.loop-b.b in
     let within = c.loop-b-test.true in
-    let kept = subst (AreBits (keeps symbols (meaning_in r)) c.args.word) (sym c.word.ensures) (c.requires.side.kept c.args.word) in
+    let kept = subst (AreBits (keeps symbols (meaning_in r)) c.args.word) (sym c.word.ensures) (c.requires.reads.side.kept c.args.word) in
     elim c.if-kept-b-eq1.branch [
       | then-kept-b-eq1 w ↦
           let more = w.held_bit-mask.result in
@@ -40,7 +40,7 @@ loop-b-preserved g c =
             held = subst (HeldBelow c.args.visits test c.args.word (b + 1)) (sym w.mask-is)
                 (held-skip c.args.visits test c.args.word b c.loop-b.mask c.loop-b.invariant.held
                 (looked-past (keeps symbols (meaning_in r)) test c.args.word c.args.visits c.word.result b within kept w.if-kept-b-eq1.false
-                (holds-kept symbols (meaning_in r) (set_at r c.args.i) (64 * c.args.word + b))));
+                (holds-kept symbols (meaning_in r) (set_of c.args.reading.now) (64 * c.args.word + b))));
             evaluations = subst (RisesBy (up_to (λ k. bit_at (bit_and c.args.visits c.word.result) k == 1) (b + 1)) (evaluations_in c.args.meter.now)) (sym (ap evaluations_in w.meter-is))
                 (rises-same (up_to (λ k. bit_at (bit_and c.args.visits c.word.result) k == 1) b) (up_to (λ k. bit_at (bit_and c.args.visits c.word.result) k == 1) (b + 1)) (evaluations_in c.args.meter.now) (evaluations_in c.loop-b.meter)
                 (up_to-skip (λ k. bit_at (bit_and c.args.visits c.word.result) k == 1) b

@@ -1,68 +1,63 @@
-use Rattle.cil_member_updates.proofs.Common.{◌≡◌, ◌∙◌, length, refl, ap, subst, arith, count_now, evaluations_in, sets_in, sum_below, sum-none, within-first, within-next, Comes, EvaluatesNew, MayTurn, given_by, stayed}
+use Rattle.cil_member_updates.proofs.Common.{◌≡◌, ◌∙◌, length, ap, subst, arith, count_now, evaluations_in, new_in, old_in, sets_in, sum_below, sum-none, within-first, within-next, Comes, EvaluatesNew, MayTurn, gives_in, stayed_in}
+use Rattle.cil_member_updates.proofs.MovedLemmas.{stays-first, stays-next}
 use Rattle.cil_member_updates.proofs.PassLemmas.{renewed-more, stayed-counted}
 use Rattle.cil_member_updates.proofs.SideLemmas.{renewed-tell, sum-counts}
 use Rattle.cil_member_updates.proofs.passes.renew.Goals as goal
 
 pub loop-j-init : goal.loop-j-init
-loop-j-init g c = record {
-  now = λ a t.
-      let start = c.requires.now a t in
-      let none_was = sum-none (stayed c.args.symbols.now c.args.old.now.resolved.now c.args.matching.now a t) in
-      let none_is = sum-none (given_by c.args.symbols.now c.args.new.now.resolved.now a t) in
-      omega (arith, start, none_was, none_is);
-  before = λ a t. refl;
-  rows = refl;
-  evaluations = within-first (MayTurn c.args.symbols.now c.args.old.now.resolved.now c.args.new.now.resolved.now c.args.matching.now) (Comes c.args.symbols.now c.args.old.now.resolved.now c.args.new.now.resolved.now c.args.matching.now) (evaluations_in c.args.meter.now);
-  adjustments = refl;
-}
+loop-j-init g c =
+    let p = c.args.policies.now in
+    record {
+      now = λ a t. omega (arith, c.requires.now a t, sum-none (stayed_in p a t), sum-none (gives_in p a t));
+      stays = stays-first c.args.rows.now c.args.meter.now;
+      evaluations = within-first (MayTurn p.symbols.now (old_in p) (new_in p) p.matching.now) (Comes p.symbols.now (old_in p) (new_in p) p.matching.now) (evaluations_in c.args.meter.now);
+    }
+
+pub renew_set-requires-clause-read : goal.renew_set-requires-clause-read
+renew_set-requires-clause-read g c =
+    let p = c.args.policies.now in
+    let low = c.loop-j-test.true in
+    record {
+      side = c.requires.policies.new;
+      within = omega (arith, low);
+      tell = renewed-tell p.symbols.now (old_in p) (new_in p) p.matching.now c.requires.policies.matched c.resolved_is_sound.ensures c.resolved_sets_are_in_order.ensures.the_same c.resolved_sets_are_in_order.ensures.in_order c.loop-j.j
+          (omega (arith, low)) (count_now c.loop-j.rows) c.loop-j.invariant.now;
+    }
 
 pub renew_set-requires-clause-before : goal.renew_set-requires-clause-before
-renew_set-requires-clause-before g c a t = c.loop-j.invariant.before a t ∙ c.requires.before a t
-
-pub renew_set-requires-clause-is : goal.renew_set-requires-clause-is
-renew_set-requires-clause-is g c =
-    renewed-tell c.args.symbols.now c.args.old.now.resolved.now c.args.new.now.resolved.now c.args.matching.now c.requires.matched c.resolved_is_sound.ensures c.resolved_sets_are_in_order.ensures.the_same c.resolved_sets_are_in_order.ensures.in_order c.loop-j.j
-    (let low = c.loop-j-test.true in omega (arith, low)) (count_now c.loop-j.rows) c.loop-j.invariant.now
+renew_set-requires-clause-before g c a t = c.loop-j.invariant.stays.counts a t ∙ c.requires.before a t
 
 pub renew_set-requires-clause-above : goal.renew_set-requires-clause-above
 renew_set-requires-clause-above g c a t =
-    stayed-counted (stayed c.args.symbols.now c.args.old.now.resolved.now c.args.matching.now a t) (given_by c.args.symbols.now c.args.new.now.resolved.now a t) (length (sets_in c.args.new.now.resolved.now)) (count_now c.loop-j.rows a t) c.loop-j.j
-    (let low = c.loop-j-test.true in omega (arith, low)) (c.loop-j.invariant.now a t)
+    let p = c.args.policies.now in
+    stayed-counted (stayed_in p a t) (gives_in p a t) (length (sets_in (new_in p))) (count_now c.loop-j.rows a t) c.loop-j.j (let low = c.loop-j-test.true in omega (arith, low)) (c.loop-j.invariant.now a t)
 
 pub loop-j-preserved : goal.loop-j-preserved
 loop-j-preserved g c =
+    let p = c.args.policies.now in
     let step = c.in_ok-renew_set.ensures in
     record {
       now = λ a t.
-          renewed-more (stayed c.args.symbols.now c.args.old.now.resolved.now c.args.matching.now a t) (given_by c.args.symbols.now c.args.new.now.resolved.now a t) (length (sets_in c.args.new.now.resolved.now)) (count_now c.loop-j.rows a t)
-          (count_now c.renew_set.new.rows a t) c.loop-j.j (c.loop-j.invariant.now a t) (step.now a t);
-      before = λ a t. step.before a t ∙ c.loop-j.invariant.before a t;
-      rows = step.rows ∙ c.loop-j.invariant.rows;
-      evaluations = within-next (MayTurn c.args.symbols.now c.args.old.now.resolved.now c.args.new.now.resolved.now c.args.matching.now)
-          (Comes c.args.symbols.now c.args.old.now.resolved.now c.args.new.now.resolved.now c.args.matching.now) c.loop-j.j (evaluations_in c.args.meter.now) (evaluations_in c.loop-j.meter)
+          renewed-more (stayed_in p a t) (gives_in p a t) (length (sets_in (new_in p))) (count_now c.loop-j.rows a t) (count_now c.renew_set.new.rows a t) c.loop-j.j (c.loop-j.invariant.now a t) (step.now a t);
+      stays = stays-next c.args.rows.now c.loop-j.rows c.renew_set.new.rows c.args.meter.now c.loop-j.meter c.renew_set.new.meter c.loop-j.invariant.stays step.stays;
+      evaluations = within-next (MayTurn p.symbols.now (old_in p) (new_in p) p.matching.now) (Comes p.symbols.now (old_in p) (new_in p) p.matching.now) c.loop-j.j (evaluations_in c.args.meter.now) (evaluations_in c.loop-j.meter)
           (evaluations_in c.renew_set.new.meter) c.loop-j.invariant.evaluations step.evaluations;
-      adjustments = step.adjustments ∙ c.loop-j.invariant.adjustments;
     }
 
-pub returns-clause-now : goal.returns-clause-now
-returns-clause-now g c =
-    let r = c.args.new.now.resolved.now in
-    sum-counts c.args.symbols.now r (count_now c.loop-j.rows)
-    (λ a t.
+pub returns : goal.returns
+returns g c =
+    let p = c.args.policies.now in
     let end = c.loop-j-test.false in
     let within = c.loop-j.auto.j-end in
     let all = c.sets_len-j-end.ensures in
-    let last : c.loop-j.j ≡ length (sets_in r) = omega (arith, end, within, all) in
-    let now = c.loop-j.invariant.now a t in
-    let same_was = ap (sum_below (stayed c.args.symbols.now c.args.old.now.resolved.now c.args.matching.now a t)) last in
-    let same_is = ap (sum_below (given_by c.args.symbols.now r a t)) last in
-    omega (arith, now, same_was, same_is))
-
-pub returns-clause-evaluations : goal.returns-clause-evaluations
-returns-clause-evaluations g c =
-    let r = c.args.new.now.resolved.now in
-    let end = c.loop-j-test.false in
-    let within = c.loop-j.auto.j-end in
-    let all = c.sets_len-j-end.ensures in
-    let last : c.loop-j.j ≡ length (sets_in r) = omega (arith, end, within, all) in
-    subst (λ n. EvaluatesNew c.args.symbols.now c.args.old.now.resolved.now c.args.new.now.resolved.now c.args.matching.now n (evaluations_in c.args.meter.now) (evaluations_in c.loop-j.meter)) last c.loop-j.invariant.evaluations
+    let last : c.loop-j.j ≡ length (sets_in (new_in p)) = omega (arith, end, within, all) in
+    record {
+      now = sum-counts p.symbols.now (new_in p) (count_now c.loop-j.rows)
+          (λ a t.
+          let now = c.loop-j.invariant.now a t in
+          let same_was = ap (sum_below (stayed_in p a t)) last in
+          let same_is = ap (sum_below (gives_in p a t)) last in
+          omega (arith, now, same_was, same_is));
+      stays = c.loop-j.invariant.stays;
+      evaluations = subst (λ n. EvaluatesNew p.symbols.now (old_in p) (new_in p) p.matching.now n (evaluations_in c.args.meter.now) (evaluations_in c.loop-j.meter)) last c.loop-j.invariant.evaluations;
+    }

@@ -1,7 +1,10 @@
-use Rattle.cil_member_updates.proofs.Common.{on_ok_weaker, count_now, evaluations_in}
+use Rattle.cil_member_updates.proofs.Common.{◌∙◌, on_ok_weaker, count_now, evaluations_in}
 use Rattle.cil_member_updates.proofs.DirtyLemmas.{evaluates-few}
 use Rattle.cil_member_updates.proofs.SideLemmas.{stayed-all}
 use Rattle.cil_member_updates.proofs.passes.update.Goals as goal
+
+pub renew-requires-clause-before : goal.renew-requires-clause-before
+renew-requires-clause-before g c a t = c.in_ok-lower_gone.ensures.stays.counts a t ∙ c.requires.before a t
 
 pub renew-requires-clause-now : goal.renew-requires-clause-now
 renew-requires-clause-now g c a t =

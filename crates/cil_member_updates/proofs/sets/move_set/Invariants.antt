@@ -1,4 +1,4 @@
-use Rattle.cil_member_updates.proofs.Common.{◌≡◌, ℕ, count_before, count_now, rows_in, adjustments_in, evaluations_in, meaning_in, set_at, RisesWithin, IsMovedAt, IsUnsettled, given}
+use Rattle.cil_member_updates.proofs.Common.{count_now, evaluations_in, MayMove, MustMove, RisesWithin, Stays, is_given, was_given}
 use Rattle.cil_member_updates.proofs.EvaluatedLemmas.{Beneath}
 use Rattle.cil_member_updates.proofs.MovedLemmas.{MovedBelow}
 use Rattle.cil_member_updates.proofs.sets.move_set.Given as goal
@@ -7,9 +7,7 @@ use Rattle.cil_member_updates.proofs.sets.move_set.Given as goal
 abbrev pub invariant-loop-word : goal.invariant-loop-word
 invariant-loop-word g l =
     record {
-      moved : MovedBelow l.word (given l.symbols l.old.resolved.now l.i) (given l.symbols l.new.resolved.now l.j) (count_now l.fn.rows) (count_now l.rows);
-      before : (a t : ℕ) → count_before l.rows a t ≡ count_before l.fn.rows a t;
-      rows : rows_in l.rows ≡ rows_in l.fn.rows;
-      evaluations : RisesWithin (Beneath l.word (IsUnsettled l.symbols (meaning_in l.old.resolved.now) (meaning_in l.new.resolved.now) (set_at l.new.resolved.now l.j))) (Beneath l.word (IsMovedAt l.symbols (meaning_in l.old.resolved.now) (set_at l.old.resolved.now l.i) (meaning_in l.new.resolved.now) (set_at l.new.resolved.now l.j))) (evaluations_in l.fn.meter) (evaluations_in l.meter);
-      adjustments : adjustments_in l.meter ≡ adjustments_in l.fn.meter;
+      moved : MovedBelow l.word (was_given l.stayed) (is_given l.stayed) (count_now l.fn.rows) (count_now l.rows);
+      stays : Stays l.fn.rows l.rows l.fn.meter l.meter;
+      evaluations : RisesWithin (Beneath l.word (MayMove l.stayed)) (Beneath l.word (MustMove l.stayed)) (evaluations_in l.fn.meter) (evaluations_in l.meter);
     }

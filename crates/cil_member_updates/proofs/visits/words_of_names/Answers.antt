@@ -1,16 +1,16 @@
-use Rattle.cil_member_updates.proofs.Common.{ℕ, get_or, subst, arith, below_more, «Type», count_before, count_now, IsOutside, element_of, set_at, leaves, IsUnchanged}
+use Rattle.cil_member_updates.proofs.Common.{ℕ, get_or, subst, arith, below_more, «Type», count_before, count_now, IsOutside, element_of, set_of, leaves, IsUnchanged}
 use Rattle.cil_member_updates.proofs.PlaceLemmas.{set-there}
 use Rattle.cil_member_updates.proofs.SymbolLemmas.{place-of}
 use Rattle.cil_member_updates.proofs.visits.words_of_names.Goals as goal
 
 pub loop-k-preserved : goal.loop-k-preserved
 loop-k-preserved g c =
-    below_more (λ m. (w : ℕ) → IsOutside c.joined-words.result w → IsUnchanged c.args.symbols.now (count_before c.args.rows.now) (count_now c.args.rows.now) (element_of c.args.side.now.resolved.now.names.items (get_or c.set_names-names.result.now m («Type» 0))) w 0)
+    below_more (λ m. (w : ℕ) → IsOutside c.joined-words.result w → IsUnchanged c.args.reading.now.symbols.now (count_before c.args.rows.now) (count_now c.args.rows.now) (element_of c.args.reading.now.side.now.resolved.now.names.items (get_or c.set_names-names.result.now m («Type» 0))) w 0)
     c.loop-k.k (λ m within w outside. c.loop-k.invariant m within w (c.joined-words.ensures.outside w outside).0) (λ w outside. c.words_of_name.ensures w (c.joined-words.ensures.outside w outside).1)
 
 pub returns : goal.returns
 returns g c w outside element there =
-    let r = c.args.side.now.resolved.now in
+    let r = c.args.reading.now.side.now.resolved.now in
     let names = c.set_names-names.result.now in
-    let (m, within, same) = place-of (element_of r.names.items) names («Type» 0) (leaves (set_at r c.args.i).expr) element (c.set_names-names.ensures.names (set_at r c.args.i) (set-there r c.args.i c.requires.within)) there in
-    subst (λ e. IsUnchanged c.args.symbols.now (count_before c.args.rows.now) (count_now c.args.rows.now) e w 0) same (c.loop-k.invariant m (let end = c.loop-k-test.false in omega (arith, within, end)) w outside)
+    let (m, within, same) = place-of (element_of r.names.items) names («Type» 0) (leaves (set_of c.args.reading.now).expr) element (c.set_names-names.ensures.names (set_of c.args.reading.now) (set-there r c.args.reading.now.place c.requires.within)) there in
+    subst (λ e. IsUnchanged c.args.reading.now.symbols.now (count_before c.args.rows.now) (count_now c.args.rows.now) e w 0) same (c.loop-k.invariant m (let end = c.loop-k-test.false in omega (arith, within, end)) w outside)

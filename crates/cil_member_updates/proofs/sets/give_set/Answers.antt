@@ -1,0 +1,49 @@
+use Rattle.cil_member_updates.proofs.Common.{arith, count_now, evaluations_in, meaning_in, MayHold, MustHold, given_of, lowered, raised, set_of}
+use Rattle.cil_member_updates.proofs.EvaluatedLemmas.{holds-within, words-all, words-first, words-next}
+use Rattle.cil_member_updates.proofs.MovedLemmas.{moved-all, moved-more, moved-none, none-given, stays-first, stays-next}
+use Rattle.cil_member_updates.proofs.SideLemmas.{given-past, reads-still}
+use Rattle.cil_member_updates.proofs.sets.give_set.Goals as goal
+
+pub give_word-requires-clause-reads : goal.give_word-requires-clause-reads
+give_word-requires-clause-reads g c =
+    reads-still c.args.reading.now c.resolved_sets_are_in_order.ensures.in_order c.args.rows.now c.loop-word.rows c.requires.reads c.loop-word.invariant.stays.counts c.loop-word.word c.loop-word.invariant.moved
+
+pub give_word-requires-clause-above : goal.give_word-requires-clause-above
+give_word-requires-clause-above g c a t here =
+    let same = c.loop-word.invariant.moved.behind a t (omega (arith, here)) in
+    let above = c.requires.above a t in
+    omega (arith, same, above)
+
+pub loop-word-init : goal.loop-word-init
+loop-word-init g c =
+    let r = c.args.reading.now in
+    record {
+      moved = moved-none (lowered r.when (given_of r)) (raised r.when (given_of r)) (count_now c.args.rows.now);
+      stays = stays-first c.args.rows.now c.args.meter.now;
+      evaluations = words-first (MayHold r) (MustHold r) (evaluations_in c.args.meter.now);
+    }
+
+pub loop-word-preserved : goal.loop-word-preserved
+loop-word-preserved g c =
+    let r = c.args.reading.now in
+    let step = c.in_ok-give_word.ensures in
+    record {
+      moved = moved-more (lowered r.when (given_of r)) (raised r.when (given_of r)) c.loop-word.word (count_now c.args.rows.now) (count_now c.loop-word.rows) (count_now c.give_word.new.rows) c.loop-word.invariant.moved step.now;
+      stays = stays-next c.args.rows.now c.loop-word.rows c.give_word.new.rows c.args.meter.now c.loop-word.meter c.give_word.new.meter c.loop-word.invariant.stays step.stays;
+      evaluations = words-next (MayHold r) (MustHold r) c.loop-word.word
+          (evaluations_in c.args.meter.now) (evaluations_in c.loop-word.meter) (evaluations_in c.give_word.new.meter) c.loop-word.invariant.evaluations step.evaluations;
+    }
+
+pub returns-clause-now : goal.returns-clause-now
+returns-clause-now g c =
+    let r = c.args.reading.now in
+    let end = c.loop-word-test.false in
+    let len = c.len.ensures.len in
+    moved-all (lowered r.when (given_of r)) (raised r.when (given_of r)) c.loop-word.word (count_now c.args.rows.now) (count_now c.loop-word.rows) c.loop-word.invariant.moved
+    (λ a t past. none-given r.when (given_of r) a t (given-past r.symbols.now r.side.now.resolved.now r.place a t (omega (arith, past, end, len))))
+
+pub returns-clause-evaluations : goal.returns-clause-evaluations
+returns-clause-evaluations g c =
+    let r = c.args.reading.now in
+    words-all (MayHold r) (MustHold r) c.loop-word.word (evaluations_in c.args.meter.now) (evaluations_in c.loop-word.meter)
+    (λ t held. let low = holds-within r.symbols.now (meaning_in r.side.now.resolved.now) (set_of r) t held in let end = c.loop-word-test.false in let len = c.len.ensures.len in omega (arith, low, end, len)) c.loop-word.invariant.evaluations
