@@ -2,7 +2,7 @@
 pub use Rattle.cil_expression.specs.declared.expression.Element.TheVariants.{«Type»}
 pub use Rattle.cil_lines.specs.Line.{IsPresence, hit}
 pub use Rattle.cil_matching.specs.Matching.{AreMatched, AreSameAt, Matched}
-pub use Rattle.cil_member_rows.specs.Rows.{count_before, count_now, rows_in}
+pub use Rattle.cil_member_rows.specs.Rows.{count_before, count_now}
 pub use Rattle.cil_member_rows.specs.Words.{IsOutside}
 pub use Rattle.cil_member_updates.specs.Bits.{AreBits, AreHeld, Cover}
 pub use Rattle.cil_member_updates.specs.Counts.{gives_count, gives_member, one_if}
@@ -14,12 +14,12 @@ pub use Rattle.cil_member_updates.specs.Passes.{gave_in, given_by, gives_in, gon
 pub use Rattle.cil_member_updates.specs.Places.{no_declared, no_set, set_at}
 pub use Rattle.cil_member_updates.specs.Policy.{AreCounts, counts_at}
 unfoldable pub use Rattle.cil_member_updates.specs.Policy.{given}
-pub use Rattle.cil_member_updates.specs.Reading.{ArePolicies, AreVisits, CoversStayed, HasStayed, IsRead, MayHold, MayMove, MustHold, MustMove, Reads, Stays, given_of, held_by, is_given, is_held, lowered, new_in, old_in, raised, set_of, was_given, was_held}
+pub use Rattle.cil_member_updates.specs.Reading.{AreVisits, CoversStayed, HasStayed, MayHold, MayMove, MustHold, MustMove, Reads, Stays, given_of, held_by, is_given, is_held, lowered, new_in, old_in, raised, set_of, was_given, was_held}
 pub use Rattle.cil_parse.specs.Lexicon.{AreNumbersOf}
 pub use Rattle.cil_resolve.specs.Meter.{adjustments_in, evaluations_in}
 pub use Rattle.cil_resolve.specs.Numbers.{element_of}
 pub use Rattle.cil_resolve.specs.Resolved.{meaning_in}
-pub use Rattle.cil_resolve.specs.Sets.{TellsMembers, name_in, sets_in}
+pub use Rattle.cil_resolve.specs.Sets.{name_in, sets_in}
 pub use Rattle.cil_resolve.specs.declared.resolved.Resolved.{Resolved}
 pub use Rattle.cil_specs.proofs.NamesLemmas.{contains-first, contains-mapped, contains-middle, contains-other}
 pub use Rattle.cil_specs.specs.Dependence.{AreInOrder, AreTheSame, has_set}

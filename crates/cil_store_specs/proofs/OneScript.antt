@@ -1,5 +1,5 @@
 -- A script has one list of commands, and ends in one way.
-use Rattle.cil_store_specs.proofs.Common.{◌≡◌, ℕ, zero, suc, ◌+◌, ◌<◌, List, [], ◌∷◌, ◌++◌, length, drop, take, flat_map, get_or, refl, ap, sym, ◌∙◌, subst, append_assoc, length-append, arith, take_all, take-append-le, list_all, AllByRecursion, all-first, all-second, install, remove, enable, disable, Command, makes, begins, commits, aborts, asks_rules, asks_violations, asks_dropped, asks_modules, asks_dump, line_of, behind, command_bytes, HasGoodWords, IsCommand, MayLackItsEnd, End, ends, stops, IsEnd, Commands, whole, without_end, BeginsWith, whole_ones, all_of_it}
+use Rattle.cil_store_specs.proofs.Common.{◌≡◌, ℕ, zero, suc, ◌+◌, ◌<◌, List, [], ◌∷◌, ◌++◌, length, drop, take, flat_map, get_or, refl, ap, sym, ◌∙◌, subst, append_assoc, length-append, arith, take_all, take-append-le, list_all, AllByRecursion, all-first, all-second, install, Command, makes, begins, line_of, behind, command_bytes, HasGoodWords, IsCommand, MayLackItsEnd, End, ends, stops, IsEnd, Commands, whole, without_end, BeginsWith, whole_ones, all_of_it}
 use Rattle.std.proofs.Common.{append-nil}
 use Rattle.cil_store_specs.proofs.WordLemmas.{stays, line-stays, lines-same, commands-same, text_of, text-length, kind_of_word, number_of, first_word}
 use Rattle.cil_store_specs.proofs.LineLemmas.{same-lines, has-feed, command-line}
@@ -21,32 +21,12 @@ size_behind (suc kind) size = 0
 
 length-behind : (command : Command) → length (behind command) ≡ size_behind (kind_of_word (first_word command)) (length (text_of command))
 length-behind (makes (install name priority text)) = length-append text (10 ∷ [])
-length-behind (makes (remove name priority)) = refl
-length-behind (makes (enable name)) = refl
-length-behind (makes (disable name)) = refl
-length-behind begins = refl
-length-behind commits = refl
-length-behind aborts = refl
-length-behind asks_rules = refl
-length-behind asks_violations = refl
-length-behind asks_dropped = refl
-length-behind asks_modules = refl
-length-behind asks_dump = refl
+length-behind _ = refl
 
 -- the text is what stands there, but for a line feed
 text-behind : (command : Command) → text_of command ≡ take (length (text_of command)) (behind command)
 text-behind (makes (install name priority text)) = sym (take_all (length text) text (omega arith)) ∙ sym (take-append-le (length text) text (10 ∷ []) (omega arith))
-text-behind (makes (remove name priority)) = refl
-text-behind (makes (enable name)) = refl
-text-behind (makes (disable name)) = refl
-text-behind begins = refl
-text-behind commits = refl
-text-behind aborts = refl
-text-behind asks_rules = refl
-text-behind asks_violations = refl
-text-behind asks_dropped = refl
-text-behind asks_modules = refl
-text-behind asks_dump = refl
+text-behind _ = refl
 
 -- what commands of one line, and what stands behind it, are
 same-behind : (c d : Command) (rest more : List ℕ) → HasGoodWords c → HasGoodWords d → line_of c ≡ line_of d → behind c ++ rest ≡ behind d ++ more → (c ≡ d) × (rest ≡ more)
@@ -67,17 +47,7 @@ same-command c d rest more a b e =
 -- a command that may lack its line feed has no text
 no-text : (command : Command) → MayLackItsEnd command → text_of command ≡ []
 no-text (makes (install name priority text)) may = absurd may
-no-text (makes (remove name priority)) may = refl
-no-text (makes (enable name)) may = refl
-no-text (makes (disable name)) may = refl
-no-text begins may = refl
-no-text commits may = refl
-no-text aborts may = refl
-no-text asks_rules may = refl
-no-text asks_violations may = refl
-no-text asks_dropped may = refl
-no-text asks_modules may = refl
-no-text asks_dump may = refl
+no-text _ may = refl
 
 -- and so is a line that lacks its line feed
 same-last : (c d : Command) → HasGoodWords c → HasGoodWords d → MayLackItsEnd c → MayLackItsEnd d → line_of c ≡ line_of d → c ≡ d
@@ -86,17 +56,7 @@ same-last c d a b may other e = commands-same c d a b (lines-same c d a b e) (no
 -- the line of a command isn't empty
 some-line : (command : Command) → 0 < length (line_of command)
 some-line (makes (install name priority text)) = omega arith
-some-line (makes (remove name priority)) = omega arith
-some-line (makes (enable name)) = omega arith
-some-line (makes (disable name)) = omega arith
-some-line begins = omega arith
-some-line commits = omega arith
-some-line aborts = omega arith
-some-line asks_rules = omega arith
-some-line asks_violations = omega arith
-some-line asks_dropped = omega arith
-some-line asks_modules = omega arith
-some-line asks_dump = omega arith
+some-line _ = omega arith
 
 -- no command stands at the front of the bytes
 HasNoFront : List ℕ → Type 0

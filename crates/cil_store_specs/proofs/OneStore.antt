@@ -52,13 +52,7 @@ record IsAtSome (policy : List Placed) (fault : PolicyFault) : Type 0 where
 
 judged-in : (kind : PolicyFaultKind) (kept : Optionals) (policy : List Placed) (s : Placed) → Contains (judged kind kept policy) s → Contains policy s
 judged-in twice kept policy s c = c
-judged-in missing kept policy s c = contains-filtered (is_within kept) policy s c
-judged-in wrong_kind kept policy s c = contains-filtered (is_within kept) policy s c
-judged-in alias_twice kept policy s c = contains-filtered (is_within kept) policy s c
-judged-in alias_unset kept policy s c = contains-filtered (is_within kept) policy s c
-judged-in second_common kept policy s c = contains-filtered (is_within kept) policy s c
-judged-in too_many_permissions kept policy s c = contains-filtered (is_within kept) policy s c
-judged-in circular kept policy s c = contains-filtered (is_within kept) policy s c
+judged-in _ kept policy s c = contains-filtered (is_within kept) policy s c
 
 at-some : (kept : Optionals) (policy : List Placed) (fault : PolicyFault) → IsPolicyFault kept policy fault → IsAtSome policy fault
 at-some kept policy fault h = record {
@@ -76,13 +70,7 @@ kind_of_code n = if n == 41 then twice else if n == 42 then missing else if n ==
 
 kind-of-code : (kind : PolicyFaultKind) → kind_of_code (code_of kind) ≡ kind
 kind-of-code twice = refl
-kind-of-code missing = refl
-kind-of-code wrong_kind = refl
-kind-of-code alias_twice = refl
-kind-of-code alias_unset = refl
-kind-of-code second_common = refl
-kind-of-code too_many_permissions = refl
-kind-of-code circular = refl
+kind-of-code _ = refl
 
 not-both-less : (a b : List ℕ) → slice_cmp nat_cmp a b ≡ Less → slice_cmp nat_cmp b a ≡ Less → ⊥
 not-both-less a b less more = let e : slice_cmp nat_cmp b a ≡ Greater = nat_list_cmp_total.antisymm b a ∙ ap ordering_reverse less in cc (sym more ∙ e)

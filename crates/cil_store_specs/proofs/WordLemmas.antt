@@ -50,14 +50,7 @@ words-plain (makes (install name priority text)) good = (refl, (shown-plain name
 words-plain (makes (remove name priority)) good = (refl, (shown-plain name good.0.shown, (digits-plain priority (omega (arith, good.1)), tt)))
 words-plain (makes (enable name)) good = (refl, (shown-plain name good.shown, tt))
 words-plain (makes (disable name)) good = (refl, (shown-plain name good.shown, tt))
-words-plain begins good = (refl, tt)
-words-plain commits good = (refl, tt)
-words-plain aborts good = (refl, tt)
-words-plain asks_rules good = (refl, tt)
-words-plain asks_violations good = (refl, tt)
-words-plain asks_dropped good = (refl, tt)
-words-plain asks_modules good = (refl, tt)
-words-plain asks_dump good = (refl, tt)
+words-plain _ good = (refl, tt)
 
 weaker : (p q : ℕ → Bool) → ((b : ℕ) → p b ≡ true → q b ≡ true) → (xs : List ℕ) → list_all p xs ≡ true → list_all q xs ≡ true
 weaker p q f [] all = refl
@@ -109,17 +102,7 @@ other_words command = drop 1 (words_of command)
 
 pub words-split : (command : Command) → words_of command ≡ first_word command ∷ other_words command
 words-split (makes (install name priority text)) = refl
-words-split (makes (remove name priority)) = refl
-words-split (makes (enable name)) = refl
-words-split (makes (disable name)) = refl
-words-split begins = refl
-words-split commits = refl
-words-split aborts = refl
-words-split asks_rules = refl
-words-split asks_violations = refl
-words-split asks_dropped = refl
-words-split asks_modules = refl
-words-split asks_dump = refl
+words-split _ = refl
 
 pub lines-same : (c d : Command) → HasGoodWords c → HasGoodWords d → line_of c ≡ line_of d → words_of c ≡ words_of d
 lines-same c d a b e =
@@ -167,16 +150,7 @@ pub command-is : (command : Command) → HasGoodWords command
     → command ≡ command_by (kind_of_word (first_word command)) (get_or (words_of command) 1 []) (number_of (get_or (words_of command) 2 [])) (text_of command)
 command-is (makes (install name priority text)) good = ap (λ p. makes (install name p text)) (sym (number-decimal priority (omega (arith, good.1))))
 command-is (makes (remove name priority)) good = ap (λ p. makes (remove name p)) (sym (number-decimal priority (omega (arith, good.1))))
-command-is (makes (enable name)) good = refl
-command-is (makes (disable name)) good = refl
-command-is begins good = refl
-command-is commits good = refl
-command-is aborts good = refl
-command-is asks_rules good = refl
-command-is asks_violations good = refl
-command-is asks_dropped good = refl
-command-is asks_modules good = refl
-command-is asks_dump good = refl
+command-is _ good = refl
 
 -- commands of the same words and the same text are one
 pub commands-same : (c d : Command) → HasGoodWords c → HasGoodWords d → words_of c ≡ words_of d → text_of c ≡ text_of d → c ≡ d
@@ -188,17 +162,7 @@ commands-same c d a b words texts =
 -- the length of a text by the last word of an install
 pub text-length : (command : Command) → HasGoodWords command → length (text_of command) ≡ number_of (get_or (words_of command) 3 [])
 text-length (makes (install name priority text)) good = sym (number-decimal (length text) (omega (arith, good.2)))
-text-length (makes (remove name priority)) good = refl
-text-length (makes (enable name)) good = refl
-text-length (makes (disable name)) good = refl
-text-length begins good = refl
-text-length commits good = refl
-text-length aborts good = refl
-text-length asks_rules good = refl
-text-length asks_violations good = refl
-text-length asks_dropped good = refl
-text-length asks_modules good = refl
-text-length asks_dump good = refl
+text-length _ good = refl
 
 -- the first word of a command whose line has others, and those
 pub first-is : (w rest : List ℕ) (command : Command) → HasGoodWords command → list_all is_no_space w ≡ true → w ++ 32 ∷ rest ≡ line_of command
@@ -225,11 +189,4 @@ known-first (makes (install name priority text)) some a b c d = a refl
 known-first (makes (remove name priority)) some a b c d = b refl
 known-first (makes (enable name)) some a b c d = c refl
 known-first (makes (disable name)) some a b c d = d refl
-known-first begins some a b c d = some refl
-known-first commits some a b c d = some refl
-known-first aborts some a b c d = some refl
-known-first asks_rules some a b c d = some refl
-known-first asks_violations some a b c d = some refl
-known-first asks_dropped some a b c d = some refl
-known-first asks_modules some a b c d = some refl
-known-first asks_dump some a b c d = some refl
+known-first _ some a b c d = some refl
