@@ -2,7 +2,7 @@
 pub use Rattle.cil_lines.specs.Line.{Counters, IsPresence, IsSingle, count_of, hit}
 pub use Rattle.cil_recorded.specs.Differences.{Ascends, alone_at, appeared_at, balance_at, balance_of, change_key, gone_at, low_at, turn_key}
 unfoldable pub use Rattle.cil_recorded.specs.Differences.{key_of}
-pub use Rattle.cil_recorded.specs.Log.{CanUndo, IsTurned, came_by, came_in, falls, has_line, taken_back, turned_by, turned_in, undone, went_by, went_in}
+pub use Rattle.cil_recorded.specs.Log.{CanTakeBack, CanUndo, IsTurned, came_by, came_in, falls, has_line, taken_back, turned_by, turned_in, undone, went_by, went_in}
 unfoldable pub use Rattle.cil_recorded.specs.Log.{hit_at}
 pub use Rattle.cil_recorded.specs.Recorded.{HasCount, IsSound, count_before, count_in, count_now, limit_in, lines_in, steps_in, sum_below}
 unfoldable pub use Rattle.cil_recorded.specs.Recorded.{moved}

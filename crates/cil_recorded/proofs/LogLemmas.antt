@@ -1,5 +1,5 @@
 -- What a step does to the counters that its log leads back to.
-use Rattle.cil_recorded.proofs.Common.{zero, suc, ◌≡◌, ◌≢◌, ℕ, ◌+◌, ◌-◌, ◌*◌, ◌/◌, ◌%◌, ◌^◌, ◌<◌, ◌≤◌, List, [], ◌∷◌, ◌++◌, length, set, reverse, Bool, true, false, MatchBool, if◌then◌else◌, min, count_ones, bit_and, refl, sym, ap, subst, ◌∙◌, arith, eq-eqb, inl, inr, le_of_eq, pow-suc, w64, cases_eq, ne_eqb, le-ltb, reverse-append, get_or-set_other, sum_by_push, bit_at_and, bit_at_not, bit_at-lt, bit_at_lowest, bit_at-suc, bit_at, bit_not, Counters, count_of, hit, IsPresence, IsSingle, Step, came_by, hit_at, taken_back, undone, went_by, CanUndo, count_in, limit_in, IsSound, sum_below, moved}
+use Rattle.cil_recorded.proofs.Common.{zero, suc, ◌≡◌, ◌≢◌, ℕ, ◌+◌, ◌-◌, ◌*◌, ◌/◌, ◌%◌, ◌^◌, ◌<◌, ◌≤◌, List, [], ◌∷◌, ◌++◌, length, set, reverse, Bool, true, false, MatchBool, if◌then◌else◌, min, count_ones, bit_and, refl, sym, ap, subst, ◌∙◌, arith, eq-eqb, inl, inr, le_of_eq, pow-suc, w64, cases_eq, ne_eqb, le-ltb, reverse-append, get_or-set_other, sum_by_push, bit_at_and, bit_at_not, bit_at-lt, bit_at_lowest, bit_at-suc, bit_at, bit_not, Counters, count_of, hit, IsPresence, IsSingle, Step, came_by, hit_at, taken_back, undone, went_by, CanTakeBack, CanUndo, count_in, limit_in, IsSound, sum_below, moved}
 use Rattle.std.proofs.lemmas.Grind.{get_or-set_at}
 use Rattle.std.proofs.Math.ListN.{get_or-eq_default}
 use Rattle.std.specs.Int.Count.{ones, ones_step}
@@ -27,6 +27,19 @@ hit_out line word mask l t other =
     elim (cases_eq l line) [
       | inl same ↦ hit_in line word mask l t same ∙ hit-there word mask t other
       | inr different ↦ hit_off line word mask l t different
+    ]
+
+-- what holds of bits of masks, and where they have none, holds of the targets that they hit
+pub by_hit : (line word l t : ℕ) (P : (ℕ → ℕ) → Type 0) → (l ≡ line → t / 64 ≡ word → P (λ mask. bit_at mask (t % 64))) → P (λ mask. 0)
+    → P (λ mask. hit_at line word mask l t)
+by_hit line word l t P on off =
+    elim (cases_eq l line) [
+      | inl same ↦
+          elim (cases_eq (t / 64) word) [
+            | inl here ↦ subst P (λ i mask. sym (hit_on line word mask l t same here) i) (on same here)
+            | inr there ↦ subst P (λ i mask. sym (hit_out line word mask l t there) i) off
+          ]
+      | inr other ↦ subst P (λ i mask. sym (hit_off line word mask l t other) i) off
     ]
 
 pub hit_nothing : (line word l t : ℕ) → hit_at line word 0 l t ≡ 0
@@ -66,144 +79,32 @@ undone_same ss f f' same l t = ap (λ h. undone ss h l t) (same_counts f' f same
 -- ---- what turns a target
 
 module _ (line word mask : ℕ) (f g : ℕ → ℕ → ℕ) where
+  at_bit : (l t : ℕ) → l ≡ line → t / 64 ≡ word → f line (64 * word + t % 64) ≡ f l t
+  at_bit l t same here = λ i. f (sym same i) (let place : 64 * word + t % 64 ≡ t = omega arith in place i)
+
   -- a step up turns the targets that were not present
   turns_up : (present : ℕ) → present < 2 ^ 64 → IsPresence (f line) word present → ((l t : ℕ) → g l t ≡ f l t + hit_at line word mask l t)
       → (l t : ℕ) → hit_at line word (bit_and mask (bit_not w64 present)) l t + min 1 (f l t) ≡ min 1 (g l t)
   turns_up present fits is rose l t =
-      let turned = bit_and mask (bit_not w64 present) in
-      elim (cases_eq l line) [
-        | inl same ↦
-            elim (cases_eq (t / 64) word) [
-              | inl e ↦
-                  let b = t % 64 in
-                  let within : b < 64 = omega arith in
-                  let place : 64 * word + b ≡ t = omega arith in
-                  let here : f line (64 * word + b) ≡ f l t = (λ i. f (sym same i) (place i)) in
-                  omega (
-                    arith,
-                    rose l t,
-                    hit_on line word mask l t same e,
-                    hit_on line word turned l t same e,
-                    bit_at_and mask (bit_not w64 present) b,
-                    bit_at_not w64 present b fits within,
-                    is b within,
-                    here,
-                    bit_at-lt mask b,
-                  )
-              | inr n ↦ omega (arith, rose l t, hit_out line word mask l t n, hit_out line word turned l t n)
-            ]
-        | inr n ↦ omega (arith, rose l t, hit_off line word mask l t n, hit_off line word turned l t n)
-      ]
+      by_hit line word l t (λ hit. g l t ≡ f l t + hit mask → hit (bit_and mask (bit_not w64 present)) + min 1 (f l t) ≡ min 1 (g l t))
+      (λ same here rises.
+      let b = t % 64 in
+      let within : b < 64 = omega arith in
+      omega (arith, bit_at_and mask (bit_not w64 present) b, bit_at_not w64 present b fits within, is b within, at_bit l t same here, bit_at-lt mask b))
+      (λ rises. omega arith) (rose l t)
 
   -- a step down turns the targets whose counters were 1
   turns_down : (single : ℕ) → IsSingle (f line) word single → ((l t : ℕ) → g l t + hit_at line word mask l t ≡ f l t)
       → (l t : ℕ) → hit_at line word (bit_and mask single) l t + min 1 (g l t) ≡ min 1 (f l t)
   turns_down single is fell l t =
-      let turned = bit_and mask single in
-      elim (cases_eq l line) [
-        | inl same ↦
-            elim (cases_eq (t / 64) word) [
-              | inl e ↦
-                  let b = t % 64 in
-                  let within : b < 64 = omega arith in
-                  let place : 64 * word + b ≡ t = omega arith in
-                  let here : f line (64 * word + b) ≡ f l t = (λ i. f (sym same i) (place i)) in
-                  omega (arith, fell l t, hit_on line word mask l t same e, hit_on line word turned l t same e, bit_at_and mask single b, is b within, here, bit_at-lt mask b)
-              | inr n ↦ omega (arith, fell l t, hit_out line word mask l t n, hit_out line word turned l t n)
-            ]
-        | inr n ↦ omega (arith, fell l t, hit_off line word mask l t n, hit_off line word turned l t n)
-      ]
+      by_hit line word l t (λ hit. g l t + hit mask ≡ f l t → hit (bit_and mask single) + min 1 (g l t) ≡ min 1 (f l t))
+      (λ same here falls.
+      let b = t % 64 in
+      let within : b < 64 = omega arith in
+      omega (arith, bit_at_and mask single b, is b within, at_bit l t same here, bit_at-lt mask b))
+      (λ falls. omega arith) (fell l t)
 
--- ---- a log that was sound stays so
-
-pub sound_settled : (lines : List Counters) → IsSound lines []
-sound_settled lines = record { can = tt; turned = λ l t. omega arith }
-
-module _ (lines lines' : List Counters) (log : List Step) (sound : IsSound lines log) (more : (l w : ℕ) → limit_in lines l w ≤ limit_in lines' l w) where
-  f : ℕ → ℕ → ℕ
-  f = count_in lines
-
-  f' : ℕ → ℕ → ℕ
-  f' = count_in lines'
-
-  pub sound_same : length lines ≤ length lines' → ((l t : ℕ) → count_in lines' l t ≡ count_in lines l t) → IsSound lines' log
-  sound_same longer same =
-      record {
-        can = subst (λ h. CanUndo (length lines') (reverse log) h (limit_in lines')) (sym (same_counts (count_in lines') (count_in lines) same))
-            (can_more (length lines) (length lines') (reverse log) (count_in lines) (limit_in lines) (limit_in lines') longer more sound.can);
-        turned = λ l t. omega (arith, sound.turned l t, same l t, undone_same (reverse log) (count_in lines) (count_in lines') same l t);
-      }
-
-  module _ (len : length lines' ≡ length lines) (line word mask : ℕ) (within : line < length lines) where
-    module _ (rose : (l t : ℕ) → count_in lines' l t ≡ count_in lines l t + hit_at line word mask l t) where
-      abbrev up : ℕ → Step
-      up turned = record { line = line; word = word; mask = mask; turned = turned; up = true; clears = false }
-
-      back_up : (turned : ℕ) → taken_back (up turned) (count_in lines') ≡ count_in lines
-      back_up turned = same_counts (taken_back (up turned) (count_in lines')) (count_in lines) (λ l t. omega (arith, rose l t))
-
-      pub before_up : (turned l t : ℕ) → undone (reverse (log ++ up turned ∷ [])) (count_in lines') l t ≡ undone (reverse log) (count_in lines) l t
-      before_up turned l t = rw newest (ap (λ h. undone (reverse log) h l t) (back_up turned))
-
-      can_up : (turned : ℕ) → CanUndo (length lines') (up turned ∷ reverse log) (count_in lines') (limit_in lines')
-      can_up turned = (
-        (omega (arith, len, within), λ t. omega (arith, rose line t, hit_in line word mask line t refl)),
-        subst (λ h. CanUndo (length lines') (reverse log) h (limit_in lines')) (sym (back_up turned))
-            (can_more (length lines) (length lines') (reverse log) (count_in lines) (limit_in lines) (limit_in lines') (le_of_eq (sym len)) more sound.can),
-      )
-
-      pub sound_up : (present : ℕ) → present < 2 ^ 64 → IsPresence (count_in lines line) word present → IsSound lines' (log ++ up (bit_and mask (bit_not w64 present)) ∷ [])
-      sound_up present fits is =
-          let turned = bit_and mask (bit_not w64 present) in
-          record {
-            can = rw newest (can_up turned);
-            turned = λ l t.
-                omega (
-                  arith,
-                  sound.turned l t,
-                  before_up turned l t,
-                  sum_by_push (λ s. came_by s l t) log (up turned),
-                  sum_by_push (λ s. went_by s l t) log (up turned),
-                  turns_up line word mask (count_in lines) (count_in lines') present fits is rose l t,
-                );
-          }
-
-    module _ (fell : (l t : ℕ) → count_in lines' l t + hit_at line word mask l t ≡ count_in lines l t) where
-      abbrev down : ℕ → Bool → Step
-      down turned clears = record { line = line; word = word; mask = mask; turned = turned; up = false; clears = clears }
-
-      back_down : (turned : ℕ) (clears : Bool) → taken_back (down turned clears) (count_in lines') ≡ count_in lines
-      back_down turned clears = same_counts (taken_back (down turned clears) (count_in lines')) (count_in lines) fell
-
-      pub before_down : (turned : ℕ) (clears : Bool) (l t : ℕ) → undone (reverse (log ++ down turned clears ∷ [])) (count_in lines') l t ≡ undone (reverse log) (count_in lines) l t
-      before_down turned clears l t = rw newest (ap (λ h. undone (reverse log) h l t) (back_down turned clears))
-
-      can_down : (turned : ℕ) (clears : Bool) → CanRaise (count_in lines' line) (limit_in lines' line) word mask
-          → CanUndo (length lines') (down turned clears ∷ reverse log) (count_in lines') (limit_in lines')
-      can_down turned clears room = (
-        (omega (arith, len, within), room),
-        subst (λ h. CanUndo (length lines') (reverse log) h (limit_in lines')) (sym (back_down turned clears))
-            (can_more (length lines) (length lines') (reverse log) (count_in lines) (limit_in lines) (limit_in lines') (le_of_eq (sym len)) more sound.can),
-      )
-
-      pub sound_down : (single : ℕ) (clears : Bool) → IsSingle (count_in lines line) word single → CanRaise (count_in lines' line) (limit_in lines' line) word mask
-          → IsSound lines' (log ++ down (bit_and mask single) clears ∷ [])
-      sound_down single clears is room =
-          let turned = bit_and mask single in
-          record {
-            can = rw newest (can_down turned clears room);
-            turned = λ l t.
-                omega (
-                  arith,
-                  sound.turned l t,
-                  before_down turned clears l t,
-                  sum_by_push (λ s. came_by s l t) log (down turned clears),
-                  sum_by_push (λ s. went_by s l t) log (down turned clears),
-                  turns_down line word mask (count_in lines) (count_in lines') single is fell l t,
-                );
-          }
-
--- ---- a step is taken back
+-- ---- a step is made, or taken back
 
 module _ (s : Step) (f f' : ℕ → ℕ → ℕ) where
   pub took_up : s.up ≡ true → ((l t : ℕ) → f' l t + hit_at s.line s.word s.mask l t ≡ f l t) → f' ≡ taken_back s f
@@ -211,6 +112,73 @@ module _ (s : Step) (f f' : ℕ → ℕ → ℕ) where
 
   pub took_down : s.up ≡ false → ((l t : ℕ) → f' l t ≡ f l t + hit_at s.line s.word s.mask l t) → f' ≡ taken_back s f
   took_down down rose = same_counts f' (taken_back s f) (λ l t. rw down (rose l t))
+
+  -- the newest step is taken back first
+  pub before_step : f' ≡ taken_back s f → (log : List Step) (l t : ℕ) → undone (reverse (log ++ s ∷ [])) f l t ≡ undone (reverse log) f' l t
+  before_step took log l t = rw newest (ap (λ h. undone (reverse log) h l t) (sym took))
+
+-- a step up, and one down
+abbrev pub up : ℕ → ℕ → ℕ → ℕ → Step
+up line word mask turned = record { line = line; word = word; mask = mask; turned = turned; up = true; clears = false }
+
+abbrev pub down : ℕ → ℕ → ℕ → ℕ → Bool → Step
+down line word mask turned clears = record { line = line; word = word; mask = mask; turned = turned; up = false; clears = clears }
+
+module _ (f f' : ℕ → ℕ → ℕ) (line word mask turned : ℕ) where
+  pub back_up : ((l t : ℕ) → f' l t ≡ f l t + hit_at line word mask l t) → f ≡ taken_back (up line word mask turned) f'
+  back_up rose = took_up (up line word mask turned) f' f refl (λ l t. sym (rose l t))
+
+  pub back_down : (clears : Bool) → ((l t : ℕ) → f' l t + hit_at line word mask l t ≡ f l t) → f ≡ taken_back (down line word mask turned clears) f'
+  back_down clears fell = took_down (down line word mask turned clears) f' f refl (λ l t. sym (fell l t))
+
+-- ---- a log that was sound stays so
+
+pub sound_settled : (lines : List Counters) → IsSound lines []
+sound_settled lines = record { can = tt; turned = λ l t. omega arith }
+
+module _ (lines lines' : List Counters) (log : List Step) (sound : IsSound lines log) (more : (l w : ℕ) → limit_in lines l w ≤ limit_in lines' l w) where
+  can_still : length lines ≤ length lines' → CanUndo (length lines') (reverse log) (count_in lines) (limit_in lines')
+  can_still longer = can_more (length lines) (length lines') (reverse log) (count_in lines) (limit_in lines) (limit_in lines') longer more sound.can
+
+  pub sound_same : length lines ≤ length lines' → ((l t : ℕ) → count_in lines' l t ≡ count_in lines l t) → IsSound lines' log
+  sound_same longer same =
+      record {
+        can = subst (λ h. CanUndo (length lines') (reverse log) h (limit_in lines')) (sym (same_counts (count_in lines') (count_in lines) same)) (can_still longer);
+        turned = λ l t. omega (arith, sound.turned l t, same l t, undone_same (reverse log) (count_in lines) (count_in lines') same l t);
+      }
+
+  sound_step : (s : Step) → length lines' ≡ length lines → count_in lines ≡ taken_back s (count_in lines') → CanTakeBack (length lines') s (count_in lines') (limit_in lines')
+      → ((l t : ℕ) → came_by s l t + min 1 (count_in lines l t) ≡ went_by s l t + min 1 (count_in lines' l t)) → IsSound lines' (log ++ s ∷ [])
+  sound_step s len took can turns =
+      record {
+        can = rw newest (can, subst (λ h. CanUndo (length lines') (reverse log) h (limit_in lines')) took (can_still (le_of_eq (sym len))));
+        turned = λ l t.
+            omega (
+              arith,
+              sound.turned l t,
+              before_step s (count_in lines') (count_in lines) took log l t,
+              sum_by_push (λ s. came_by s l t) log s,
+              sum_by_push (λ s. went_by s l t) log s,
+              turns l t,
+            );
+      }
+
+  module _ (line word mask : ℕ) (within : line < length lines) (len : length lines' ≡ length lines) where
+    pub sound_up : (present : ℕ) → ((l t : ℕ) → count_in lines' l t ≡ count_in lines l t + hit_at line word mask l t) → present < 2 ^ 64 → IsPresence (count_in lines line) word present
+        → IsSound lines' (log ++ up line word mask (bit_and mask (bit_not w64 present)) ∷ [])
+    sound_up present rose fits is =
+        let turned = bit_and mask (bit_not w64 present) in
+        sound_step (up line word mask turned) len (back_up (count_in lines) (count_in lines') line word mask turned rose)
+        (omega (arith, len, within), λ t. omega (arith, rose line t, hit_in line word mask line t refl))
+        (λ l t. omega (arith, turns_up line word mask (count_in lines) (count_in lines') present fits is rose l t))
+
+    pub sound_down : (single : ℕ) (clears : Bool) → ((l t : ℕ) → count_in lines' l t + hit_at line word mask l t ≡ count_in lines l t) → IsSingle (count_in lines line) word single
+        → CanRaise (count_in lines' line) (limit_in lines' line) word mask → IsSound lines' (log ++ down line word mask (bit_and mask single) clears ∷ [])
+    sound_down single clears fell is room =
+        let turned = bit_and mask single in
+        sound_step (down line word mask turned clears) len (back_down (count_in lines) (count_in lines') line word mask turned clears fell)
+        (omega (arith, len, within), room)
+        (λ l t. omega (arith, turns_down line word mask (count_in lines) (count_in lines') single is fell l t))
 
 -- the rest of a log is that of the counters without the newest step
 pub left_over : (n n' : ℕ) (log left : List Step) (s : Step) (f f' d d' before : ℕ → ℕ → ℕ) → n' ≡ n → log ≡ left ++ s ∷ [] → f' ≡ taken_back s f

@@ -1,6 +1,6 @@
 -- Turns and changes in the order of their words.
 use Rattle.cil_recorded.proofs.Common.{◌≡◌, ◌≢◌, ℕ, Bool, true, false, if◌then◌else◌, ◌+◌, ◌-◌, ◌*◌, ◌/◌, ◌%◌, ◌^◌, ◌<◌, ◌≤◌, List, [], ◌∷◌, ◌++◌, bit_xor, bit_and, min, refl, sym, arith, inl, inr, Result, Ok, Err, IfOk, cases_eq, sum_by-cons, bit_at_xor, bit_at_and, bit_at-lt, Turn, Ascends, alone_at, appeared_at, balance_at, gone_at, key_of, low_at, turn_key, came_by, came_in, hit_at, turned_by, turned_in, went_by, went_in, IsTurned, Step}
-use Rattle.cil_recorded.proofs.LogLemmas.{hit_on, hit_off, hit_out}
+use Rattle.cil_recorded.proofs.LogLemmas.{by_hit, hit_off, hit_out}
 use Rattle.cil_recorded.specs.declared.recorded_lines.changes.Change.{Change}
 
 -- words of lines that differ have numbers that differ
@@ -48,112 +48,41 @@ module _ (line word low high l t : ℕ) where
   -- no target has both of these digits
   digits-once : hit_at line word low l t + hit_at line word (bit_xor high (bit_and low high)) l t ≤ 1
   digits-once =
-      let rest = bit_xor high (bit_and low high) in
-      elim (cases_eq l line) [
-        | inl e ↦
-            elim (cases_eq (t / 64) word) [
-              | inl e' ↦
-                  let b = t % 64 in
-                  omega (
-                    arith,
-                    hit_on line word low l t e e',
-                    hit_on line word rest l t e e',
-                    bit_at_and low high b,
-                    bit_at_xor high (bit_and low high) b,
-                    bit_at-lt low b,
-                    bit_at-lt high b,
-                  )
-              | inr n ↦ omega (arith, hit_out line word low l t n, hit_out line word rest l t n)
-            ]
-        | inr n ↦ omega (arith, hit_off line word low l t n, hit_off line word rest l t n)
-      ]
+      by_hit line word l t (λ hit. hit low + hit (bit_xor high (bit_and low high)) ≤ 1)
+      (λ _ _. let b = t % 64 in omega (arith, bit_at_and low high b, bit_at_xor high (bit_and low high) b, bit_at-lt low b, bit_at-lt high b)) (omega arith)
 
   -- what appeared and what went is what has a lower digit
   pub digits-low : hit_at line word (bit_xor low (bit_and low high)) l t + hit_at line word (bit_and low high) l t ≡ hit_at line word low l t
   digits-low =
-      let came = bit_xor low (bit_and low high) in
-      let went = bit_and low high in
-      elim (cases_eq l line) [
-        | inl e ↦
-            elim (cases_eq (t / 64) word) [
-              | inl e' ↦
-                  let b = t % 64 in
-                  omega (
-                    arith,
-                    hit_on line word came l t e e',
-                    hit_on line word went l t e e',
-                    hit_on line word low l t e e',
-                    bit_at_and low high b,
-                    bit_at_xor low (bit_and low high) b,
-                    bit_at-lt low b,
-                    bit_at-lt high b,
-                  )
-              | inr n ↦ omega (arith, hit_out line word came l t n, hit_out line word went l t n, hit_out line word low l t n)
-            ]
-        | inr n ↦ omega (arith, hit_off line word came l t n, hit_off line word went l t n, hit_off line word low l t n)
-      ]
+      by_hit line word l t (λ hit. hit (bit_xor low (bit_and low high)) + hit (bit_and low high) ≡ hit low)
+      (λ _ _. let b = t % 64 in omega (arith, bit_at_and low high b, bit_at_xor low (bit_and low high) b, bit_at-lt low b, bit_at-lt high b)) (omega arith)
 
   -- what went has both digits
   pub digits-high : hit_at line word (bit_and low high) l t + hit_at line word (bit_xor high (bit_and low high)) l t ≡ hit_at line word high l t
   digits-high =
-      let went = bit_and low high in
-      let rest = bit_xor high (bit_and low high) in
-      elim (cases_eq l line) [
-        | inl e ↦
-            elim (cases_eq (t / 64) word) [
-              | inl e' ↦
-                  let b = t % 64 in
-                  omega (
-                    arith,
-                    hit_on line word went l t e e',
-                    hit_on line word rest l t e e',
-                    hit_on line word high l t e e',
-                    bit_at_and low high b,
-                    bit_at_and low high b,
-                    bit_at_xor high (bit_and low high) b,
-                    bit_at-lt low b,
-                    bit_at-lt high b,
-                  )
-              | inr n ↦ omega (arith, hit_out line word went l t n, hit_out line word rest l t n, hit_out line word high l t n)
-            ]
-        | inr n ↦ omega (arith, hit_off line word went l t n, hit_off line word rest l t n, hit_off line word high l t n)
-      ]
+      by_hit line word l t (λ hit. hit (bit_and low high) + hit (bit_xor high (bit_and low high)) ≡ hit high)
+      (λ _ _. let b = t % 64 in omega (arith, bit_at_and low high b, bit_at_xor high (bit_and low high) b, bit_at-lt low b, bit_at-lt high b)) (omega arith)
 
 -- two turns of one word are one
 pub two_turns : (line word x y a b l t : ℕ)
     → (hit_at line word (bit_xor x y) l t + 2 * hit_at line word (bit_xor (bit_xor a b) (bit_and x y)) l t) % 4
     ≡ (hit_at line word x l t + 2 * hit_at line word a l t + (hit_at line word y l t + 2 * hit_at line word b l t)) % 4
 two_turns line word x y a b l t =
-    let low = bit_xor x y in
-    let high = bit_xor (bit_xor a b) (bit_and x y) in
-    elim (cases_eq l line) [
-      | inl e ↦
-          elim (cases_eq (t / 64) word) [
-            | inl e' ↦
-                let n = t % 64 in
-                omega (
-                  arith,
-                  hit_on line word low l t e e',
-                  hit_on line word high l t e e',
-                  hit_on line word x l t e e',
-                  hit_on line word y l t e e',
-                  hit_on line word a l t e e',
-                  hit_on line word b l t e e',
-                  bit_at_xor x y n,
-                  bit_at_xor a b n,
-                  bit_at_xor (bit_xor a b) (bit_and x y) n,
-                  bit_at_and x y n,
-                  bit_at-lt x n,
-                  bit_at-lt y n,
-                  bit_at-lt a n,
-                  bit_at-lt b n,
-                )
-            | inr n ↦
-                omega (arith, hit_out line word low l t n, hit_out line word high l t n, hit_out line word x l t n, hit_out line word y l t n, hit_out line word a l t n, hit_out line word b l t n)
-          ]
-      | inr n ↦
-          omega (arith, hit_off line word low l t n, hit_off line word high l t n, hit_off line word x l t n, hit_off line word y l t n, hit_off line word a l t n, hit_off line word b l t n)
-    ]
+    by_hit line word l t (λ hit. (hit (bit_xor x y) + 2 * hit (bit_xor (bit_xor a b) (bit_and x y))) % 4 ≡ (hit x + 2 * hit a + (hit y + 2 * hit b)) % 4)
+    (λ _ _.
+    let n = t % 64 in
+    omega (
+      arith,
+      bit_at_xor x y n,
+      bit_at_xor a b n,
+      bit_at_xor (bit_xor a b) (bit_and x y) n,
+      bit_at_and x y n,
+      bit_at-lt x n,
+      bit_at-lt y n,
+      bit_at-lt a n,
+      bit_at-lt b n,
+    ))
+    (omega arith)
 
 -- ---- turns whose numbers rise
 
@@ -213,7 +142,7 @@ turned-sum (s ∷ ss) l t =
     )
 
 -- so the turns of steps and whether a target was present make whether it is, modulo 4
-pub turned-modulo : (ss : List Step) (now before : ℕ → ℕ → ℕ) → IsTurned ss now before → (l t : ℕ) → (turned_in ss l t + min 1 (before l t)) % 4 ≡ min 1 (now l t)
+turned-modulo : (ss : List Step) (now before : ℕ → ℕ → ℕ) → IsTurned ss now before → (l t : ℕ) → (turned_in ss l t + min 1 (before l t)) % 4 ≡ min 1 (now l t)
 turned-modulo ss now before turned l t = omega (arith, turned l t, turned-sum ss l t)
 
 -- what came on the whole appeared, and what went is gone
@@ -222,12 +151,12 @@ pub came : (balance steps now before a g rest : ℕ) → balance ≡ a + 3 * g +
 came balance steps now before a g rest is few same turned = (omega (arith, is, few, same, turned), omega (arith, is, few, same, turned))
 
 -- so it is of the changes of turns
-pub split_changes : (ts : List Turn) (steps now before : ℕ → ℕ → ℕ) → Ascends turn_key 0 ts → ((l t : ℕ) → balance_at ts l t % 4 ≡ steps l t % 4) → ((l t : ℕ) → (steps l t + min 1 (before l t)) % 4 ≡ min 1 (now l t))
+pub split_changes : (ts : List Turn) (log : List Step) (now before : ℕ → ℕ → ℕ) → Ascends turn_key 0 ts → ((l t : ℕ) → balance_at ts l t % 4 ≡ turned_in log l t % 4) → IsTurned log now before
     → (cs : List Change) → ((l t : ℕ) → balance_at ts l t ≡ appeared_at cs l t + 3 * gone_at cs l t + 2 * alone_at ts l t) → ((l t : ℕ) → appeared_at cs l t + gone_at cs l t ≡ low_at ts l t)
     → (l t : ℕ) → (appeared_at cs l t ≡ min 1 (now l t) - min 1 (before l t)) × (gone_at cs l t ≡ min 1 (before l t) - min 1 (now l t))
-split_changes ts steps now before up same turned cs is low l t =
-    came (balance_at ts l t) (steps l t) (now l t) (before l t) (appeared_at cs l t) (gone_at cs l t) (alone_at ts l t) (is l t)
-    (let few = once 0 ts l t up in omega (arith, low l t, few)) (same l t) (turned l t)
+split_changes ts log now before up same turned cs is low l t =
+    came (balance_at ts l t) (turned_in log l t) (now l t) (before l t) (appeared_at cs l t) (gone_at cs l t) (alone_at ts l t) (is l t)
+    (let few = once 0 ts l t up in omega (arith, low l t, few)) (same l t) (turned-modulo log now before turned l t)
 
 pub IfOk-both : {T E : Type 0} {P Q R : T → Type 0} (r : Result T E) → ((x : T) → P x → Q x → R x) → IfOk r P → IfOk r Q → IfOk r R
 IfOk-both (Ok x) f p q = f x p q

@@ -1,4 +1,3 @@
-pub mod Common
 pub mod Log
 pub mod Recorded
 pub mod Differences

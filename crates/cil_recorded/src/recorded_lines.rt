@@ -1,8 +1,10 @@
 //! Lines of counters with a log of the steps since the last settling.
 
 ghost use Rattle.std.specs.Prelude.{◌≡◌, ◌↔◌, ℕ, ◌+◌, ◌-◌, ◌*◌, ◌<◌, ◌≤◌, ◌^◌, false, min, count_ones, IsTrue, MatchOption, OnErr, OnOk};
-ghost use Rattle.cil_recorded.specs.Common.{CanLower, CanRaise, falls, hit_at, IsTurned, count_before, count_now, limit_now, lines_in, moved, spare, steps_in, AreLeft};
 ghost use Rattle.cil_lines.specs.Line.{IsPresence, IsSingle, IsNextPresent, NonePresent};
+ghost use Rattle.cil_lines.specs.Limit.{CanLower, CanRaise};
+ghost use Rattle.cil_recorded.specs.Log.{falls, hit_at, IsTurned};
+ghost use Rattle.cil_recorded.specs.Recorded.{count_before, count_now, limit_now, lines_in, moved, spare, steps_in, AreLeft};
 
 mod changes;
 mod ended;

@@ -1,8 +1,9 @@
 //! How often steps let targets appear and go.
 
 ghost use Rattle.std.specs.Prelude.{◌≡◌, ◌≢◌, true, false, ℕ, ◌+◌, ◌%◌, ◌≤◌, ◌^◌, IfOk, OnErr, OnOk};
-ghost use Rattle.cil_recorded.specs.Common.{balance_at, balance_of, turn_key, Ascends, turned_by, turned_in};
 ghost use Rattle.std.specs.List.Sorted.{IsNonDecreasingBy};
+ghost use Rattle.cil_recorded.specs.Differences.{balance_at, balance_of, turn_key, Ascends};
+ghost use Rattle.cil_recorded.specs.Log.{turned_by, turned_in};
 
 use crate::step::Step;
 use std::alloc::{AllocError, Allocator};

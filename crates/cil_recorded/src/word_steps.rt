@@ -1,7 +1,9 @@
 //! Steps of a word of one of several lines.
 
 ghost use Rattle.std.specs.Prelude.{◌≡◌, ℕ, ◌+◌, ◌<◌, ◌≤◌, ◌^◌, OnOk, length};
-ghost use Rattle.cil_recorded.specs.Common.{CanLower, CanRaise, hit_at, count_in, limit_in};
+ghost use Rattle.cil_lines.specs.Limit.{CanLower, CanRaise};
+ghost use Rattle.cil_recorded.specs.Log.{hit_at};
+ghost use Rattle.cil_recorded.specs.Recorded.{count_in, limit_in};
 
 use cil_lines::Line;
 use std::alloc::{AllocError, Allocator};

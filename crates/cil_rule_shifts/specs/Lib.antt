@@ -1,4 +1,3 @@
-pub mod Common
 pub mod Reach
 pub mod Moves
 pub mod Pieces

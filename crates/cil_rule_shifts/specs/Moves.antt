@@ -1,12 +1,14 @@
 -- Which counters move where a rule gives something else than it gave.
 use Rattle.std.specs.Prelude.{◌≡◌, ◌<◌, ◌/◌, ◌^◌, ◌&&◌, ◌||◌, ◌==◌, ℕ, Bool, true, false, List, Option, MatchOption, Vec, length, not, slice_index}
 use Rattle.std.specs.List.Sorted.{IsStrictlyIncreasing}
+use Rattle.std.specs.Option.{IfSome}
 use Rattle.cil_keyed_lines.specs.Keyed.{is_key}
 use Rattle.cil_keyed_lines.specs.declared.symbol_key.SymbolKey.{SymbolKey}
-use Rattle.cil_rule_shifts.specs.Reach.{gives, has_permission, has_source, is_line, takes}
+use Rattle.cil_rule_shifts.specs.Reach.{gives, has_permission, has_source, is_line, takes, IsShort}
 use Rattle.cil_rule_shifts.specs.declared.head.RuleHead.{RuleHead}
 use Rattle.cil_rule_shifts.specs.declared.reach.Reach.{Reach}
 use Rattle.cil_rule_shifts.specs.declared.targets.Targets.{Targets}
+use Rattle.cil_rule_shifts.specs.declared.turned.TurnedReach.{TurnedReach}
 
 -- whether exactly one of two is true
 abbrev pub differs : Bool → Bool → Bool
@@ -46,6 +48,12 @@ pub record AreTurned (was is : ℕ → Bool) (words : List ℕ) : Type 0 where
 -- those of the targets of each source
 abbrev pub AreTurnedForAll : {A : Type 0} → Targets A → Targets A → List ℕ → Type 0
 AreTurnedForAll was is words = (source : ℕ) → AreTurned (takes was source) (takes is source) words
+
+-- The words that are told, if any, are those of the targets of each source. Sources and targets are numbers of the code.
+pub record IsTurned {A : Type 0} (t : TurnedReach A) : Type 0 where
+  pub common : IfSome t.common.now (λ words. AreTurnedForAll t.was.now.targets t.is.now.targets words.items)
+  pub was : IsShort t.was.now
+  pub is : IsShort t.is.now
 
 -- there is a list of words, and it has none
 abbrev pub HasNone : {A : Type 0} → Option (Vec ℕ A) → Type 0

@@ -1,7 +1,8 @@
 //! The targets of a source, word by word.
 
 ghost use Rattle.std.specs.Prelude.{◌≡◌, ℕ, IfOk};
-ghost use Rattle.cil_rule_shifts.specs.Common.{has_target, ArePieces, takes, AreShort};
+ghost use Rattle.cil_rule_shifts.specs.Pieces.{has_target, ArePieces};
+ghost use Rattle.cil_rule_shifts.specs.Reach.{takes, AreShort};
 
 use crate::targets::Targets;
 use std::alloc::{AllocError, Allocator, Global};

@@ -1,7 +1,11 @@
 //! The counters of keyed lines, raised by what a rule gives, for good.
 
 ghost use Rattle.std.specs.Prelude.{◌≡◌, ◌+◌, ◌&&◌, ℕ, false, IfOk, OnOk};
-ghost use Rattle.cil_rule_shifts.specs.Common.{IsStrictlyIncreasing, count_now, is_key, steps_in, RiseAtMost, has_target, put_for, AreApart, ArePieces, gives, is_line, one_if, takes, AreShort, IsShort, RisesBy};
+ghost use Rattle.std.specs.List.Sorted.{IsStrictlyIncreasing};
+ghost use Rattle.cil_keyed_lines.specs.Keyed.{count_now, is_key, steps_in, RiseAtMost};
+ghost use Rattle.cil_rule_shifts.specs.Pieces.{has_target, put_for, AreApart, ArePieces};
+ghost use Rattle.cil_rule_shifts.specs.Reach.{gives, is_line, one_if, takes, AreShort, IsShort};
+ghost use Rattle.cil_sums.specs.Rises.{RisesBy};
 
 use crate::head::RuleHead;
 use crate::pieces::{Piece, Pieces, pieces_of};

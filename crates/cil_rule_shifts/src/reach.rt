@@ -1,7 +1,8 @@
 //! What a rule reaches.
 
 ghost use Rattle.std.specs.Prelude.{◌≡◌, ◌≤◌, ◌^◌, ℕ, false, true, MatchOption};
-ghost use Rattle.cil_rule_shifts.specs.Common.{has_either, has_source, is_present, IsMask, IsNext, IsNextWord, IsShort, NoneFrom, NoneFromWord};
+ghost use Rattle.cil_rule_shifts.specs.Moves.{has_either};
+ghost use Rattle.cil_rule_shifts.specs.Reach.{has_source, is_present, IsMask, IsNext, IsNextWord, IsShort, NoneFrom, NoneFromWord};
 
 use crate::targets::Targets;
 use crate::words::earlier;

@@ -1,62 +1,67 @@
 //! The counters of keyed lines, moved from what a rule gave to what it gives.
 
-ghost use Rattle.std.specs.Prelude.{◌≡◌, ◌+◌, ◌≤◌, ◌<◌, ◌^◌, ◌/◌, ◌&&◌, ◌||◌, ◌==◌, ℕ, false, true, IfOk, IfSome, OnOk};
-ghost use Rattle.cil_rule_shifts.specs.Common.{IsStrictlyIncreasing, count_before, count_now, is_key, RiseAtMost, moves_for, moves_in, moves_of, moves_where, AreTurned, AreTurnedForAll, gives, is_line, one_if, reaches, takes, AreShort, IsShort, RisesBy};
+ghost use Rattle.std.specs.List.Sorted.{IsStrictlyIncreasing};
+ghost use Rattle.std.specs.Prelude.{◌≡◌, ◌+◌, ◌≤◌, ◌<◌, ◌^◌, ◌/◌, ◌&&◌, ◌||◌, ◌==◌, ℕ, false, true, IfOk, OnOk};
+ghost use Rattle.cil_keyed_lines.specs.Keyed.{count_before, count_now, is_key, RiseAtMost, StaysBefore};
+ghost use Rattle.cil_rule_shifts.specs.Moves.{moves_for, moves_in, moves_of, moves_where, AreTurned, IsTurned};
+ghost use Rattle.cil_rule_shifts.specs.Reach.{gives, is_line, one_if, reaches, takes, AreShort, IsShort};
+ghost use Rattle.cil_sums.specs.Rises.{RisesBy};
 
 use crate::head::RuleHead;
 use crate::reach::{Reach, next_source};
 use crate::targets::Targets;
-use crate::turned::{common_words, may_differ, turned_words};
+use crate::turned::{TurnedReach, TurnedTargets, common_words, may_differ, turned_words};
 use cil_keyed_lines::{KeyedLines, SymbolKey};
 use std::alloc::{AllocError, Allocator};
 
-/// Moves the counters of a line from the targets that its source had to those that it has, in the words in which they differ, and
-/// answers how many moved.
+/// Moves the counters of a line from the targets that its source had to those that it has, in the words in which they
+/// differ, and answers how many moved.
 fn shift_line<A: Allocator + Copy>(
     lines: &mut KeyedLines<A>,
     alloc: A,
     key: SymbolKey,
-    words: &[usize],
-    was: &Targets<A>,
-    is: &Targets<A>,
+    turned: TurnedTargets<'_, A>,
 ) -> Result<u128, AllocError>
-    requires words { AreTurned (takes was.now key.source) (takes is.now key.source) words.now }
-    requires counted { (t : ℕ) → one_if (takes was.now key.source t) ≤ count_now lines.old key t }
-    ensures now { OnOk result ((k : SymbolKey) (t : ℕ) → count_now lines.new k t + one_if (is_key key k && takes was.now key.source t)
-        ≡ count_now lines.old k t + one_if (is_key key k && takes is.now key.source t)) }
-    ensures bounded { RiseAtMost lines.old lines.new (λ k t. one_if (is_key key k && takes is.now key.source t)) }
-    ensures before { (k : SymbolKey) (t : ℕ) → count_before lines.new k t ≡ count_before lines.old k t }
-    ensures moved { IfOk result (RisesBy (moves_in key was.now is.now) 0) }
+    requires words { AreTurned (takes turned.was.now key.source) (takes turned.is.now key.source) turned.words.now }
+    requires counted { (t : ℕ) → one_if (takes turned.was.now key.source t) ≤ count_now lines.old key t }
+    ensures now { OnOk result ((k : SymbolKey) (t : ℕ) →
+        count_now lines.new k t + one_if (is_key key k && takes turned.entry.was.now key.source t)
+        ≡ count_now lines.old k t + one_if (is_key key k && takes turned.entry.is.now key.source t)) }
+    ensures bounded { RiseAtMost lines.old lines.new
+        (λ k t. one_if (is_key key k && takes turned.entry.is.now key.source t)) }
+    ensures before { StaysBefore lines.old lines.new }
+    ensures moved { IfOk result (RisesBy (moves_in key turned.entry.was.now turned.entry.is.now) 0) }
 {
     let mut moved: u128 = 0;
-    for word in words {
-        let gone = was.word(key.source, *word);
-        let come = is.word(key.source, *word);
+    for word in turned.words {
+        let gone = turned.was.word(key.source, *word);
+        let come = turned.is.word(key.source, *word);
         let here = lines.shift(alloc, key, *word, gone, come)?;
         moved = moved.saturating_add(here as u128);
     }
     Ok(moved)
 }
 
-/// Moves the counters of the lines of a source, of a kind, a class and its permissions, from the targets that it had to those that it has, in
-/// the words in which they differ, and answers how many moved.
+/// Moves the counters of the lines of a source, of a kind, a class and its permissions, from the targets that it had to
+/// those that it has, in the words in which they differ, and answers how many moved.
 fn shift_lines<A: Allocator + Copy>(
     lines: &mut KeyedLines<A>,
     alloc: A,
     source: usize,
     head: RuleHead<'_>,
-    words: &[usize],
-    was: &Targets<A>,
-    is: &Targets<A>,
+    turned: TurnedTargets<'_, A>,
 ) -> Result<u128, AllocError>
     requires permissions { IsStrictlyIncreasing head.permissions.now }
-    requires words { AreTurned (takes was.now source) (takes is.now source) words.now }
-    requires counted { (k : SymbolKey) (t : ℕ) → one_if (is_line source head k && takes was.now source t) ≤ count_now lines.old k t }
-    ensures now { OnOk result ((k : SymbolKey) (t : ℕ) → count_now lines.new k t + one_if (is_line source head.entry k && takes was.now source t)
-        ≡ count_now lines.old k t + one_if (is_line source head.entry k && takes is.now source t)) }
-    ensures bounded { RiseAtMost lines.old lines.new (λ k t. one_if (is_line source head.entry k && takes is.now source t)) }
-    ensures before { (k : SymbolKey) (t : ℕ) → count_before lines.new k t ≡ count_before lines.old k t }
-    ensures moved { IfOk result (RisesBy (moves_for source head.entry was.now is.now) 0) }
+    requires words { AreTurned (takes turned.was.now source) (takes turned.is.now source) turned.words.now }
+    requires counted { (k : SymbolKey) (t : ℕ) →
+        one_if (is_line source head k && takes turned.was.now source t) ≤ count_now lines.old k t }
+    ensures now { OnOk result ((k : SymbolKey) (t : ℕ) →
+        count_now lines.new k t + one_if (is_line source head.entry k && takes turned.entry.was.now source t)
+        ≡ count_now lines.old k t + one_if (is_line source head.entry k && takes turned.entry.is.now source t)) }
+    ensures bounded { RiseAtMost lines.old lines.new
+        (λ k t. one_if (is_line source head.entry k && takes turned.entry.is.now source t)) }
+    ensures before { StaysBefore lines.old lines.new }
+    ensures moved { IfOk result (RisesBy (moves_for source head.entry turned.entry.was.now turned.entry.is.now) 0) }
 {
     let mut moved: u128 = 0;
     for permission in head.permissions {
@@ -66,7 +71,7 @@ fn shift_lines<A: Allocator + Copy>(
             class: head.class,
             permission: *permission,
         };
-        let here = shift_line(lines, alloc, key, words, was, is)?;
+        let here = shift_line(lines, alloc, key, turned)?;
         moved = moved.saturating_add(here);
     }
     Ok(moved)
@@ -100,77 +105,81 @@ fn has_targets<A: Allocator>(reach: &Reach<A>, source: usize) -> bool
     }
 }
 
-/// Moves the counters of the lines of a source from what a rule gave it to what it gives it, and answers how many moved. The words in
-/// which the targets of every source differ are given, if there are such.
+/// Moves the counters of the lines of a source from what a rule gave it to what it gives it, and answers how many
+/// moved. The words in which the targets of every source differ are told, if there are such.
 fn shift_source<A: Allocator + Copy>(
     lines: &mut KeyedLines<A>,
     alloc: A,
     source: usize,
     head: RuleHead<'_>,
-    common: &Option<Vec<usize, A>>,
-    was: &Reach<A>,
-    is: &Reach<A>,
+    turned: TurnedReach<'_, A>,
 ) -> Result<u128, AllocError>
     requires permissions { IsStrictlyIncreasing head.permissions.now }
-    requires common { IfSome common.now (λ words. AreTurnedForAll was.now.targets is.now.targets words.items) }
-    requires was { IsShort was.now }
-    requires is { IsShort is.now }
-    requires counted { (k : SymbolKey) (t : ℕ) → one_if ((source == k.source) && gives was.now head k t) ≤ count_now lines.old k t }
-    ensures now { OnOk result ((k : SymbolKey) (t : ℕ) → count_now lines.new k t + one_if ((source == k.source) && gives was.now head.entry k t)
-        ≡ count_now lines.old k t + one_if ((source == k.source) && gives is.now head.entry k t)) }
-    ensures bounded { RiseAtMost lines.old lines.new (λ k t. one_if ((source == k.source) && gives is.now head.entry k t)) }
-    ensures before { (k : SymbolKey) (t : ℕ) → count_before lines.new k t ≡ count_before lines.old k t }
-    ensures moved { IfOk result (RisesBy (moves_of source was.now is.now head.entry) 0) }
+    requires turned { IsTurned turned }
+    requires counted { (k : SymbolKey) (t : ℕ) →
+        one_if ((source == k.source) && gives turned.was.now head k t) ≤ count_now lines.old k t }
+    ensures now { OnOk result ((k : SymbolKey) (t : ℕ) →
+        count_now lines.new k t + one_if ((source == k.source) && gives turned.entry.was.now head.entry k t)
+        ≡ count_now lines.old k t + one_if ((source == k.source) && gives turned.entry.is.now head.entry k t)) }
+    ensures bounded { RiseAtMost lines.old lines.new
+        (λ k t. one_if ((source == k.source) && gives turned.entry.is.now head.entry k t)) }
+    ensures before { StaysBefore lines.old lines.new }
+    ensures moved { IfOk result (RisesBy (moves_of source turned.entry.was.now turned.entry.is.now head.entry) 0) }
 {
     let none = Targets::Nothing;
-    let gone = targets_of(was, &none, source);
-    let come = targets_of(is, &none, source);
-    match common {
-        Some(words) if has_targets(was, source) && has_targets(is, source) => {
-            shift_lines(lines, alloc, source, head, words, gone, come)
+    let was = targets_of(turned.was, &none, source);
+    let is = targets_of(turned.is, &none, source);
+    match turned.common {
+        Some(words) if has_targets(turned.was, source) && has_targets(turned.is, source) => {
+            let turned = TurnedTargets { words, was, is };
+            shift_lines(lines, alloc, source, head, turned)
         }
         _ => {
-            let words = turned_words(alloc, source, gone, come)?;
-            shift_lines(lines, alloc, source, head, &words, gone, come)
+            let words = turned_words(alloc, source, was, is)?;
+            let turned = TurnedTargets {
+                words: &words,
+                was,
+                is,
+            };
+            shift_lines(lines, alloc, source, head, turned)
         }
     }
 }
 
-/// Moves the counters of what a rule gave by its kind, class and permissions to those of what it gives, source by source, and answers how many
-/// moved. The words in which the targets of every source differ are given, if there are such.
+/// Moves the counters of what a rule gave by its kind, class and permissions to those of what it gives, source by
+/// source, and answers how many moved. The words in which the targets of every source differ are given, if there are
+/// such.
 fn shift_sources<A: Allocator + Copy>(
     lines: &mut KeyedLines<A>,
     alloc: A,
     head: RuleHead<'_>,
-    common: &Option<Vec<usize, A>>,
-    was: &Reach<A>,
-    is: &Reach<A>,
+    turned: TurnedReach<'_, A>,
 ) -> Result<u128, AllocError>
     requires permissions { IsStrictlyIncreasing head.permissions.now }
-    requires common { IfSome common.now (λ words. AreTurnedForAll was.now.targets is.now.targets words.items) }
-    requires was { IsShort was.now }
-    requires is { IsShort is.now }
-    requires counted { (k : SymbolKey) (t : ℕ) → one_if (gives was.now head k t) ≤ count_now lines.old k t }
-    ensures now { OnOk result ((k : SymbolKey) (t : ℕ) → count_now lines.new k t + one_if (gives was.now head.entry k t)
-        ≡ count_now lines.old k t + one_if (gives is.now head.entry k t)) }
-    ensures bounded { RiseAtMost lines.old lines.new (λ k t. one_if (gives is.now head.entry k t)) }
-    ensures before { (k : SymbolKey) (t : ℕ) → count_before lines.new k t ≡ count_before lines.old k t }
-    ensures moved { IfOk result (RisesBy (moves_where was.now is.now head.entry) 0) }
+    requires turned { IsTurned turned }
+    requires counted { (k : SymbolKey) (t : ℕ) → one_if (gives turned.was.now head k t) ≤ count_now lines.old k t }
+    ensures now { OnOk result ((k : SymbolKey) (t : ℕ) →
+        count_now lines.new k t + one_if (gives turned.entry.was.now head.entry k t)
+        ≡ count_now lines.old k t + one_if (gives turned.entry.is.now head.entry k t)) }
+    ensures bounded { RiseAtMost lines.old lines.new (λ k t. one_if (gives turned.entry.is.now head.entry k t)) }
+    ensures before { StaysBefore lines.old lines.new }
+    ensures moved { IfOk result (RisesBy (moves_where turned.entry.was.now turned.entry.is.now head.entry) 0) }
 {
-    let all = may_differ(common);
+    let all = may_differ(turned.common);
     let mut moved: u128 = 0;
     let mut from = 0;
-    while let Some(source) = next_source(was, is, all, from) {
-        let here = shift_source(lines, alloc, source, head, common, was, is)?;
+    while let Some(source) = next_source(turned.was, turned.is, all, from) {
+        let here = shift_source(lines, alloc, source, head, turned)?;
         moved = moved.saturating_add(here);
         from = source + 1;
     }
     Ok(moved)
 }
 
-/// Moves the counters of what a rule gave by its kind, class and permissions to those of what it gives, and answers how many moved, or the
-/// greatest `u128` where they are more. The permissions are symbols, each once and in their order. After an out of memory some counters
-/// may have moved; their steps are logged. No counter is more than 1 above what it was then, either.
+/// Moves the counters of what a rule gave by its kind, class and permissions to those of what it gives, and answers how
+/// many moved, or the greatest `u128` where they are more. The permissions are symbols, each once and in their order.
+/// After an out of memory some counters may have moved; their steps are logged. No counter is more than 1 above what it
+/// was then, either.
 pub fn shift_rule<A: Allocator + Copy>(
     lines: &mut KeyedLines<A>,
     alloc: A,
@@ -189,5 +198,10 @@ pub fn shift_rule<A: Allocator + Copy>(
     ensures moved { IfOk result (RisesBy (moves_where was.now is.now head.entry) 0) }
 {
     let common = common_words(alloc, &was.targets, &is.targets)?;
-    shift_sources(lines, alloc, head, &common, was, is)
+    let turned = TurnedReach {
+        common: &common,
+        was,
+        is,
+    };
+    shift_sources(lines, alloc, head, turned)
 }

@@ -1,8 +1,8 @@
 //! The targets of a rule.
 
 ghost use Rattle.std.specs.Prelude.{◌≡◌, ◌/◌, ◌^◌, ◌==◌, ◌<◌, ◌&&◌, ℕ, MatchOption};
-ghost use Rattle.cil_rule_shifts.specs.Common.{one_if, takes, IsNextWord, NoneFromWord};
 ghost use Rattle.cil_lines.specs.Line.{hit};
+ghost use Rattle.cil_rule_shifts.specs.Reach.{one_if, takes, IsNextWord, NoneFromWord};
 
 use cil_lines::Line;
 use std::alloc::{Allocator, Global};

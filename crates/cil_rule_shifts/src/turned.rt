@@ -1,11 +1,29 @@
 //! The words in which the targets that sources had differ from those that they have.
 
 ghost use Rattle.std.specs.Prelude.{◌≡◌, ◌==◌, ℕ, true, false, IfOk, IfSome};
-ghost use Rattle.cil_rule_shifts.specs.Common.{AreTurned, AreTurnedForAll, HasNone, takes, AreShort};
+ghost use Rattle.cil_rule_shifts.specs.Moves.{AreTurned, AreTurnedForAll, HasNone};
+ghost use Rattle.cil_rule_shifts.specs.Reach.{takes, AreShort};
 
+use crate::reach::Reach;
 use crate::targets::Targets;
 use crate::words::next_word;
-use std::alloc::{AllocError, Allocator};
+use std::alloc::{AllocError, Allocator, Global};
+
+/// The targets that a source had and has, and the words in which they differ.
+#[derive(Clone, Copy)]
+pub struct TurnedTargets<'t, A: Allocator = Global> {
+    pub words: &'t [usize],
+    pub was: &'t Targets<A>,
+    pub is: &'t Targets<A>,
+}
+
+/// What a rule reached and reaches, and the words in which the targets of every source differ, if there are such.
+#[derive(Clone, Copy)]
+pub struct TurnedReach<'t, A: Allocator = Global> {
+    pub common: &'t Option<Vec<usize, A>>,
+    pub was: &'t Reach<A>,
+    pub is: &'t Reach<A>,
+}
 
 /// The words in which the targets of a source differ.
 pub fn turned_words<A: Allocator + Copy>(

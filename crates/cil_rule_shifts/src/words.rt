@@ -1,7 +1,7 @@
 //! The words of the targets that a source had or has.
 
 ghost use Rattle.std.specs.Prelude.{◌≡◌, ◌||◌, ◌≤◌, ℕ, Bool, MatchOption};
-ghost use Rattle.cil_rule_shifts.specs.Common.{takes, IsNextWord, NoneFromWord};
+ghost use Rattle.cil_rule_shifts.specs.Reach.{takes, IsNextWord, NoneFromWord};
 
 use crate::targets::Targets;
 use std::alloc::Allocator;

@@ -1,7 +1,8 @@
 //! Which targets came and went.
 
 ghost use Rattle.std.specs.Prelude.{◌≡◌, ℕ, ◌+◌, ◌-◌, ◌*◌, min, IfOk};
-ghost use Rattle.cil_recorded.specs.Common.{alone_at, appeared_at, balance_at, change_key, gone_at, low_at, turn_key, Ascends, count_before, count_now};
+ghost use Rattle.cil_recorded.specs.Differences.{alone_at, appeared_at, balance_at, change_key, gone_at, low_at, turn_key, Ascends};
+ghost use Rattle.cil_recorded.specs.Recorded.{count_before, count_now};
 
 use crate::recorded_lines::RecordedLines;
 use crate::turn::{Turn, net_turns};

@@ -1,7 +1,8 @@
 //! Lines that are left without counters once steps have ended.
 
 ghost use Rattle.std.specs.Prelude.{◌≡◌, ◌≢◌, ℕ, ◌+◌, ◌<◌, ◌⊎◌, false, length, min, slice_index_or, true};
-ghost use Rattle.cil_recorded.specs.Common.{falls, has_line, count_before, count_now, lines_in, steps_in, HasCount};
+ghost use Rattle.cil_recorded.specs.Log.{falls, has_line};
+ghost use Rattle.cil_recorded.specs.Recorded.{count_before, count_now, lines_in, steps_in, HasCount};
 
 use crate::recorded_lines::RecordedLines;
 use crate::step::Step;

@@ -1,8 +1,8 @@
 //! Where the steps were.
 
 ghost use Rattle.std.specs.Prelude.{◌≡◌, ℕ, ◌/◌, ◌<◌};
-ghost use Rattle.cil_recorded.specs.Common.{count_before, count_now, steps_in};
 ghost use Rattle.cil_recorded.specs.Places.{step_at, IsUntouched};
+ghost use Rattle.cil_recorded.specs.Recorded.{count_before, count_now, steps_in};
 
 use crate::recorded_lines::RecordedLines;
 use std::alloc::Allocator;

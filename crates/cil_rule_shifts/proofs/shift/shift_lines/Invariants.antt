@@ -5,7 +5,7 @@ use Rattle.cil_rule_shifts.proofs.shift.shift_lines.Given as goal
 -- the lines of the permissions so far are moved
 abbrev pub invariant-loop-permission : goal.invariant-loop-permission
 invariant-loop-permission g l =
-    ((k : SymbolKey) (t : ℕ) → count_now l.lines k t + one_if (is_line l.source (first l.permission-index l.head) k && takes l.was l.source t)
-    ≡ count_now l.fn.lines k t + one_if (is_line l.source (first l.permission-index l.head) k && takes l.is l.source t))
+    ((k : SymbolKey) (t : ℕ) → count_now l.lines k t + one_if (is_line l.source (first l.permission-index l.head) k && takes l.turned.was.now l.source t)
+    ≡ count_now l.fn.lines k t + one_if (is_line l.source (first l.permission-index l.head) k && takes l.turned.is.now l.source t))
     × ((k : SymbolKey) (t : ℕ) → count_before l.lines k t ≡ count_before l.fn.lines k t)
-    × RisesBy (moves_for l.source (first l.permission-index l.head) l.was l.is) 0 l.moved
+    × RisesBy (moves_for l.source (first l.permission-index l.head) l.turned.was.now l.turned.is.now) 0 l.moved

@@ -1,17 +1,16 @@
-use Rattle.cil_recorded.proofs.Common.{◌<◌, ◌∙◌, length, bit_and, refl, sym, ap, rules, IsPresence, IsSingle, falls, has_line, count_in}
+use Rattle.cil_recorded.proofs.Common.{◌<◌, ◌∙◌, ◌==◌, length, bit_and, w64, refl, sym, ap, rules, bit_not, IsPresence, IsSingle, falls, has_line, count_in}
 use Rattle.cil_recorded.proofs.EndLemmas.{others_down}
-use Rattle.cil_recorded.proofs.LogLemmas.{before_down, moved_down, sound_down}
+use Rattle.cil_recorded.proofs.LogLemmas.{back_down, before_step, moved_down, sound_down}
 use Rattle.cil_recorded.proofs.recorded_lines.RecordedLines.lower.Goals as goal
 
 pub invariant_of-self : goal.invariant_of-self
 invariant_of-self g c =
     let old = c.self.inside.lines.items in
-    let log = c.self.inside.log.items in
     let step = c.lower.ensures in
     let within : c.args.line < length old = rw (← c.self.view_is) at c.requires.line in
     let is : IsSingle (count_in old c.args.line) c.args.word c.single.result = rw (← c.self.view_is) at c.single.ensures in
     rw c.log_step.ensures.items
-    (sound_down old c.lower.new.lines.items log c.self.invariant step.limits step.len c.args.line c.args.word c.args.mask within step.now c.single.result _ is step.room)
+    (sound_down old c.lower.new.lines.items c.self.inside.log.items c.self.invariant step.limits c.args.line c.args.word c.args.mask within step.len c.single.result _ step.now is step.room)
 
 pub returns-clause-moved : goal.returns-clause-moved
 returns-clause-moved g c =
@@ -19,12 +18,10 @@ returns-clause-moved g c =
 
 pub returns-clause-before : goal.returns-clause-before
 returns-clause-before g c l t =
-    let old = c.self.inside.lines.items in
-    let log = c.self.inside.log.items in
-    let step = c.lower.ensures in
-    let within : c.args.line < length old = rw (← c.self.view_is) at c.requires.line in
+    let turned = bit_and c.args.mask c.single.result in
+    let clears = bit_and c.present.result (bit_not w64 turned) == 0 in
     rw (c.log_step.ensures.items, ← c.self.view_is)
-    (before_down old c.lower.new.lines.items log c.self.invariant step.limits step.len c.args.line c.args.word c.args.mask within step.now (bit_and c.args.mask c.single.result) _ l t)
+    (before_step _ _ _ (back_down (count_in c.self.inside.lines.items) (count_in c.lower.new.lines.items) c.args.line c.args.word c.args.mask turned clears c.lower.ensures.now) c.self.inside.log.items l t)
 
 pub returns-clause-others : goal.returns-clause-others
 returns-clause-others g c l none =
