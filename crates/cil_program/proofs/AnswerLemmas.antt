@@ -1,5 +1,5 @@
 -- What answers an edit and a batch.
-use Rattle.cil_program.proofs.Common.{◌≡◌, ◌++◌, List, codes, decimal, Option, Some, Result, Ok, Err, IfOk, IfErr, refl, ap, sym, ◌∙◌, subst, Changes, Store, a_batch, an_edit, changed_by, refused, Step, makes, commits, Answer, answer_of, a_line, Batch, HeldEdits, all_held, IsHeld, makes_all, state_of, by_the_edit, by_holding, by_the_batch, edit_of, refusal_of, counts_line, Does, AnswersBatch, Makes}
+use Rattle.cil_program.proofs.Common.{◌≡◌, ◌++◌, ℕ, List, length, codes, decimal, Option, Some, Result, Ok, Err, IfOk, IfErr, refl, ap, sym, ◌∙◌, subst, Changes, Store, a_batch, an_edit, changed_by, refused, Step, makes, commits, install, Answer, Answers, IsLeftAside, batch_behind, answer_aside, answer_of, a_line, Batch, HeldEdits, all_held, IsHeld, makes_all, state_of, by_the_edit, by_holding, by_the_batch, edit_of, refusal_of, counts_line, Does, AnswersBatch, Makes}
 use Rattle.cil_counters.specs.ChangeCounts.{AreCountsOf, CountsSome}
 use Rattle.cil_symbol_changes.specs.declared.counted_changes.ChangeCounts.{ChangeCounts}
 use Rattle.cil_store_specs.specs.Next as spec
@@ -8,6 +8,7 @@ use Rattle.cil_store.specs.Edits.{name_of}
 use Rattle.cil_store.specs.declared.edit.Edit.{Edit}
 use Rattle.cil_store.specs.declared.edit.Edit.TheVariants.{Install, Remove, Enable, Disable}
 use Rattle.cil_store.specs.declared.refusal.Refusal.{Refusal}
+use Rattle.cil_program.specs.declared.script.session.LeftAside.{LeftAside}
 
 -- an edit has one name
 pub same-name : (edit : Edit) → name_of edit ≡ answers.name_of (edit_of edit)
@@ -42,3 +43,10 @@ makes-same old new edits others (Err refusal) same ok err = subst (λ es. Step o
 pub held-answered : (store : Store) (old new : Option Batch) (b : Batch) (edit : spec.Edit) (after : HeldEdits) (answer told : Answer) → old ≡ Some b → new ≡ Some (record { line = b.line; held = after }) → IsHeld b.held edit told after → answer ≡ told
     → Does (record { store = store; batch = old }) (makes edit) (record { store = store; batch = new }) answer
 held-answered store old new b edit after answer told found same how is = λ number. by_holding edit b after refl found (subst (λ a. IsHeld b.held edit a after) (sym is) how) (ap (λ o. record { store = store; batch = o }) same)
+
+-- so was an install whose text was left aside
+pub aside-answered : (store : Store) (old new : Option Batch) (name : List ℕ) (priority size : ℕ) (why : LeftAside) (text : List ℕ) (answer : Answer) → IsLeftAside store old name priority size why → length text ≡ size → new ≡ batch_behind why old → answer ≡ answer_aside why name priority
+    → Does (record { store = store; batch = old }) (makes (install name priority text)) (record { store = store; batch = new }) answer
+aside-answered store old new name priority size why text answer aside is same told number =
+    subst (λ b. Answers number (record { store = store; batch = old }) (makes (install name priority text)) answer (record { store = store; batch = b })) (sym same)
+    (subst (λ a. Answers number (record { store = store; batch = old }) (makes (install name priority text)) a (record { store = store; batch = batch_behind why old })) (sym told) (aside text is number))

@@ -1,5 +1,5 @@
 -- The batch of a session.
-use Rattle.cil_program.proofs.Common.{◌≡◌, ◌++◌, ◌∷◌, [], ℕ, ◌+◌, ◌≤◌, ◌||◌, Bool, true, false, nat_le, List, length, take, min, nat_lt, Option, Some, None, Ok, Err, refl, ap, sym, ◌∙◌, subst, length-append, length-take, arith, sum_by, take_all, Edit, install, remove, enable, disable, held_bytes, is_too_long, Batch, all_held, IsHeld, holds, passes_the_limits, has_no_memory, held_as, name_of, given_up, held_of, opened, held_answer, CanHold, IsOpen, Adds, IsGiven, TooLong, Memory}
+use Rattle.cil_program.proofs.Common.{◌≡◌, ◌++◌, ◌∷◌, [], ℕ, ◌+◌, ◌≤◌, ◌||◌, Bool, true, false, nat_le, List, length, take, min, nat_lt, Option, Some, None, Ok, Err, refl, ap, sym, ◌∙◌, subst, length-append, length-take, arith, sum_by, take_all, Edit, install, remove, enable, disable, held_bytes, is_too_long, Batch, all_held, IsHeld, holds, passes_the_limits, has_no_memory, held_as, name_of, behind_fault, given_up, held_of, opened, held_answer, CanHold, IsOpen, Adds, IsGiven, TooLong, Memory}
 use Rattle.std.proofs.lemmas.Bool.{leb-true}
 use Rattle.std.proofs.lemmas.Bool.Decides.{nat_tests}
 use Rattle.std.proofs.lemmas.List.Sums.{sum_by-append, sum_by-cons}
@@ -56,19 +56,10 @@ list-err begin fault edits len none err b edit found size = passes_the_limits ed
 
 -- An edit isn't added: it isn't held, or memory runs out for it.
 pub not-added : (old new : Option Batch) (edit : Edit) (why : NotHeld) → new ≡ old → ((b : Batch) → old ≡ Some b → IsHeld b.held edit (held_answer (Err why) (name_of edit)) (given_up why)) → Adds old new edit (Err why)
-not-added old new edit why same how = λ b found. (how b found, (b.held, same ∙ found))
+not-added old new edit why same how = (same, how)
 
 pub no-memory : (now : Option Batch) (edit : Edit) (len : ℕ) → held_bytes edit ≡ len → CanHold now len → (b : Batch) → now ≡ Some b → IsHeld b.held edit (held_answer (Err Memory) (name_of edit)) (given_up Memory)
 no-memory now edit len size can b found = let c = can b found in has_no_memory c.0 c.1 (c.2 edit size) refl refl
-
--- the list, whatever became of it, is that of the same batch
-pub list-after : (begin : Option ℕ) (fault : Option NotHeld) (edits after : List Edit) (edit : Edit) (why : NotHeld) → ((b : Batch) → opened begin fault edits ≡ Some b → IsHeld b.held edit (held_answer (Err why) (name_of edit)) (given_up why))
-    → Adds (opened begin fault edits) (opened begin fault after) edit (Err why)
-list-after begin fault edits after edit why how = λ b found.
-    let o = opened-is begin fault edits b found in (
-      how b found,
-      (held_of fault after, (λ i. opened (o.begin_is i) fault after) ∙ (λ i. Some (record { line = (sym (ap (λ d. d.line) o.is)) i; held = held_of fault after }))),
-    )
 
 -- the list has room where the open batch has
 pub has-room : (begin : Option ℕ) (fault : Option NotHeld) (edits : List Edit) (held : Edit) (len : ℕ) → IsOpen (opened begin fault edits) → held_bytes held ≡ len → CanHold (opened begin fault edits) len → is_too_long (edits ++ held ∷ []) ≡ false
@@ -99,17 +90,11 @@ kept-size edit held len is size = ap held_bytes (sym is) ∙ held-size edit ∙ 
 pub install-size : (edit : Edit) (name : List ℕ) (priority : ℕ) (text : List ℕ) → held_as edit ≡ install name priority text → held_bytes edit ≡ min (length text) 16777217
 install-size edit name priority text is = sym (held-size edit) ∙ ap held_bytes is
 
--- an install whose text is short is held as it is
-pub short-held : (name : List ℕ) (priority : ℕ) (text : List ℕ) → length text ≤ 16777217 → held_as (install name priority text) ≡ install name priority text
-short-held name priority text short = ap (install name priority) (take_all 16777217 text short)
-
 -- What was given to an open batch was added; or what the batch holds was given up.
 pub held-added : (old new : Option Batch) (edit : Edit) (done : Unit {0}) → Adds old new edit (Ok done) → IsGiven old new edit (Ok done)
 held-added old new edit done adds b found =
     let a = adds b found in
     (all_held (a.0 ++ held_as edit ∷ []), a.3, holds a.0 a.1 a.2 refl refl)
 
-pub held-given_up : (old mid new : Option Batch) (edit : Edit) (why : NotHeld) → Adds old mid edit (Err why) → ((b : Batch) → mid ≡ Some b → new ≡ Some (record { line = b.line; held = given_up why })) → IsGiven old new edit (Err why)
-held-given_up old mid new edit why adds stops b found =
-    let a = adds b found in
-    (given_up why, stops (record { line = b.line; held = a.1.0 }) a.1.1, a.0)
+pub held-given_up : (old mid new : Option Batch) (edit : Edit) (why : NotHeld) → Adds old mid edit (Err why) → new ≡ behind_fault why mid → IsGiven old new edit (Err why)
+held-given_up old mid new edit why adds stops b found = (given_up why, stops ∙ ap (behind_fault why) (adds.0 ∙ found), adds.1 b found)

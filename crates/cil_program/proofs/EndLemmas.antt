@@ -23,7 +23,7 @@ abbrev some_text : ℕ → List ℕ
 some_text size = replicate size 0
 
 -- a command on the line of an install is one, of a text of that length
-on-install : (name : List ℕ) (priority size : ℕ) (command : Command) → AreGoodWords name priority size → HasGoodWords command → install_line name priority size ≡ line_of command
+pub on-install : (name : List ℕ) (priority size : ℕ) (command : Command) → AreGoodWords name priority size → HasGoodWords command → install_line name priority size ≡ line_of command
     → (text : List ℕ) × (length text ≡ size) × (behind command ≡ text ++ 10 ∷ [])
 on-install name priority size command good words e =
     let wanted : Command = makes (install name priority (some_text size)) in

@@ -160,8 +160,8 @@ no-bytes : (bytes : List ℕ) → length bytes ≡ 0 → bytes ≡ []
 no-bytes [] e = refl
 no-bytes (b ∷ bytes) e = absurd (omega (arith, e))
 
--- the first bytes of a text, of which the others come behind them
-take-front : (len most : ℕ) (first others : List ℕ) → length first ≡ min len most → length others ≡ len - min len most → take most (first ++ others) ≡ first
+-- the first bytes of a text, of which some others come behind them
+take-front : (len most : ℕ) (first others : List ℕ) → length first ≡ min len most → length others ≤ len - min len most → take most (first ++ others) ≡ first
 take-front len most first others size more = by (nat_le len most) refl
   where
     by : (b : Bool) → nat_le len most ≡ b → take most (first ++ others) ≡ first
@@ -182,7 +182,7 @@ front-then (Ok true) was mid now old between new len most first before after end
   first ++ part,
   reads-both was mid now old between new first read a b,
   (ap (λ l. first ++ l) whole.0 ∙ sym (append_assoc first part (10 ∷ [])), omega (arith, size, whole.1, length-append first part)),
-  λ e. is ∙ ap (λ l. before ++ l) (sym (take-front len most first part size whole.1)),
+  λ e. is ∙ ap (λ l. before ++ l) (sym (take-front len most first part size (omega (arith, whole.1)))),
 )
 front-then (Ok false) was mid now old between new len most first before after ended a size is (read, part, b, inl short) = (
   first ++ read,
@@ -200,7 +200,16 @@ front-then (Ok false) was mid now old between new len most first before after en
 )
 
 -- the source failed behind the first bytes of a text
-pub stops-behind_front : {E : Type 0} (r : Result Bool E) (was mid is : Account) (old between new : Held) (len most : ℕ) (first : List ℕ) → HasRead was mid old between first → length first ≡ min len most
-    → OnErr r ((read : List ℕ) × HasStopped mid is between new read × (length read ≤ len - min len most)) → OnErr r ((read : List ℕ) × HasStopped was is old new read × (length read ≤ len))
-stops-behind_front (Ok _) was mid is old between new len most first a size b = tt
-stops-behind_front (Err _) was mid is old between new len most first a size (read, stops, within) = (first ++ read, stops-later was mid is old between new first read a stops, omega (arith, size, within, length-append first read))
+pub stops-behind_front : {E : Type 0} (r : Result Bool E) (was mid is : Account) (old between new : Held) (len most : ℕ) (first before after : List ℕ) → HasRead was mid old between first → length first ≡ min len most → after ≡ before ++ first
+    → OnErr r ((read : List ℕ) × HasStopped mid is between new read × (length read ≤ len - min len most)) → OnErr r ((read : List ℕ) × HasStopped was is old new read × (length read ≤ len) × (after ≡ before ++ take most read))
+stops-behind_front (Ok _) was mid is old between new len most first before after a size came b = tt
+stops-behind_front (Err _) was mid is old between new len most first before after a size came (read, stops, within) = (
+  first ++ read,
+  stops-later was mid is old between new first read a stops,
+  omega (arith, size, within, length-append first read),
+  came ∙ ap (λ l. before ++ l) (sym (take-front len most first read size within)),
+)
+
+-- or in them
+pub stops-in_front : (was is : Account) (old new : Held) (len most : ℕ) (read before after : List ℕ) → HasStopped was is old new read → after ≡ before ++ read → length read < min len most → (more : List ℕ) × HasStopped was is old new more × (length more ≤ len) × (after ≡ before ++ take most more)
+stops-in_front was is old new len most read before after stops came within = (read, stops, omega (arith, within), came ∙ ap (λ l. before ++ l) (sym (take_all most read (omega (arith, within)))))

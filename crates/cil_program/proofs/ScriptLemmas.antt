@@ -1,5 +1,5 @@
 -- A session, one turn after another.
-use Rattle.cil_program.proofs.Common.{◌≡◌, ◌≢◌, ℕ, ◌+◌, ◌-◌, ◌^◌, ◌<◌, ◌≤◌, ◌||◌, Bool, true, false, List, [], ◌∷◌, ◌++◌, length, take, drop, Some, count_by, IsTrue, inl, inr, ◌==◌, refl, ap, sym, ◌∙◌, subst, append_assoc, append-nil, length-append, if◌then◌else◌, arith, list_any, AllByRecursion, list_any-append, append_cancel_left, take-append-drop, Account, Gains, GainsFront, Gives, IsSound, IsLeft, has_ended, Store, Answer, state_of, Answers, lines_of, AnswersAll, Command, line_of, behind, command_bytes, IsCommand, Commands, End, ends, stops, whole, without_end, last_line, IsSession, last_end, all_accepted, some_refused, BeginsWith, whole_ones, all_of_it, all_whole, but_for_the_last, IsCutByWrite, gains-both, gains-none, Fits, Moment, Progress, Standing, Leaves, LeavesByRead, LeavesByWrite, status_of, Advances, outcome_of, after_answer, HasAnswered, HasBegun, IsTurn, IsTurnCut, Read, Write, Status}
+use Rattle.cil_program.proofs.Common.{◌≡◌, ◌≢◌, ℕ, ◌+◌, ◌-◌, ◌^◌, ◌<◌, ◌≤◌, ◌||◌, Bool, true, false, List, [], ◌∷◌, ◌++◌, length, take, drop, Some, count_by, IsTrue, inl, inr, ◌==◌, refl, ap, sym, ◌∙◌, subst, append_assoc, append-nil, length-append, if◌then◌else◌, arith, list_any, AllByRecursion, list_any-append, append_cancel_left, take-append-drop, Account, Gains, GainsFront, Gives, IsSound, IsLeft, has_ended, Store, Answer, state_of, Answers, lines_of, AnswersAll, Command, line_of, behind, command_bytes, IsCommand, Commands, End, ends, stops, whole, without_end, last_line, IsSession, last_end, all_accepted, some_refused, BeginsWith, whole_ones, all_of_it, all_whole, but_for_the_last, IsCutByWrite, gains-both, gains-none, Fits, AllDone, IsLast, Moment, Progress, Standing, Leaves, LeavesByRead, LeavesByWrite, status_of, Advances, outcome_of, after_answer, HasAnswered, HasBegun, IsTurn, IsTurnCut, IsSessionCut, SessionFault, stood, Read, Write, Status}
 use Rattle.std.proofs.Common.{flat_map}
 use Rattle.std.proofs.lemmas.Grind.{flat_map-append}
 use Rattle.std.specs.Option.{option_map}
@@ -8,7 +8,8 @@ use Rattle.cil_store_specs.proofs.RunLemmas.{line_behind, answers-more}
 use Rattle.cil_program.specs.Session.{IsReadOf}
 use Rattle.cil_program.specs.declared.script.session.Turn.TheVariants as turns
 use Rattle.cil_program.specs.declared.script.session.Status.TheVariants as statuses
-use Rattle.cil_program.proofs.InputLemmas.{ended-now}
+use Rattle.cil_program.specs.declared.script.session.Last.TheVariants.{AtEnd, AtLine}
+use Rattle.cil_program.proofs.InputLemmas.{ended-now, ended-within}
 use Rattle.cil_program.proofs.SessionLemmas.{stands, advances-both}
 
 -- What a session did so far: it read whole commands, answered them, and wrote the answers.
@@ -134,33 +135,24 @@ turn-more first old now before between after status refused so_far (command, rea
   status_is = refused-more so_far.answers answered.answer refused status answered.is so_far.status_is;
 }
 
--- What a session did when all commands of its script are answered.
-pub record AllDone (first now : Moment) (before after : Progress) (status : Status) (end : End) : Type 0 where
-  pub bytes : List ℕ
-  pub gives : Gives first.account now.account bytes
-  pub commands : List Command
-  pub answers : List Answer
-  pub are_commands : (more : List ℕ) → (IsTrue (has_ended now.account) → more ≡ []) → Commands (bytes ++ more) commands end
-  pub answered : AnswersAll 1 before.state commands answers after.state
-  pub written : Gains before.taken after.taken (flat_map (λ a. a.bytes) answers)
-  pub status_is : status_of status ≡ spec.status_of answers end
-
 -- the script ended behind its last command
-pub done-at-end : (first old now : Moment) (before between after : Progress) (status : Status) → first.held.bytes ≡ [] → SoFar first old before between status → IsTurn turns.End old now between after → AllDone first now before after status ends
+pub done-at-end : (first old now : Moment) (before between after : Progress) (status : Status) → first.held.bytes ≡ [] → SoFar first old before between status → IsTurn turns.End old now between after → IsLast (AtEnd status) first now before after
 done-at-end first old now before between after status none so_far (reads, ended, empty, same) =
     let all = advances-both first old now so_far.read [] so_far.reads reads in
-    let read_is : so_far.read ++ [] ≡ flat_map command_bytes so_far.commands = append-nil so_far.read ∙ so_far.is in
-    subst (λ s. AllDone first now before s status ends) (sym same) (record {
-      bytes = all.takes.fresh;
-      gives = all.takes.gives;
-      commands = so_far.commands;
-      answers = so_far.answers;
-      are_commands = λ more no_more. whole so_far.good []
-          (last-bytes now all.takes.fresh (so_far.read ++ []) more (fresh-is first now (so_far.read ++ []) none all) (ended-now old.account now.account ended) empty no_more ∙ read_is ∙ sym (append-nil (flat_map command_bytes so_far.commands))) refl;
-      answered = so_far.answered;
-      written = so_far.written;
-      status_is = so_far.status_is;
-    })
+    let read_is : so_far.read ++ [] ≡ flat_map command_bytes so_far.commands = append-nil so_far.read ∙ so_far.is in (
+      subst (λ s. AllDone first now before s status ends) (sym same) (record {
+        bytes = all.takes.fresh;
+        gives = all.takes.gives;
+        commands = so_far.commands;
+        answers = so_far.answers;
+        are_commands = λ more no_more. whole so_far.good []
+            (last-bytes now all.takes.fresh (so_far.read ++ []) more (fresh-is first now (so_far.read ++ []) none all) (ended-now old.account now.account ended) empty no_more ∙ read_is ∙ sym (append-nil (flat_map command_bytes so_far.commands))) refl;
+        answered = so_far.answered;
+        written = so_far.written;
+        status_is = so_far.status_is;
+      }),
+      λ e. ended-within first.account old.account now.account now.account so_far.reads.takes.gives.ends ended (omega arith),
+    )
 
 -- the bytes given, where the last command lacks its line feed
 without-feed : (first old now : Moment) (read before more : List ℕ) (commands : List Command) (command : Command) → first.held.bytes ≡ [] → (all : Advances first now (before ++ read)) → before ≡ flat_map command_bytes commands → AllByRecursion IsCommand commands
@@ -171,19 +163,21 @@ without-feed first old now read before more commands command none all is good (i
 
 -- the script ended with a command that lacks its line feed
 pub done-without-end : (first old now : Moment) (before between after : Progress) (status : Status) (refused : Bool) → first.held.bytes ≡ [] → SoFar first old before between status → IsTurn (turns.Answered refused true) old now between after
-    → AllDone first now before after (after_answer refused status) ends
+    → IsLast (AtEnd (after_answer refused status)) first now before after
 done-without-end first old now before between after status refused none so_far (command, read, reads, is_read, answered) =
-    let all = advances-both first old now so_far.read read so_far.reads reads in
-    record {
-      bytes = all.takes.fresh;
-      gives = all.takes.gives;
-      commands = so_far.commands ++ command ∷ [];
-      answers = so_far.answers ++ answered.answer ∷ [];
-      are_commands = λ more no_more. without-feed first old now read so_far.read more so_far.commands command none all so_far.is so_far.good is_read no_more;
-      answered = answers-on (1 + old.held.line_feeds) before between after so_far.commands so_far.answers command refused so_far.line_is so_far.answered answered;
-      written = written-on (1 + old.held.line_feeds) before between after so_far.answers command refused so_far.written answered;
-      status_is = refused-more so_far.answers answered.answer refused status answered.is so_far.status_is;
-    }
+    let all = advances-both first old now so_far.read read so_far.reads reads in (
+      record {
+        bytes = all.takes.fresh;
+        gives = all.takes.gives;
+        commands = so_far.commands ++ command ∷ [];
+        answers = so_far.answers ++ answered.answer ∷ [];
+        are_commands = λ more no_more. without-feed first old now read so_far.read more so_far.commands command none all so_far.is so_far.good is_read no_more;
+        answered = answers-on (1 + old.held.line_feeds) before between after so_far.commands so_far.answers command refused so_far.line_is so_far.answered answered;
+        written = written-on (1 + old.held.line_feeds) before between after so_far.answers command refused so_far.written answered;
+        status_is = refused-more so_far.answers answered.answer refused status answered.is so_far.status_is;
+      },
+      λ e. ended-within first.account old.account now.account now.account so_far.reads.takes.gives.ends is_read.3 (omega arith),
+    )
 
 -- the bytes given begin with the commands so far
 given-is : (first now : Moment) (before read more : List ℕ) (commands : List Command) → first.held.bytes ≡ [] → (all : Advances first now (before ++ read)) → before ≡ flat_map command_bytes commands
@@ -196,21 +190,23 @@ given-is first now before read more commands none all is =
 
 -- the script stops at a line that is no command
 pub done-at-line : (first old now : Moment) (before between after : Progress) (status : Status) → first.held.bytes ≡ [] → first.held.line_feeds ≡ 0 → SoFar first old before between status → IsTurn turns.NoCommand old now between after
-    → AllDone first now before after statuses.Script (stops (1 + old.held.line_feeds))
+    → IsLast (AtLine old.held.line_feeds) first now before after
 done-at-line first old now before between after status none feeds so_far (read, reads, is_none, same) =
     let all = advances-both first old now so_far.read read so_far.reads reads in
-    let line_is : old.held.line_feeds ≡ count_by (λ b. b == 10) (flat_map command_bytes so_far.commands) = omega (arith, so_far.reads.line_feeds, feeds) ∙ ap (count_by (λ b. b == 10)) so_far.is in
-    subst (λ s. AllDone first now before s statuses.Script (stops (1 + old.held.line_feeds))) (sym same) (record {
-      bytes = all.takes.fresh;
-      gives = all.takes.gives;
-      commands = so_far.commands;
-      answers = so_far.answers;
-      are_commands = λ more no_more. let no = is_none more no_more in
-          whole so_far.good (read ++ (now.held.bytes ++ more)) (given-is first now so_far.read read more so_far.commands none all so_far.is) (no.0, no.1, ap (λ n. 1 + n) line_is);
-      answered = so_far.answered;
-      written = so_far.written;
-      status_is = refl;
-    })
+    let line_is : old.held.line_feeds ≡ count_by (λ b. b == 10) (flat_map command_bytes so_far.commands) = omega (arith, so_far.reads.line_feeds, feeds) ∙ ap (count_by (λ b. b == 10)) so_far.is in (
+      subst (λ s. AllDone first now before s statuses.Script (stops (1 + old.held.line_feeds))) (sym same) (record {
+        bytes = all.takes.fresh;
+        gives = all.takes.gives;
+        commands = so_far.commands;
+        answers = so_far.answers;
+        are_commands = λ more no_more. let no = is_none more no_more in
+            whole so_far.good (read ++ (now.held.bytes ++ more)) (given-is first now so_far.read read more so_far.commands none all so_far.is) (no.0, no.1, ap (λ n. 1 + n) line_is);
+        answered = so_far.answered;
+        written = so_far.written;
+        status_is = refl;
+      }),
+      λ e. absurd (cc),
+    )
 
 -- a session over the bytes given is one over the whole text that was left
 abbrev session-whole : (given more rest : List ℕ) (ended : Bool) (old new : Store) (written : List ℕ) (status : spec.Status) → (IsTrue ended → more ≡ []) → given ++ more ≡ rest → IsSession given ended old new written status → IsSession rest true old new written status
@@ -343,12 +339,11 @@ cut-at-last first now before after status left = record {
 }
 
 -- the source failed in a turn
-pub cut-at-read : (first old now : Moment) (start finish : Standing) (between after : Progress) (status : Status) → first.held.bytes ≡ [] → SoFar first old (begun start) between status → finish ≡ record { store = after.state.store; taken = after.taken } → IsTurnCut Read old now between after → IsSound now.account
-    → LeavesByRead first.account now.account start finish
-cut-at-read first old now start finish between after status none so_far at_end (read, stopped, no_more, same) sound =
+cut-at-read : (first old now : Moment) (start : Standing) (between after : Progress) (status : Status) → first.held.bytes ≡ [] → SoFar first old (begun start) between status → IsTurnCut Read old now between after → IsSound now.account → LeavesByRead first.account now.account start (stood after)
+cut-at-read first old now start between after status none so_far (read, stopped, no_more, same) sound =
     let all = advances-both first old now so_far.read read so_far.reads stopped.reads in
     let given : all.takes.fresh ≡ flat_map command_bytes so_far.commands ++ read = fresh-is first now (so_far.read ++ read) none all ∙ (λ i. (so_far.is i ++ read) ++ stopped.none i) ∙ append-nil (flat_map command_bytes so_far.commands ++ read) in
-    subst (LeavesByRead first.account now.account start) (sym (at_end ∙ ap (λ p. record { store = p.state.store; taken = p.taken }) same)) (record {
+    subst (λ p. LeavesByRead first.account now.account start (stood p)) (sym same) (record {
       given = all.takes.fresh;
       written = flat_map (λ a. a.bytes) so_far.answers;
       gives = all.takes.gives;
@@ -371,13 +366,11 @@ cut-at-read first old now start finish between after status none so_far at_end (
     })
 
 -- the sink failed in a turn, before anything was done
-cut-before-answer : (first old now : Moment) (start finish : Standing) (between : Progress) (status : Status) (read : List ℕ) → first.held.bytes ≡ [] → SoFar first old (begun start) between status → Advances old now read
-    → finish ≡ record { store = between.state.store; taken = between.taken } → IsSound now.account → LeavesByWrite first.account now.account start finish
-cut-before-answer first old now start finish between status read none so_far reads same sound =
+cut-before-answer : (first old now : Moment) (start : Standing) (between : Progress) (status : Status) (read : List ℕ) → first.held.bytes ≡ [] → SoFar first old (begun start) between status → Advances old now read → IsSound now.account → LeavesByWrite first.account now.account start (stood between)
+cut-before-answer first old now start between status read none so_far reads sound =
     let all = advances-both first old now so_far.read read so_far.reads reads in
     let bytes = flat_map (λ a. a.bytes) so_far.answers in
-    subst (LeavesByWrite first.account now.account start) (sym same)
-    (by-write first.account now.account start (record { store = between.state.store; taken = between.taken }) all.takes.fresh bytes all.takes.gives so_far.written sound (inl (record {
+    by-write first.account now.account start (stood between) all.takes.fresh bytes all.takes.gives so_far.written sound (inl (record {
       commands = so_far.commands;
       answers = so_far.answers;
       last = between.state;
@@ -385,18 +378,17 @@ cut-before-answer first old now start finish between status read none so_far rea
       answered = so_far.answered;
       store_is = refl;
       are_written = all_whole refl;
-    })))
+    }))
 
 -- or in an answer
-cut-in_answer : (first old now : Moment) (start finish : Standing) (between after : Progress) (status : Status) (last : Bool) (command : Command) (read : List ℕ) → first.held.bytes ≡ [] → SoFar first old (begun start) between status → Advances old now read
-    → finish ≡ record { store = after.state.store; taken = after.taken } → IsReadOf last command read old now → HasBegun (1 + old.held.line_feeds) command between after → IsSound now.account → LeavesByWrite first.account now.account start finish
-cut-in_answer first old now start finish between after status last command read none so_far reads at_end is_read answering sound =
+cut-in_answer : (first old now : Moment) (start : Standing) (between after : Progress) (status : Status) (last : Bool) (command : Command) (read : List ℕ) → first.held.bytes ≡ [] → SoFar first old (begun start) between status → Advances old now read → IsReadOf last command read old now
+    → HasBegun (1 + old.held.line_feeds) command between after → IsSound now.account → LeavesByWrite first.account now.account start (stood after)
+cut-in_answer first old now start between after status last command read none so_far reads is_read answering sound =
     let all = advances-both first old now so_far.read read so_far.reads reads in
     let bytes = flat_map (λ a. a.bytes) so_far.answers in
     let n = answering.written.0 in
     let front = take n answering.answer.bytes in
-    subst (LeavesByWrite first.account now.account start) (sym at_end)
-    (by-write first.account now.account start (record { store = after.state.store; taken = after.taken }) all.takes.fresh (bytes ++ front) all.takes.gives (gains-both start.taken between.taken after.taken bytes front so_far.written answering.written.2) sound (inl (record {
+    by-write first.account now.account start (stood after) all.takes.fresh (bytes ++ front) all.takes.gives (gains-both start.taken between.taken after.taken bytes front so_far.written answering.written.2) sound (inl (record {
       commands = so_far.commands ++ command ∷ [];
       answers = so_far.answers ++ answering.answer ∷ [];
       last = after.state;
@@ -405,7 +397,7 @@ cut-in_answer first old now start finish between after status last command read 
           (subst (λ n. Answers n between.state command answering.answer after.state) (sym so_far.line_is) answering.answers);
       store_is = refl;
       are_written = but_for_the_last so_far.answers answering.answer front (drop n answering.answer.bytes) refl (sym (take-append-drop n answering.answer.bytes)) refl;
-    })))
+    }))
   where
     begins : (l : Bool) → IsReadOf l command read old now → (more : List ℕ) → (IsTrue (has_ended now.account) → more ≡ []) → (all : Advances first now (so_far.read ++ read)) → BeginsWith (all.takes.fresh ++ more) (so_far.commands ++ command ∷ [])
     begins false is more no_more all = whole_ones (all-more so_far.commands command so_far.good is.0) (now.held.bytes ++ more)
@@ -413,12 +405,11 @@ cut-in_answer first old now start finish between after status last command read 
         ∙ ap (λ l. l ++ (now.held.bytes ++ more)) (sym (ap (λ l. l ++ read) so_far.is) ∙ bytes-more so_far.read read so_far.commands command so_far.is is.1))
     begins true is more no_more all = all_of_it (without-feed first old now read so_far.read more so_far.commands command none all so_far.is so_far.good is no_more)
 
-pub cut-at-write : (first old now : Moment) (start finish : Standing) (between after : Progress) (status : Status) → first.held.bytes ≡ [] → SoFar first old (begun start) between status → finish ≡ record { store = after.state.store; taken = after.taken }
-    → IsTurnCut Write old now between after → IsSound now.account → LeavesByWrite first.account now.account start finish
-cut-at-write first old now start finish between after status none so_far at_end (inl (read, reads, same)) sound =
-    cut-before-answer first old now start finish between status read none so_far reads (at_end ∙ ap (λ p. record { store = p.state.store; taken = p.taken }) same) sound
-cut-at-write first old now start finish between after status none so_far at_end (inr (last, command, read, reads, is_read, answering)) sound =
-    cut-in_answer first old now start finish between after status last command read none so_far reads at_end is_read answering sound
+-- the source or the sink failed in a turn
+pub session-cut : (fault : SessionFault) (first old now : Moment) (start : Standing) (between after : Progress) (status : Status) → first.held.bytes ≡ [] → SoFar first old (begun start) between status → IsSound now.account → IsTurnCut fault old now between after → IsSessionCut fault first now (begun start) after
+session-cut Read first old now start between after status none so_far sound cut = cut-at-read first old now start between after status none so_far cut sound
+session-cut Write first old now start between after status none so_far sound (inl (read, reads, same)) = subst (λ p. LeavesByWrite first.account now.account start (stood p)) (sym same) (cut-before-answer first old now start between status read none so_far reads sound)
+session-cut Write first old now start between after status none so_far sound (inr (last, command, read, reads, is_read, answering)) = cut-in_answer first old now start between after status last command read none so_far reads is_read answering sound
 
 -- with each command fewer bytes are left of those that a source can count
 pub fewer-left : (old now : Moment) (refused : Bool) (before after : Progress) → Fits old.account.count old.held → IsTurn (turns.Answered refused false) old now before after

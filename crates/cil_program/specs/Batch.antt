@@ -27,6 +27,11 @@ KeepsNoMore None fault edits = (fault ≡ None) × (edits ≡ [])
 KeepsNoMore (Some line_feeds) None edits = Unit {0}
 KeepsNoMore (Some line_feeds) (Some fault) edits = edits ≡ []
 
+-- the batch once an edit isn't held that was given to it, if one is open
+abbrev pub behind_fault : NotHeld → Option Batch → Option Batch
+behind_fault why None = None
+behind_fault why (Some b) = Some (record { line = b.line; held = given_up why })
+
 -- a batch is open
 abbrev pub IsOpen : Option Batch → Type 0
 IsOpen now = (b : Batch) × (now ≡ Some b)
@@ -45,8 +50,7 @@ CanHold now len = (b : Batch) → now ≡ Some b → (edits : List Edit) × (b.h
 abbrev pub Adds : Option Batch → Option Batch → Edit → Result (Unit {0}) NotHeld → Type 0
 Adds old new edit (Ok done) = (b : Batch) → old ≡ Some b → (edits : List Edit) × (b.held ≡ all_held edits) × (is_too_long (edits ++ edit ∷ []) ≡ false)
     × (new ≡ Some (record { line = b.line; held = all_held (edits ++ held_as edit ∷ []) }))
-Adds old new edit (Err fault) = (b : Batch) → old ≡ Some b → IsHeld b.held edit (held_answer (Err fault) (name_of edit)) (given_up fault)
-    × ((held : HeldEdits) × (new ≡ Some (record { line = b.line; held = held })))
+Adds old new edit (Err fault) = (new ≡ old) × ((b : Batch) → old ≡ Some b → IsHeld b.held edit (held_answer (Err fault) (name_of edit)) (given_up fault))
 
 -- An edit was given to the open batch, and answered so.
 abbrev pub IsGiven : Option Batch → Option Batch → Edit → Result (Unit {0}) NotHeld → Type 0

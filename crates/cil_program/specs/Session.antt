@@ -1,23 +1,28 @@
 -- One line of a script, and what came of it.
-use Rattle.std.specs.Prelude.{◌≡◌, ◌≢◌, ℕ, ◌+◌, ◌≤◌, Bool, true, false, List, [], ◌∷◌, ◌++◌, length, codes, decimal, Option, None, Result, Ok, Err, IfOk, OnErr, IsTrue, ◌⊎◌}
+use Rattle.std.specs.Prelude.{◌≡◌, ◌≢◌, ℕ, ◌+◌, ◌≤◌, Bool, true, false, List, [], ◌∷◌, ◌++◌, length, flat_map, codes, decimal, Option, None, Result, Ok, Err, IfOk, IfErr, IsErrOf, OnErr, IsTrue, ◌⊎◌}
 use Rattle.std.specs.List.{join_with_byte}
 use Rattle.cil_stream.specs.Device.{Account, Gains, GainsFront, Gives, HasEnded, HasFailed, IsLeft, has_ended}
 use Rattle.cil_stream.specs.declared.sink.SinkFault.{SinkFault}
 use Rattle.cil_store_specs.specs.Store.{Store}
 use Rattle.cil_store_specs.specs.Next.{Edit, install}
-use Rattle.cil_store_specs.specs.Answers.{Answer, answer_of, a_line, Batch, State, Answers}
+use Rattle.cil_store_specs.specs.Answers.{Answer, answer_of, a_line, Batch, State, Answers, AnswersAll}
 use Rattle.cil_store_specs.specs.Run.{a_batch, changed_by, refused, Step}
-use Rattle.cil_store_specs.specs.Script.{Command, makes, last_line, ends, HasGoodWords, IsGoodName, IsShortNumber, line_of, behind, command_bytes, IsCommand, MayLackItsEnd, IsNoCommand}
+use Rattle.cil_store_specs.specs.Script.{Command, Commands, End, makes, last_line, ends, stops, HasGoodWords, IsGoodName, IsShortNumber, line_of, behind, command_bytes, IsCommand, MayLackItsEnd, IsNoCommand}
 use Rattle.cil_store_specs.specs.Session.{IsSession, last_end, BeginsNoCommand, IsCutByRead, IsCutByWrite, all_accepted, some_refused, no_script}
 use Rattle.cil_store_specs.specs.Session as spec
 use Rattle.cil_counters.specs.ChangeCounts.{CountsSome}
 use Rattle.cil_symbol_changes.specs.declared.counted_changes.ChangeCounts.{ChangeCounts}
-use Rattle.cil_store.specs.Edits.{refusal_of}
+use Rattle.cil_store.specs.Edits.{refusal_of, store_refusal_of}
 use Rattle.cil_store.specs.declared.refusal.Refusal.{Refusal}
+use Rattle.cil_program.specs.Batch.{behind_fault, held_answer}
 use Rattle.cil_program.specs.Reply.{counts_line}
 use Rattle.cil_program.specs.Input.{Held, HasRead, HasStopped, IsShort}
 use Rattle.cil_program.specs.declared.script.input.LineEnd.{LineEnd}
 use Rattle.cil_program.specs.declared.script.input.LineEnd.TheVariants.{LineFeed, LastByte, TooLong}
+use Rattle.cil_program.specs.declared.script.session.Last.{Last}
+use Rattle.cil_program.specs.declared.script.session.Last.TheVariants.{AtEnd, AtLine}
+use Rattle.cil_program.specs.declared.script.session.LeftAside.{LeftAside}
+use Rattle.cil_program.specs.declared.script.session.LeftAside.TheVariants.{ByStore, NotHeld}
 use Rattle.cil_program.specs.declared.script.session.Outcome.{Outcome}
 use Rattle.cil_program.specs.declared.script.session.Outcome.TheVariants.{Accepted, Refused, NoCommand}
 use Rattle.cil_program.specs.declared.script.session.SessionFault.{SessionFault}
@@ -45,6 +50,31 @@ state_with store batch = record { store = store; batch = batch }
 
 abbrev pub progress : Store → Option Batch → Option (List ℕ) → Progress
 progress store batch taken = record { state = record { store = store; batch = batch }; taken = taken }
+
+-- A session at a point: what its source tells and what of that is held back, its state and what its sink took, and how often the
+-- sink failed.
+pub record Point : Type 0 where
+  pub moment : Moment
+  pub progress : Progress
+  pub failures : ℕ
+
+abbrev pub point : Account → Held → Store → Option Batch → Option (List ℕ) → ℕ → Point
+point account held store batch taken failures = record { moment = moment account held; progress = progress store batch taken; failures = failures }
+
+-- What a call did between two points, by its result: it was done so; or the source or the sink failed, which was counted, and it was
+-- cut so.
+pub record Comes {T : Type 0} (IsDone : T → Moment → Moment → Progress → Progress → Type 0) (IsCut : SessionFault → Moment → Moment → Progress → Progress → Type 0) (old new : Point) (result : Result T SessionFault) : Type 0 where
+  pub ok : IfOk result (λ done. IsDone done old.moment new.moment old.progress new.progress)
+  pub err : IfErr result (λ fault. IsCut fault old.moment new.moment old.progress new.progress)
+  pub read : IsErrOf result Read → HasFailed old.moment.account.failures new.moment.account.failures
+  pub write : IsErrOf result Write → HasFailed old.failures new.failures
+  pub read_failures : old.moment.account.failures ≤ new.moment.account.failures
+  pub write_failures : old.failures ≤ new.failures
+
+-- what came of a call that writes, as one that reads too tells it
+abbrev pub told : Result Outcome SinkFault → Result Outcome SessionFault
+told (Ok outcome) = Ok outcome
+told (Err fault) = Err Write
 
 abbrev pub status_of : Status → spec.Status
 status_of statuses.Clean = all_accepted
@@ -107,6 +137,21 @@ Does old command new answer = (number : ℕ) → Answers number old command answ
 -- an answer to a question, whether or not a batch is open
 abbrev pub IsAnswerFor : Store → Command → Answer → Type 0
 IsAnswerFor store command answer = (batch : Option Batch) → Does (record { store = store; batch = batch }) command (record { store = store; batch = batch }) answer
+
+-- the open batch once the text of an install is left aside, if one is open
+abbrev pub batch_behind : LeftAside → Option Batch → Option Batch
+batch_behind (ByStore fault) batch = batch
+batch_behind (NotHeld why) batch = behind_fault why batch
+
+-- and the answer
+abbrev pub answer_aside : LeftAside → List ℕ → ℕ → Answer
+answer_aside (ByStore fault) name priority = answer_of (refused (store_refusal_of fault name priority))
+answer_aside (NotHeld why) name priority = held_answer (Err why) name
+
+-- the install of any text of this length is answered so
+abbrev pub IsLeftAside : Store → Option Batch → List ℕ → ℕ → ℕ → LeftAside → Type 0
+IsLeftAside store batch name priority size why = (text : List ℕ) → length text ≡ size
+    → Does (state_with store batch) (makes (install name priority text)) (state_with store (batch_behind why batch)) (answer_aside why name priority)
 
 -- What came of a batch is answered: how many accesses came and went, or why it was refused.
 abbrev pub AnswersBatch : {A : Type 0} → Result ChangeCounts (Refusal A) → Answer → Type 0
@@ -178,17 +223,50 @@ IsTurn turns.End old new before after = Advances old new [] × HasEnded old.acco
 IsTurn (turns.Answered is_refused last) old new before after = (command : Command) × (read : List ℕ) × Advances old new read × IsReadOf last command read old new × HasAnswered (1 + old.held.line_feeds) command (outcome_of is_refused) before after
 IsTurn turns.NoCommand old new before after = (read : List ℕ) × Advances old new read × IsNone read new × (after ≡ before)
 
+-- the turn by what came of its line
+abbrev pub turn_by : Bool → Outcome → Turn
+turn_by last Accepted = turns.Answered false last
+turn_by last Refused = turns.Answered true last
+turn_by last NoCommand = turns.NoCommand
+
+abbrev pub turn_of : Bool → Result Outcome SessionFault → Result Turn SessionFault
+turn_of last (Ok outcome) = Ok (turn_by last outcome)
+turn_of last (Err fault) = Err fault
+
 -- a turn in which the source failed, before a command was read; or the sink, before anything was done or in an answer
 abbrev pub IsTurnCut : SessionFault → Moment → Moment → Progress → Progress → Type 0
 IsTurnCut Read old new before after = (read : List ℕ) × Stops old new read × BeginsNoCommand read × (after ≡ before)
 IsTurnCut Write old new before after = ((read : List ℕ) × Advances old new read × (after ≡ before))
     ⊎ ((last : Bool) × (command : Command) × (read : List ℕ) × Advances old new read × IsReadOf last command read old new × HasBegun (1 + old.held.line_feeds) command before after)
 
+-- how a script ends, and with which status so far
+abbrev pub end_of : Last → End
+end_of (AtEnd status) = ends
+end_of (AtLine line_feeds) = stops (1 + line_feeds)
+
+abbrev pub status_at : Last → Status
+status_at (AtEnd status) = status
+status_at (AtLine line_feeds) = statuses.Script
+
+-- All commands of a script were answered.
+pub record AllDone (first now : Moment) (before after : Progress) (status : Status) (end : End) : Type 0 where
+  pub bytes : List ℕ
+  pub gives : Gives first.account now.account bytes
+  pub commands : List Command
+  pub answers : List Answer
+  pub are_commands : (more : List ℕ) → (IsTrue (has_ended now.account) → more ≡ []) → Commands (bytes ++ more) commands end
+  pub answered : AnswersAll 1 before.state commands answers after.state
+  pub written : Gains before.taken after.taken (flat_map (λ a. a.bytes) answers)
+  pub status_is : status_of status ≡ spec.status_of answers end
+
+abbrev pub IsLast : Last → Moment → Moment → Progress → Progress → Type 0
+IsLast last first now before after = AllDone first now before after (status_at last) (end_of last) × (end_of last ≡ ends → HasEnded first.account now.account)
+
 -- Behind its last command a session ends with a status, and where a batch is still open with the line of its begin.
-pub record EndsSo (batch : Option Batch) (status last : Status) (old new : Option (List ℕ)) : Type 0 where
-  pub written : Gains old new (last_line (last_end ends batch))
-  pub is : (answers : List Answer) → status_of status ≡ spec.status_of answers ends → status_of last ≡ spec.status_of answers (last_end ends batch)
-  pub is_none : last ≢ statuses.Script → batch ≡ None
+pub record EndsSo (batch : Option Batch) (last : Last) (status : Status) (old new : Option (List ℕ)) : Type 0 where
+  pub written : Gains old new (last_line (last_end (end_of last) batch))
+  pub is : (answers : List Answer) → status_of (status_at last) ≡ spec.status_of answers (end_of last) → status_of status ≡ spec.status_of answers (last_end (end_of last) batch)
+  pub ended : status ≢ statuses.Script → end_of last ≡ ends
 
 -- an engine and a sink by what they tell
 pub record Standing : Type 0 where
@@ -197,6 +275,9 @@ pub record Standing : Type 0 where
 
 abbrev pub standing : Store → Option (List ℕ) → Standing
 standing store taken = record { store = store; taken = taken }
+
+abbrev pub stood : Progress → Standing
+stood now = standing now.state.store now.taken
 
 -- What a session leaves behind: its source gave bytes, and its sink took the answers. Where the source tells its whole text, the
 -- script is all that was left of it.
@@ -225,3 +306,8 @@ pub record LeavesByWrite (first now : Account) (before after : Standing) : Type 
   pub gains : Gains before.taken after.taken written
   pub cut : IsCutByWrite given (has_ended now) before.store after.store written
   pub whole : (rest : List ℕ) → IsLeft first rest → IsCutByWrite rest true before.store after.store written
+
+-- A session was cut so among its commands.
+abbrev pub IsSessionCut : SessionFault → Moment → Moment → Progress → Progress → Type 0
+IsSessionCut Read first now before after = LeavesByRead first.account now.account (stood before) (stood after)
+IsSessionCut Write first now before after = LeavesByWrite first.account now.account (stood before) (stood after)

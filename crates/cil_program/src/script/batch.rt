@@ -1,9 +1,9 @@
 //! The batch of a session.
 
 ghost use Rattle.std.specs.Prelude.{◌≡◌, ◌≤◌, ◌+◌, [], ℕ, List, length, min, true, false, IfOk, IfErr, OnOk, Err, Some, None, vec_capacity};
-ghost use Rattle.cil_program.specs.Common.{edit_of, held_of, held_answer, given_up, CanHold, IsOpen, Adds, IsGiven};
 ghost use Rattle.cil_store_specs.specs.Next.{Edit as SpecEdit, install, held_bytes};
 ghost use Rattle.cil_store_specs.specs.Answers.{Batch as Open, IsHeld, all_held, held_as, name_of};
+ghost use Rattle.cil_program.specs.Common.{edit_of, behind_fault, held_of, held_answer, given_up, CanHold, IsOpen, Adds, IsGiven};
 
 use crate::script::edit_list::EditList;
 use crate::script::held_edit::{GREATEST_HELD, HeldEdit};
@@ -123,14 +123,14 @@ impl<A: Allocator + Copy> Batch<A> {
         &self.edits
     }
 
-    /// Says that an edit of the open batch isn't held. The edits before it are given up.
+    /// Says that an edit isn't held that was given to the batch, if one is open. The edits before it are given up.
     pub fn give_up(&mut self, fault: NotHeld)
-        requires { IsOpen self.old }
-        ensures { (b : Open) → self.old ≡ Some b
-            → self.new ≡ Some (record { line = b.line; held = given_up fault }) }
+        ensures { self.new ≡ behind_fault fault self.old }
     {
-        self.edits = EditList::new(self.alloc);
-        self.fault = Some(fault);
+        if self.begin.is_some() {
+            self.edits = EditList::new(self.alloc);
+            self.fault = Some(fault);
+        }
     }
 
     /// Whether the open batch has room for an edit of which this many bytes of text are counted. Memory may still run out.

@@ -1,8 +1,8 @@
 //! A list of edits that are held, within the limits of a batch.
 
-ghost use Rattle.std.specs.Prelude.{◌≡◌, ◌++◌, ◌∷◌, [], map, true, false, IfOk, OnOk};
-ghost use Rattle.cil_program.specs.Common.{edit_of, held_edit};
+ghost use Rattle.std.specs.Prelude.{◌≡◌, ◌++◌, ◌∷◌, [], map, true, false, IfOk, OnOk, OnErr};
 ghost use Rattle.cil_store_specs.specs.Next.{Edit as SpecEdit, held_bytes, is_too_long};
+ghost use Rattle.cil_program.specs.Common.{edit_of, held_edit};
 
 use crate::script::held_edit::HeldEdit;
 use cil_store::Edit;
@@ -60,7 +60,8 @@ impl<A: Allocator> EditList<A> {
     /// Adds an edit for which there is room.
     pub fn push(&mut self, edit: HeldEdit<A>) -> Result<(), AllocError>
         requires { is_too_long (self.old ++ held_edit edit ∷ []) ≡ false }
-        ensures { OnOk result (self.new ≡ self.old ++ held_edit edit ∷ []) }
+        ensures ok { OnOk result (self.new ≡ self.old ++ held_edit edit ∷ []) }
+        ensures err { OnErr result (self.new ≡ self.old) }
     {
         let len = edit.as_edit().held_bytes();
         self.edits.push(edit)?;

@@ -313,32 +313,6 @@ impl Input {
         Ok(b == b'\n')
     }
 
-    /// Reads the text of an install and its line feed. The text comes to the end of a vector that has room for it. Says whether
-    /// all were there.
-    pub fn read_text<S: Source, A: Allocator>(
-        &mut self,
-        source: &mut S,
-        len: usize,
-        text: &mut Vec<u8, A>,
-    ) -> Result<bool, SourceFault>
-        requires counted { Fits (S.account source.old).count self.old }
-        requires room { vec_len text.old + len ≤ vec_capacity text.old }
-        ensures read { IfOk result (λ whole. (read part : List ℕ)
-            × HasRead (S.account source.old) (S.account source.new) self.old self.new read
-            × (text.new.items ≡ text.old.items ++ part)
-            × IsWholeText whole len part read (has_ended (S.account source.new)) self.new.bytes) }
-        ensures err { OnErr result ((read : List ℕ) ×
-            HasStopped (S.account source.old) (S.account source.new) self.old self.new read
-            × (length read ≤ len)) }
-        ensures failed { OnErr result (HasFailed (S.account source.old).failures (S.account source.new).failures) }
-        ensures failures { (S.account source.old).failures ≤ (S.account source.new).failures }
-    {
-        if !self.take_bytes(source, len, text)? {
-            return Ok(false);
-        }
-        self.take_line_feed(source)
-    }
-
     /// Reads the text of an install and its line feed, and no more than so many of its first bytes come to the end of a vector that has
     /// room for them. Says whether all were there.
     pub fn read_front<S: Source, A: Allocator>(
@@ -356,7 +330,7 @@ impl Input {
             × (whole ≡ true → text.new.items ≡ text.old.items ++ take most part)) }
         ensures err { OnErr result ((read : List ℕ) ×
             HasStopped (S.account source.old) (S.account source.new) self.old self.new read
-            × (length read ≤ len)) }
+            × (length read ≤ len) × (text.new.items ≡ text.old.items ++ take most read)) }
         ensures failed { OnErr result (HasFailed (S.account source.old).failures (S.account source.new).failures) }
         ensures failures { (S.account source.old).failures ≤ (S.account source.new).failures }
     {

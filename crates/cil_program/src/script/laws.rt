@@ -1,9 +1,9 @@
 //! Laws of the definitions, which make the contract of a session exact. They have no code.
 
 ghost use Rattle.std.specs.Prelude.{◌≡◌, ◌++◌, ℕ, Bool, true, List};
-ghost use Rattle.cil_program.specs.Common.{IsMeaningOf, Command, End, Commands, dump_text, BeginsWith, IsSession, Store, IsStore, empty};
 ghost use Rattle.cil_specs.specs.Meaning.{Meaning};
 ghost use Rattle.cil_store_specs.specs.Limits.{IsWithinLimits, HasGoodTexts};
+ghost use Rattle.cil_program.specs.Common.{IsMeaningOf, Command, End, Commands, dump_text, BeginsWith, IsSession, Store, IsStore, empty};
 ghost use Rattle.cil_store_specs.specs.Session.{Status};
 ghost use Rattle.cil_store.specs.Laws.{IsTakenBack};
 ghost use Rattle.cil_program.specs.Laws.{NeverForMemory, SessionsKeep};

@@ -1,7 +1,7 @@
 //! A session: it answers a script, command by command.
 
-ghost use Rattle.std.specs.Prelude.{◌≡◌, ◌≢◌, ◌≤◌, ◌+◌, [], List, ℕ, IfOk, IfErr, OnOk, OnErr, IsErrOf, IsTrue, Some, None};
-ghost use Rattle.cil_program.specs.Common.{HasFailed, HasEnded, GainsFront, has_ended, answer_of, a_line, a_refusal, state_of, Answers, for_memory, refused, makes, begins, commits, aborts, asks_rules, asks_violations, asks_dropped, asks_modules, asks_dump, refusal_line, last_line, ends, last_end, Store, edit_of, store_refusal_of, held_answer, IsOpen, command_of, question_asked, Fits, Writes, moment, progress, standing, state_with, Tries, Does, IsAnswerFor, AnswersBatch, Makes, EndsSo, IsOutcome, IsInstallOutcome, IsInstallCut, IsLineCut, IsTurn, IsTurnCut, Leaves, LeavesByRead, LeavesByWrite};
+ghost use Rattle.std.specs.Prelude.{◌≡◌, ◌≢◌, ◌≤◌, ◌+◌, [], List, ℕ, length, take, min, vec_capacity, IfOk, IfErr, OnOk, OnErr, IsErrOf, IsTrue, None};
+ghost use Rattle.cil_program.specs.Common.{HasFailed, HasEnded, GainsFront, has_ended, answer_of, a_line, a_refusal, state_of, Answers, for_memory, install, refused, makes, begins, commits, aborts, asks_rules, asks_violations, asks_dropped, asks_modules, asks_dump, refusal_line, last_line, last_end, Store, edit_of, store_refusal_of, held_answer, IsOpen, command_of, question_asked, Fits, Writes, answer_aside, batch_behind, end_of, point, standing, state_with, told, turn_of, Comes, Tries, Does, IsAnswerFor, IsLeftAside, AnswersBatch, Makes, EndsSo, IsOutcome, IsInstallOutcome, IsInstallCut, IsLast, IsLineCut, IsSessionCut, IsTurn, IsTurnCut, Leaves, LeavesByRead, LeavesByWrite};
 ghost use Rattle.cil_program.specs.declared.script.input.LineEnd.TheVariants.{LastByte};
 ghost use Rattle.cil_program.specs.declared.script.session.Status.TheVariants.{Script};
 
@@ -109,14 +109,8 @@ fn answer_rows<W: Sink, A: Allocator + Copy, C: Compiled<A>>(
     ensures { Tries W.taken W.failures sink.old sink.new (IsAnswerFor (C.store engine.now) asks_rules) result }
 {
     match engine.write_listing(sink) {
-        Ok(rows) => {
-            reply::write_end(sink, rows)?;
-            Ok(Outcome::Accepted)
-        }
-        Err(WriteFault::Memory) => {
-            reply::write_no_memory(sink)?;
-            Ok(Outcome::Refused)
-        }
+        Ok(rows) => reply::write_end(sink, rows).and(Ok(Outcome::Accepted)),
+        Err(WriteFault::Memory) => reply::write_no_memory(sink).and(Ok(Outcome::Refused)),
         Err(WriteFault::Sink) => Err(SinkFault),
     }
 }
@@ -129,14 +123,8 @@ fn answer_violations<W: Sink, A: Allocator + Copy, C: Compiled<A>>(
     ensures { Tries W.taken W.failures sink.old sink.new (IsAnswerFor (C.store engine.now) asks_violations) result }
 {
     match engine.write_violations(sink) {
-        Ok(violations) => {
-            reply::write_end(sink, violations as u128)?;
-            Ok(Outcome::Accepted)
-        }
-        Err(WriteFault::Memory) => {
-            reply::write_no_memory(sink)?;
-            Ok(Outcome::Refused)
-        }
+        Ok(count) => reply::write_end(sink, count as u128).and(Ok(Outcome::Accepted)),
+        Err(WriteFault::Memory) => reply::write_no_memory(sink).and(Ok(Outcome::Refused)),
         Err(WriteFault::Sink) => Err(SinkFault),
     }
 }
@@ -149,14 +137,8 @@ fn answer_dropped<W: Sink, A: Allocator + Copy, C: Compiled<A>>(
     ensures { Tries W.taken W.failures sink.old sink.new (IsAnswerFor (C.store engine.now) asks_dropped) result }
 {
     match engine.dropped() {
-        Ok(dropped) => {
-            reply::write_dropped(sink, &dropped)?;
-            Ok(Outcome::Accepted)
-        }
-        Err(_) => {
-            reply::write_no_memory(sink)?;
-            Ok(Outcome::Refused)
-        }
+        Ok(dropped) => reply::write_dropped(sink, &dropped).and(Ok(Outcome::Accepted)),
+        Err(_) => reply::write_no_memory(sink).and(Ok(Outcome::Refused)),
     }
 }
 
@@ -167,8 +149,7 @@ fn answer_modules<W: Sink, A: Allocator + Copy, C: Compiled<A>>(
 ) -> Result<Outcome, SinkFault>
     ensures { Tries W.taken W.failures sink.old sink.new (IsAnswerFor (C.store engine.now) asks_modules) result }
 {
-    reply::write_modules(sink, engine.store())?;
-    Ok(Outcome::Accepted)
+    reply::write_modules(sink, engine.store()).and(Ok(Outcome::Accepted))
 }
 
 /// Answers the question for a script that builds the store.
@@ -178,8 +159,7 @@ fn answer_dump<W: Sink, A: Allocator + Copy, C: Compiled<A>>(
 ) -> Result<Outcome, SinkFault>
     ensures { Tries W.taken W.failures sink.old sink.new (IsAnswerFor (C.store engine.now) asks_dump) result }
 {
-    reply::write_dump(sink, engine.store())?;
-    Ok(Outcome::Accepted)
+    reply::write_dump(sink, engine.store()).and(Ok(Outcome::Accepted))
 }
 
 /// Answers a question.
@@ -204,8 +184,7 @@ fn answer_question<W: Sink, A: Allocator + Copy, C: Compiled<A>>(
 fn tell<W: Sink>(sink: &mut W, line: &[u8]) -> Result<Outcome, SinkFault>
     ensures { Tries W.taken W.failures sink.old sink.new (λ answer. answer ≡ a_line line.now) result }
 {
-    write_all(sink, line)?;
-    Ok(Outcome::Accepted)
+    write_all(sink, line).and(Ok(Outcome::Accepted))
 }
 
 /// Writes a refusal by its code and its word.
@@ -213,8 +192,7 @@ fn refuse<W: Sink>(sink: &mut W, code: u8, word: &[u8]) -> Result<Outcome, SinkF
     ensures { Tries W.taken W.failures sink.old sink.new
         (λ answer. answer ≡ a_refusal code word.now) result }
 {
-    reply::write_store_refusal(sink, code, word)?;
-    Ok(Outcome::Refused)
+    reply::write_store_refusal(sink, code, word).and(Ok(Outcome::Refused))
 }
 
 /// Writes that memory ran out.
@@ -222,8 +200,7 @@ fn refuse_for_memory<W: Sink>(sink: &mut W) -> Result<Outcome, SinkFault>
     ensures { Tries W.taken W.failures sink.old sink.new
         (λ answer. answer ≡ answer_of (refused for_memory)) result }
 {
-    reply::write_no_memory(sink)?;
-    Ok(Outcome::Refused)
+    reply::write_no_memory(sink).and(Ok(Outcome::Refused))
 }
 
 /// Writes what came of a batch.
@@ -234,14 +211,8 @@ fn answer_batch<W: Sink, A: Allocator>(
     ensures { Tries W.taken W.failures sink.old sink.new (AnswersBatch made) result }
 {
     match made {
-        Ok(counts) => {
-            reply::write_changes(sink, counts)?;
-            Ok(Outcome::Accepted)
-        }
-        Err(refusal) => {
-            reply::write_refusal(sink, &refusal)?;
-            Ok(Outcome::Refused)
-        }
+        Ok(counts) => reply::write_changes(sink, counts).and(Ok(Outcome::Accepted)),
+        Err(refusal) => reply::write_refusal(sink, &refusal).and(Ok(Outcome::Refused)),
     }
 }
 
@@ -438,138 +409,139 @@ fn flush_unless<W: Sink>(sink: &mut W, held: bool) -> Result<(), SinkFault>
     sink.flush()
 }
 
-/// Reads the text of an install and makes the install, where no batch is open. An install that the store refuses whatever its text
-/// spells, or for whose text there is no memory, has its text left aside.
-fn make_install<S: Source, W: Sink, A: Allocator + Copy, C: Compiled<A>>(
-    alloc: A,
-    input: &mut Input,
-    source: &mut S,
-    sink: &mut W,
-    engine: &mut C,
-    install: InstallLine<'_>,
-) -> Result<Outcome, SessionFault>
-    requires { Fits (S.account source.old).count input.old }
-    ensures ok { IfOk result (λ outcome. IsInstallOutcome outcome install.entry.name.now
-        install.entry.priority install.entry.len
-        (moment (S.account source.old) input.old) (moment (S.account source.new) input.new)
-        (progress (C.store engine.old) None (W.taken sink.old))
-        (progress (C.store engine.new) None (W.taken sink.new))) }
-    ensures err { IfErr result (λ fault. IsInstallCut fault install.entry.name.now
-        install.entry.priority install.entry.len
-        (moment (S.account source.old) input.old) (moment (S.account source.new) input.new)
-        (progress (C.store engine.old) None (W.taken sink.old))
-        (progress (C.store engine.new) None (W.taken sink.new))) }
-    ensures read { IsErrOf result SessionFault.Read →
-        HasFailed (S.account source.old).failures (S.account source.new).failures }
-    ensures write { IsErrOf result SessionFault.Write →
-        HasFailed (W.failures sink.old) (W.failures sink.new) }
-    ensures read_failures { (S.account source.old).failures ≤ (S.account source.new).failures }
-    ensures write_failures { W.failures sink.old ≤ W.failures sink.new }
+/// What came of a call that writes, as one that reads too tells it.
+fn told(written: Result<Outcome, SinkFault>) -> Result<Outcome, SessionFault>
+    ensures { result ≡ told written }
 {
-    let len = install.len as usize;
-    let name = install.name;
-    let priority = install.priority;
-    if let Err(fault) = engine.store().check_install(name, priority, len) {
-        if !input.skip_text(source, len)? {
-            return Ok(Outcome::NoCommand);
-        }
-        write_store_fault(sink, fault, name, priority)?;
-        return Ok(Outcome::Refused);
-    }
-    let Ok(mut text) = Vec::with_capacity(alloc, len) else {
-        if !input.skip_text(source, len)? {
-            return Ok(Outcome::NoCommand);
-        }
-        reply::write_no_memory(sink)?;
-        return Ok(Outcome::Refused);
-    };
-    if !input.read_text(source, len, &mut text)? {
-        return Ok(Outcome::NoCommand);
-    }
-    let edit = Edit::Install {
-        name,
-        priority,
-        text: text.as_slice(),
-    };
-    Ok(make_edit(sink, engine, edit)?)
+    Ok(written?)
 }
 
-/// Reads the text of an install and has the open batch hold the install. Where it doesn't, the text is left aside.
-fn hold_install<S: Source, W: Sink, A: Allocator + Copy>(
-    input: &mut Input,
-    source: &mut S,
+/// What a session has between two calls: bytes that its source gave and that are not read yet, and its open batch.
+#[derive(Drop)]
+struct OpenSession<A: Allocator> {
+    input: Input,
+    batch: Batch<A>,
+}
+
+/// Why the text of an install is left aside.
+#[derive(Clone, Copy, Debug, PartialEq, Eq)]
+pub enum LeftAside {
+    /// The store refuses the install, whatever its text spells.
+    ByStore(StoreFault),
+    /// The open batch doesn't hold it; or there is no memory for it.
+    NotHeld(NotHeld),
+}
+
+/// An empty vector with room for as much of the text of an install as is read; or why the text is left aside.
+fn text_room<A: Allocator + Copy, C: Compiled<A>>(
+    engine: &C,
+    batch: &Batch<A>,
+    line: InstallLine<'_>,
+) -> Result<Vec<u8, A>, LeftAside>
+    ensures empty { IfOk result (λ text. text.items ≡ []) }
+    ensures room { IfOk result (λ text. min line.entry.len 16777217 ≤ vec_capacity text) }
+    ensures whole { batch.now ≡ None → OnOk result (line.entry.len ≤ 16777216) }
+    ensures err { IfErr result (IsLeftAside (C.store engine.now) batch.now
+        line.entry.name.now line.entry.priority line.entry.len) }
+{
+    let len = line.len as usize;
+    if batch.is_open() {
+        return match batch.text_room(len) {
+            Ok(text) => Ok(text),
+            Err(why) => Err(LeftAside::NotHeld(why)),
+        };
+    }
+    if let Err(fault) = engine.store().check_install(line.name, line.priority, len) {
+        return Err(LeftAside::ByStore(fault));
+    }
+    match Vec::with_capacity(batch.alloc(), len) {
+        Ok(text) => Ok(text),
+        Err(_) => Err(LeftAside::NotHeld(NotHeld::Memory)),
+    }
+}
+
+/// Answers an install whose text was left aside.
+fn answer_aside<W: Sink, A: Allocator + Copy>(
     sink: &mut W,
     batch: &mut Batch<A>,
-    install: InstallLine<'_>,
-) -> Result<Outcome, SessionFault>
-    requires fits { Fits (S.account source.old).count input.old }
-    requires open { IsOpen batch.old }
-    ensures ok { IfOk result (λ outcome. (store : Store) → IsInstallOutcome outcome install.entry.name.now
-        install.entry.priority install.entry.len
-        (moment (S.account source.old) input.old) (moment (S.account source.new) input.new)
-        (progress store batch.old (W.taken sink.old))
-        (progress store batch.new (W.taken sink.new))) }
-    ensures err { IfErr result (λ fault. (store : Store) → IsInstallCut fault install.entry.name.now
-        install.entry.priority install.entry.len
-        (moment (S.account source.old) input.old) (moment (S.account source.new) input.new)
-        (progress store batch.old (W.taken sink.old))
-        (progress store batch.new (W.taken sink.new))) }
-    ensures read { IsErrOf result SessionFault.Read →
-        HasFailed (S.account source.old).failures (S.account source.new).failures }
-    ensures write { IsErrOf result SessionFault.Write →
-        HasFailed (W.failures sink.old) (W.failures sink.new) }
-    ensures read_failures { (S.account source.old).failures ≤ (S.account source.new).failures }
-    ensures write_failures { W.failures sink.old ≤ W.failures sink.new }
+    line: InstallLine<'_>,
+    why: LeftAside,
+) -> Result<Outcome, SinkFault>
+    ensures told { Tries W.taken W.failures sink.old sink.new
+        (λ answer. answer ≡ answer_aside why line.entry.name.now line.entry.priority) result }
+    ensures batch { batch.new ≡ batch_behind why batch.old }
 {
-    let len = install.len as usize;
-    let mut text = match batch.text_room(len) {
-        Ok(text) => text,
-        Err(fault) => {
-            if !input.skip_text(source, len)? {
-                return Ok(Outcome::NoCommand);
-            }
-            batch.give_up(fault);
-            return Ok(answer_held(sink, Err(fault), install.name)?);
+    match why {
+        LeftAside::ByStore(fault) => {
+            write_store_fault(sink, fault, line.name, line.priority).and(Ok(Outcome::Refused))
         }
-    };
-    if !input.read_front(source, len, GREATEST_HELD, &mut text)? {
-        return Ok(Outcome::NoCommand);
+        LeftAside::NotHeld(why) => {
+            batch.give_up(why);
+            answer_held(sink, Err(why), line.name)
+        }
     }
-    let held = batch.hold_install(install.name, install.priority, text);
-    Ok(answer_held(sink, held, install.name)?)
 }
 
-/// Reads the text of an install, and makes the install or has the open batch hold it.
-fn answer_install<S: Source, W: Sink, A: Allocator + Copy, C: Compiled<A>>(
-    input: &mut Input,
-    source: &mut S,
+/// Makes an install whose text was read, or has the open batch hold it.
+fn take_install<W: Sink, A: Allocator + Copy, C: Compiled<A>>(
     sink: &mut W,
     engine: &mut C,
     batch: &mut Batch<A>,
-    install: InstallLine<'_>,
-) -> Result<Outcome, SessionFault>
-    requires { Fits (S.account source.old).count input.old }
-    ensures ok { IfOk result (λ outcome. IsInstallOutcome outcome install.entry.name.now
-        install.entry.priority install.entry.len
-        (moment (S.account source.old) input.old) (moment (S.account source.new) input.new)
-        (progress (C.store engine.old) batch.old (W.taken sink.old))
-        (progress (C.store engine.new) batch.new (W.taken sink.new))) }
-    ensures err { IfErr result (λ fault. IsInstallCut fault install.entry.name.now
-        install.entry.priority install.entry.len
-        (moment (S.account source.old) input.old) (moment (S.account source.new) input.new)
-        (progress (C.store engine.old) batch.old (W.taken sink.old))
-        (progress (C.store engine.new) batch.new (W.taken sink.new))) }
-    ensures read { IsErrOf result SessionFault.Read →
-        HasFailed (S.account source.old).failures (S.account source.new).failures }
-    ensures write { IsErrOf result SessionFault.Write →
-        HasFailed (W.failures sink.old) (W.failures sink.new) }
-    ensures read_failures { (S.account source.old).failures ≤ (S.account source.new).failures }
-    ensures write_failures { W.failures sink.old ≤ W.failures sink.new }
+    line: InstallLine<'_>,
+    read: Vec<u8, A>,
+) -> Result<Outcome, SinkFault>
+    requires { length read.items ≤ 16777217 }
+    ensures { (text : List ℕ) → read.items ≡ take 16777217 text → (batch.old ≡ None → read.items ≡ text)
+        → Tries W.taken W.failures sink.old sink.new (Does (state_with (C.store engine.old) batch.old)
+        (makes (install line.entry.name.now line.entry.priority text))
+        (state_with (C.store engine.new) batch.new)) result }
 {
     if batch.is_open() {
-        return hold_install(input, source, sink, batch, install);
+        let held = batch.hold_install(line.name, line.priority, read);
+        return answer_held(sink, held, line.name);
     }
-    make_install(batch.alloc(), input, source, sink, engine, install)
+    let edit = Edit::Install {
+        name: line.name,
+        priority: line.priority,
+        text: read.as_slice(),
+    };
+    make_edit(sink, engine, edit)
+}
+
+/// Reads the text of an install, and makes the install or has the open batch hold it. A text is left aside of an install that the
+/// store or the open batch refuses whatever it spells, or for which there is no memory.
+fn answer_install<S: Source, W: Sink, A: Allocator + Copy, C: Compiled<A>>(
+    session: &mut OpenSession<A>,
+    source: &mut S,
+    sink: &mut W,
+    engine: &mut C,
+    line: InstallLine<'_>,
+) -> Result<Outcome, SessionFault>
+    requires { Fits (S.account source.old).count session.old.input }
+    ensures { Comes (λ outcome. IsInstallOutcome outcome line.entry.name.now line.entry.priority line.entry.len)
+        (λ fault. IsInstallCut fault line.entry.name.now line.entry.priority line.entry.len)
+        (point (S.account source.old) session.old.input (C.store engine.old) session.old.batch
+        (W.taken sink.old) (W.failures sink.old))
+        (point (S.account source.new) session.new.input (C.store engine.new) session.new.batch
+        (W.taken sink.new) (W.failures sink.new)) result }
+{
+    let len = line.len as usize;
+    let mut text = match text_room(engine, &session.batch, line) {
+        Ok(text) => text,
+        Err(why) => {
+            if !session.input.skip_text(source, len)? {
+                return Ok(Outcome::NoCommand);
+            }
+            return told(answer_aside(sink, &mut session.batch, line, why));
+        }
+    };
+    if !session
+        .input
+        .read_front(source, len, GREATEST_HELD, &mut text)?
+    {
+        return Ok(Outcome::NoCommand);
+    }
+    told(take_install(sink, engine, &mut session.batch, line, text))
 }
 
 /// A line that was read, and how it ended. A line without its line feed is the last.
@@ -583,31 +555,21 @@ struct ReadLine<'a> {
 
 /// Does what a line asks for and answers it.
 fn answer_line<S: Source, W: Sink, A: Allocator + Copy, C: Compiled<A>>(
-    input: &mut Input,
+    session: &mut OpenSession<A>,
     source: &mut S,
     sink: &mut W,
     engine: &mut C,
-    batch: &mut Batch<A>,
     line: ReadLine<'_>,
 ) -> Result<Outcome, SessionFault>
-    requires fits { Fits (S.account source.old).count input.old }
-    requires last { line.end ≡ LastByte → IsTrue (has_ended (S.account source.old)) × (input.old.bytes ≡ []) }
-    ensures ok { IfOk result (λ outcome. IsOutcome outcome
-        (1 + line.entry.line_feeds) line.entry.end line.entry.bytes.now
-        (moment (S.account source.old) input.old) (moment (S.account source.new) input.new)
-        (progress (C.store engine.old) batch.old (W.taken sink.old))
-        (progress (C.store engine.new) batch.new (W.taken sink.new))) }
-    ensures err { IfErr result (λ fault. IsLineCut fault
-        (1 + line.entry.line_feeds) line.entry.end line.entry.bytes.now
-        (moment (S.account source.old) input.old) (moment (S.account source.new) input.new)
-        (progress (C.store engine.old) batch.old (W.taken sink.old))
-        (progress (C.store engine.new) batch.new (W.taken sink.new))) }
-    ensures read { IsErrOf result SessionFault.Read →
-        HasFailed (S.account source.old).failures (S.account source.new).failures }
-    ensures write { IsErrOf result SessionFault.Write →
-        HasFailed (W.failures sink.old) (W.failures sink.new) }
-    ensures read_failures { (S.account source.old).failures ≤ (S.account source.new).failures }
-    ensures write_failures { W.failures sink.old ≤ W.failures sink.new }
+    requires fits { Fits (S.account source.old).count session.old.input }
+    requires last { line.end ≡ LastByte →
+        IsTrue (has_ended (S.account source.old)) × (session.old.input.bytes ≡ []) }
+    ensures { Comes (λ outcome. IsOutcome outcome (1 + line.entry.line_feeds) line.entry.end line.entry.bytes.now)
+        (λ fault. IsLineCut fault (1 + line.entry.line_feeds) line.entry.end line.entry.bytes.now)
+        (point (S.account source.old) session.old.input (C.store engine.old) session.old.batch
+        (W.taken sink.old) (W.failures sink.old))
+        (point (S.account source.new) session.new.input (C.store engine.new) session.new.batch
+        (W.taken sink.new) (W.failures sink.new)) result }
 {
     if line.end.is_too_long() {
         return Ok(Outcome::NoCommand);
@@ -616,47 +578,53 @@ fn answer_line<S: Source, W: Sink, A: Allocator + Copy, C: Compiled<A>>(
         return Ok(Outcome::NoCommand);
     };
     match asked {
-        ScriptLine::Whole(command) => {
-            Ok(answer_command(sink, engine, batch, line.line_feeds, command)?)
-        }
+        ScriptLine::Whole(command) => told(answer_command(
+            sink,
+            engine,
+            &mut session.batch,
+            line.line_feeds,
+            command,
+        )),
         ScriptLine::Install(install) => {
             if line.end.is_last() {
                 return Ok(Outcome::NoCommand);
             }
-            flush_unless(sink, input.holds_text(install.len as usize))?;
-            answer_install(input, source, sink, engine, batch, install)
+            flush_unless(sink, session.input.holds_text(install.len as usize))?;
+            answer_install(session, source, sink, engine, install)
         }
     }
 }
 
+/// The turn by what came of its line.
+fn turn_of(last: bool, answered: Result<Outcome, SessionFault>) -> Result<Turn, SessionFault>
+    ensures { result ≡ turn_of last answered }
+{
+    let refused = match answered? {
+        Outcome::Accepted => false,
+        Outcome::Refused => true,
+        Outcome::NoCommand => return Ok(Turn::NoCommand),
+    };
+    Ok(Turn::Answered { refused, last })
+}
+
 /// Reads a line of a script and answers the command there.
 fn answer_next<S: Source, W: Sink, A: Allocator + Copy, C: Compiled<A>>(
-    input: &mut Input,
+    session: &mut OpenSession<A>,
     source: &mut S,
     sink: &mut W,
     engine: &mut C,
-    batch: &mut Batch<A>,
     line: &mut Line,
 ) -> Result<Turn, SessionFault>
-    requires { Fits (S.account source.old).count input.old }
-    ensures ok { IfOk result (λ turn. IsTurn turn
-        (moment (S.account source.old) input.old) (moment (S.account source.new) input.new)
-        (progress (C.store engine.old) batch.old (W.taken sink.old))
-        (progress (C.store engine.new) batch.new (W.taken sink.new))) }
-    ensures err { IfErr result (λ fault. IsTurnCut fault
-        (moment (S.account source.old) input.old) (moment (S.account source.new) input.new)
-        (progress (C.store engine.old) batch.old (W.taken sink.old))
-        (progress (C.store engine.new) batch.new (W.taken sink.new))) }
-    ensures read { IsErrOf result SessionFault.Read →
-        HasFailed (S.account source.old).failures (S.account source.new).failures }
-    ensures write { IsErrOf result SessionFault.Write →
-        HasFailed (W.failures sink.old) (W.failures sink.new) }
-    ensures read_failures { (S.account source.old).failures ≤ (S.account source.new).failures }
-    ensures write_failures { W.failures sink.old ≤ W.failures sink.new }
+    requires { Fits (S.account source.old).count session.old.input }
+    ensures { Comes IsTurn IsTurnCut
+        (point (S.account source.old) session.old.input (C.store engine.old) session.old.batch
+        (W.taken sink.old) (W.failures sink.old))
+        (point (S.account source.new) session.new.input (C.store engine.new) session.new.batch
+        (W.taken sink.new) (W.failures sink.new)) result }
 {
-    flush_unless(sink, input.holds_line())?;
-    let line_feeds = input.line_feeds();
-    let end = input.read_line(source, line)?;
+    flush_unless(sink, session.input.holds_line())?;
+    let line_feeds = session.input.line_feeds();
+    let end = session.input.read_line(source, line)?;
     let bytes = line.as_slice();
     let last = end.is_last();
     if last && bytes.is_empty() {
@@ -667,81 +635,70 @@ fn answer_next<S: Source, W: Sink, A: Allocator + Copy, C: Compiled<A>>(
         end,
         line_feeds,
     };
-    match answer_line(input, source, sink, engine, batch, read)? {
-        Outcome::Accepted => Ok(Turn::Answered {
-            refused: false,
-            last,
-        }),
-        Outcome::Refused => Ok(Turn::Answered {
-            refused: true,
-            last,
-        }),
-        Outcome::NoCommand => Ok(Turn::NoCommand),
-    }
+    turn_of(last, answer_line(session, source, sink, engine, read))
+}
+
+/// Where the commands of a script end.
+#[derive(Clone, Copy, Debug, PartialEq, Eq)]
+pub enum Last {
+    /// At its end, with this status so far.
+    AtEnd(Status),
+    /// At a line that is no command, behind so many line feeds.
+    AtLine(u64),
 }
 
 /// Ends a session behind its last command: a script with a batch that is still open ends at the line of its begin.
 fn end_session<W: Sink, A: Allocator + Copy>(
     sink: &mut W,
     batch: &Batch<A>,
-    status: Status,
+    last: Last,
 ) -> Result<Status, SinkFault>
-    ensures ok { IfOk result (λ last. EndsSo batch.now status last (W.taken sink.old) (W.taken sink.new)) }
+    ensures ok { IfOk result (λ status. EndsSo batch.now last status (W.taken sink.old) (W.taken sink.new)) }
     ensures err { OnErr result (GainsFront (W.taken sink.old) (W.taken sink.new)
-        (last_line (last_end ends batch.now))) }
+        (last_line (last_end (end_of last) batch.now))) }
     ensures failed { OnErr result (HasFailed (W.failures sink.old) (W.failures sink.new)) }
     ensures counted { W.failures sink.old ≤ W.failures sink.new }
 {
-    let Some(line_feeds) = batch.begin() else {
-        return Ok(status);
-    };
-    reply::write_script_line(sink, line_feeds)?;
+    match last {
+        Last::AtLine(before) => reply::write_script_line(sink, before)?,
+        Last::AtEnd(status) => {
+            let Some(line_feeds) = batch.begin() else {
+                return Ok(status);
+            };
+            reply::write_script_line(sink, line_feeds)?;
+        }
+    }
     Ok(Status::Script)
 }
 
 /// Answers the commands of a script, up to its end or to a line that is no command.
 fn answer_commands<S: Source, W: Sink, A: Allocator + Copy, C: Compiled<A>>(
-    alloc: A,
+    session: &mut OpenSession<A>,
     source: &mut S,
     sink: &mut W,
     engine: &mut C,
-) -> Result<Status, SessionFault>
-    ensures ok { IfOk result (λ status. Leaves (S.account source.old) (S.account source.new)
-        (standing (C.store engine.old) (W.taken sink.old))
-        (standing (C.store engine.new) (W.taken sink.new)) status) }
-    ensures ended { IfOk result (λ status. status ≢ Script → HasEnded (S.account source.old) (S.account source.new)) }
-    ensures cut_by_read { IsErrOf result SessionFault.Read →
-        LeavesByRead (S.account source.old) (S.account source.new)
-        (standing (C.store engine.old) (W.taken sink.old))
-        (standing (C.store engine.new) (W.taken sink.new)) }
-    ensures cut_by_write { IsErrOf result SessionFault.Write →
-        LeavesByWrite (S.account source.old) (S.account source.new)
-        (standing (C.store engine.old) (W.taken sink.old))
-        (standing (C.store engine.new) (W.taken sink.new)) }
-    ensures read { IsErrOf result SessionFault.Read →
-        HasFailed (S.account source.old).failures (S.account source.new).failures }
-    ensures write { IsErrOf result SessionFault.Write →
-        HasFailed (W.failures sink.old) (W.failures sink.new) }
-    ensures counted { W.failures sink.old ≤ W.failures sink.new }
+) -> Result<Last, SessionFault>
+    requires input { session.old.input ≡ record { bytes = []; line_feeds = 0 } }
+    requires batch { session.old.batch ≡ None }
+    ensures { Comes IsLast IsSessionCut
+        (point (S.account source.old) (record { bytes = []; line_feeds = 0 }) (C.store engine.old) None
+        (W.taken sink.old) (W.failures sink.old))
+        (point (S.account source.new) session.new.input (C.store engine.new) session.new.batch
+        (W.taken sink.new) (W.failures sink.new)) result }
 {
-    let mut input = Input::new();
     let mut line = Line::new();
-    let mut batch = Batch::new(alloc);
     let mut status = Status::Clean;
     'turns: loop {
-        let before = input.line_feeds();
-        match answer_next(&mut input, source, sink, engine, &mut batch, &mut line)? {
-            Turn::End => return Ok(end_session(sink, &batch, status)?),
+        let before = session.input.line_feeds();
+        match answer_next(session, source, sink, engine, &mut line)? {
+            Turn::End => return Ok(Last::AtEnd(status)),
             Turn::Answered { refused, last } => {
                 status = status.after(refused);
                 if last {
-                    return Ok(end_session(sink, &batch, status)?);
+                    return Ok(Last::AtEnd(status));
                 }
             }
-            Turn::NoCommand => {
-                reply::write_script_line(sink, before)?;
-                return Ok(Status::Script);
-            }
+            Turn::NoCommand => return Ok(Last::AtLine(before)),
         }
     }
 }
@@ -778,7 +735,12 @@ pub fn session<S: Source, W: Sink, A: Allocator + Copy, C: Compiled<A>>(
         HasFailed (W.failures sink.old) (W.failures sink.new) }
     ensures flushed { OnOk result (W.flushed sink.new ≡ W.taken sink.new) }
 {
-    let status = answer_commands(alloc, source, sink, engine)?;
+    let mut session = OpenSession {
+        input: Input::new(),
+        batch: Batch::new(alloc),
+    };
+    let last = answer_commands(&mut session, source, sink, engine)?;
+    let status = end_session(sink, &session.batch, last)?;
     sink.flush()?;
     Ok(status)
 }

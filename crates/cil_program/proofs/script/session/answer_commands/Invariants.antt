@@ -9,11 +9,11 @@ invariant-turns g l =
     let C = g.C.Compiled in
     record {
       so_far : SoFar (record { account = S.account l.fn.source; held = record { bytes = []; line_feeds = 0 } })
-          (record { account = S.account l.source; held = l.input }) (begun (record { store = C.store l.fn.engine; taken = W.taken l.fn.sink }))
-          (record { state = record { store = C.store l.engine; batch = l.batch }; taken = W.taken l.sink }) l.status;
+          (record { account = S.account l.source; held = l.session.input }) (begun (record { store = C.store l.fn.engine; taken = W.taken l.fn.sink }))
+          (record { state = record { store = C.store l.engine; batch = l.session.batch }; taken = W.taken l.sink }) l.status;
       read_failures : (S.account l.fn.source).failures ≤ (S.account l.source).failures;
       write_failures : W.failures l.fn.sink ≤ W.failures l.sink;
     }
 
 abbrev pub decreases-turns : goal.decreases-turns
-decreases-turns g l = 2 ^ 64 - ((g.S.Source.account l.source).count - length l.input.bytes)
+decreases-turns g l = 2 ^ 64 - ((g.S.Source.account l.source).count - length l.session.input.bytes)
