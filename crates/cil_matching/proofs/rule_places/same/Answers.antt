@@ -1,5 +1,5 @@
 use Rattle.cil_matching.proofs.Common.{◌≡◌, ◌∙◌, ◌↔◌, Some, subst, sym, IsSameRule, meaning_in, AreSameAt}
-use Rattle.core.specs.Bool.{then_some}
+use Rattle.std.specs.Bool.{then_some}
 use Rattle.cil_matching.proofs.PlaceLemmas.{contents-tell, read-rule, rule-tested}
 use Rattle.cil_matching.proofs.rule_places.same.Goals as goal
 
