@@ -1,6 +1,8 @@
 //! Modules kept parsed.
 
 use crate::shown::shown;
+use SetNode::{All, And, Element, Name, Not, Nothing};
+use Table::{Classes, Scopes, Types};
 use cil_names::Seed;
 use cil_parse::{NumberedWord, ParsedModule, SetNode, StatementKind, StatementView, Table, parse};
 use cil_text::{RuleKind, read};
@@ -87,65 +89,49 @@ fn text_at<'p>(parsed: &'p ParsedModule, words: &[NumberedWord], i: usize) -> Op
 }
 
 // A name, and the table that it stands in.
-type Named<'p> = Option<(Table, &'p str)>;
+type Named<'p> = (Table, &'p str);
 
-fn named<'p>(parsed: &'p ParsedModule, found: Option<(Table, NumberedWord)>) -> Named<'p> {
-    match found {
-        Some((table, word)) => Some((table, text_of(parsed, word.text as usize))),
-        None => None,
-    }
+fn named<'p>(parsed: &'p ParsedModule, found: Option<(Table, NumberedWord)>) -> Option<Named<'p>> {
+    let (table, word) = found?;
+    Some((table, text_of(parsed, word.text as usize)))
 }
 
-// A statement by its place, what it declares, its first three references, and its only permission.
+// A statement by its place, what it declares, its references, and its only permission.
 type Names = (
     usize,
-    Named<'static>,
-    (Named<'static>, Named<'static>, Named<'static>),
+    Option<Named<'static>>,
+    &'static [Named<'static>],
     Option<&'static str>,
 );
 
 const NAMES: &[Names] = &[
-    (
-        0,
-        Some((Table::Classes, "f")),
-        (None, None, None),
-        Some("read"),
-    ),
-    (1, Some((Table::Scopes, "b")), (None, None, None), None),
-    (2, Some((Table::Types, "t")), (None, None, None), None),
-    (
-        4,
-        None,
-        (
-            Some((Table::Types, "b.t")),
-            Some((Table::Types, ".b.t")),
-            Some((Table::Classes, "f")),
-        ),
-        Some("read"),
-    ),
-    (
-        5,
-        None,
-        (
-            Some((Table::Types, "b.t")),
-            Some((Table::Classes, "f")),
-            None,
-        ),
-        Some("read"),
-    ),
+    (0, Some((Classes, "f")), &[], Some("read")),
+    (1, Some((Scopes, "b")), &[], None),
+    (2, Some((Types, "t")), &[], None),
+    (4, None, OF_RULE, Some("read")),
+    (5, None, &[(Types, "b.t"), (Classes, "f")], Some("read")),
 ];
+
+const OF_RULE: &[Named<'static>] = &[(Types, "b.t"), (Types, ".b.t"), (Classes, "f")];
+
+// Whether a statement has these references, of which there are three at most.
+fn has_references(parsed: &ParsedModule, view: &StatementView<'_>, want: &[Named<'_>]) -> bool {
+    for i in 0..4usize {
+        if named(parsed, view.reference(i)) != want.get(i).copied() {
+            return false;
+        }
+    }
+    true
+}
 
 // Whether a statement has such names.
 fn has_names(parsed: &ParsedModule, names: &Names) -> bool {
-    let (i, declared, (first, second, third), permission) = names;
+    let (i, declared, references, permission) = names;
     let Some(view) = statement(parsed, *i) else {
         return false;
     };
     named(parsed, view.declared()) == *declared
-        && named(parsed, view.reference(0)) == *first
-        && named(parsed, view.reference(1)) == *second
-        && named(parsed, view.reference(2)) == *third
-        && named(parsed, view.reference(3)) == None
+        && has_references(parsed, &view, references)
         && text_at(parsed, view.permissions(), 0) == *permission
         && text_at(parsed, view.permissions(), 1) == None
 }
@@ -195,16 +181,7 @@ fn numbers_of_the_words_of_a_parsed_module(rt: HostRuntime) {
 }
 
 // Nodes stand in front of their operands.
-const NODES: &[SetNode] = &[
-    SetNode::Element,
-    SetNode::And,
-    SetNode::Name,
-    SetNode::Not,
-    SetNode::Name,
-    SetNode::Element,
-    SetNode::All,
-    SetNode::Nothing,
-];
+const NODES: &[SetNode] = &[Element, And, Name, Not, Name, Element, All, Nothing];
 
 // The parsed module of a text, by its trees.
 fn parsed_from_trees(rt: &impl Abort, alloc: Global, text: &[u8]) -> ParsedModule {

@@ -103,7 +103,7 @@ fn form(statement: &Statement<'_>) -> &'static str {
 }
 
 // The names that are a statement's own, up to three.
-fn names<'a>(statement: &Statement<'a>) -> (Name<'a>, Name<'a>, Name<'a>) {
+fn names<'a>(statement: &Statement<'a>) -> [Name<'a>; 3] {
     match statement {
         Statement::Block { id, .. }
         | Statement::Optional { id, .. }
@@ -111,17 +111,17 @@ fn names<'a>(statement: &Statement<'a>) -> (Name<'a>, Name<'a>, Name<'a>) {
         | Statement::TypeAlias { id, .. }
         | Statement::TypeAttribute { id, .. }
         | Statement::Common { id, .. }
-        | Statement::Class { id, .. } => (seen(id), NONE, NONE),
-        Statement::TypeAliasActual { alias, actual, .. } => (seen(alias), seen(actual), NONE),
-        Statement::TypeAttributeSet { attribute, .. } => (seen(attribute), NONE, NONE),
-        Statement::ClassCommon { class, common, .. } => (seen(class), seen(common), NONE),
-        Statement::ClassOrder { .. } => (NONE, NONE, NONE),
+        | Statement::Class { id, .. } => [seen(id), NONE, NONE],
+        Statement::TypeAliasActual { alias, actual, .. } => [seen(alias), seen(actual), NONE],
+        Statement::TypeAttributeSet { attribute, .. } => [seen(attribute), NONE, NONE],
+        Statement::ClassCommon { class, common, .. } => [seen(class), seen(common), NONE],
+        Statement::ClassOrder { .. } => [NONE, NONE, NONE],
         Statement::Rule {
             source,
             target,
             class,
             ..
-        } => (seen(source), target_seen(target), seen(class)),
+        } => [seen(source), target_seen(target), seen(class)],
     }
 }
 
@@ -144,16 +144,19 @@ fn name_at<'a>(words: &[Word<'a>], i: usize) -> Name<'a> {
 }
 
 // A statement: its form, its own names, and the first three of its list.
-type Said<'a> = (
-    &'static str,
-    (Name<'a>, Name<'a>, Name<'a>),
-    (Name<'a>, Name<'a>, Name<'a>),
-);
+type Said<'a> = (&'static str, &'a [Name<'a>], &'a [Name<'a>]);
 
-fn said<'a>(statement: &Statement<'a>) -> Said<'a> {
-    let words = listed(statement);
-    let list = (name_at(words, 0), name_at(words, 1), name_at(words, 2));
-    (form(statement), names(statement), list)
+// Whether a statement is such.
+fn is_said(statement: &Statement<'_>, said: &Said<'_>) -> bool {
+    let (word, own, list) = *said;
+    let (names, words) = (names(statement), listed(statement));
+    for i in 0..3usize {
+        let wanted = (own.get(i).copied(), list.get(i).copied());
+        if names[i] != wanted.0.unwrap_or(NONE) || name_at(words, i) != wanted.1.unwrap_or(NONE) {
+            return false;
+        }
+    }
+    form(statement) == word
 }
 
 // The statements of a text.
@@ -170,49 +173,21 @@ const FORMS_TEXT: &[u8] =
     (allow n o (p ()))(auditallow .q r (s ()))(dontaudit t.u v (w ()))(neverallow x y (z ()))";
 
 const FORMS: &[Said<'static>] = &[
-    ("block", (("a", 7), NONE, NONE), (NONE, NONE, NONE)),
-    ("optional", (("b", 19), NONE, NONE), (NONE, NONE, NONE)),
-    ("type", (("c", 27), NONE, NONE), (NONE, NONE, NONE)),
-    ("typealias", (("d", 40), NONE, NONE), (NONE, NONE, NONE)),
-    (
-        "typealiasactual",
-        (("e", 59), ("f", 61), NONE),
-        (NONE, NONE, NONE),
-    ),
-    ("typeattribute", (("g", 78), NONE, NONE), (NONE, NONE, NONE)),
-    (
-        "typeattributeset",
-        (("h", 99), NONE, NONE),
-        (NONE, NONE, NONE),
-    ),
-    ("common", (("i", 113), NONE, NONE), (NONE, NONE, NONE)),
-    ("class", (("j", 125), NONE, NONE), (NONE, NONE, NONE)),
-    (
-        "classcommon",
-        (("k", 143), ("l", 145), NONE),
-        (NONE, NONE, NONE),
-    ),
-    ("classorder", (NONE, NONE, NONE), (("m", 170), NONE, NONE)),
-    (
-        "allow",
-        (("n", 181), ("o", 183), ("p", 186)),
-        (NONE, NONE, NONE),
-    ),
-    (
-        "auditallow",
-        ((".q", 204), ("r", 207), ("s", 210)),
-        (NONE, NONE, NONE),
-    ),
-    (
-        "dontaudit",
-        (("t.u", 227), ("v", 231), ("w", 234)),
-        (NONE, NONE, NONE),
-    ),
-    (
-        "neverallow",
-        (("x", 252), ("y", 254), ("z", 257)),
-        (NONE, NONE, NONE),
-    ),
+    ("block", &[("a", 7)], &[]),
+    ("optional", &[("b", 19)], &[]),
+    ("type", &[("c", 27)], &[]),
+    ("typealias", &[("d", 40)], &[]),
+    ("typealiasactual", &[("e", 59), ("f", 61)], &[]),
+    ("typeattribute", &[("g", 78)], &[]),
+    ("typeattributeset", &[("h", 99)], &[]),
+    ("common", &[("i", 113)], &[]),
+    ("class", &[("j", 125)], &[]),
+    ("classcommon", &[("k", 143), ("l", 145)], &[]),
+    ("classorder", &[], &[("m", 170)]),
+    ("allow", &[("n", 181), ("o", 183), ("p", 186)], &[]),
+    ("auditallow", &[(".q", 204), ("r", 207), ("s", 210)], &[]),
+    ("dontaudit", &[("t.u", 227), ("v", 231), ("w", 234)], &[]),
+    ("neverallow", &[("x", 252), ("y", 254), ("z", 257)], &[]),
 ];
 
 // Statements with names in lists, and a rule to itself.
@@ -222,35 +197,20 @@ const LISTS_TEXT: &[u8] =
 const OF_LISTS: &[Said<'static>] = &[
     (
         "allow",
-        (("a", 7), ("b", 9), ("c", 12)),
-        (("d", 15), ("e", 17), NONE),
+        &[("a", 7), ("b", 9), ("c", 12)],
+        &[("d", 15), ("e", 17)],
     ),
-    (
-        "auditallow",
-        (("a", 33), ("self", 0), ("c", 41)),
-        (NONE, NONE, NONE),
-    ),
-    ("common", (("e", 55), NONE, NONE), (("f", 58), NONE, NONE)),
-    (
-        "class",
-        (("g", 68), NONE, NONE),
-        (("h", 71), ("i", 73), NONE),
-    ),
-    (
-        "classcommon",
-        (("c", 89), (".d", 91), NONE),
-        (NONE, NONE, NONE),
-    ),
+    ("auditallow", &[("a", 33), ("self", 0), ("c", 41)], &[]),
+    ("common", &[("e", 55)], &[("f", 58)]),
+    ("class", &[("g", 68)], &[("h", 71), ("i", 73)]),
+    ("classcommon", &[("c", 89), (".d", 91)], &[]),
 ];
 
 const NESTED_TEXT: &[u8] = b"(block a (optional b (type c)) (type d))";
 
-const OF_BLOCK: &[Said<'static>] = &[
-    ("optional", (("b", 19), NONE, NONE), (NONE, NONE, NONE)),
-    ("type", (("d", 37), NONE, NONE), (NONE, NONE, NONE)),
-];
+const OF_BLOCK: &[Said<'static>] = &[("optional", &[("b", 19)], &[]), ("type", &[("d", 37)], &[])];
 
-const OF_OPTIONAL: &[Said<'static>] = &[("type", (("c", 27), NONE, NONE), (NONE, NONE, NONE))];
+const OF_OPTIONAL: &[Said<'static>] = &[("type", &[("c", 27)], &[])];
 
 // The statements inside a block or an optional.
 fn body<'s, 'a>(statement: &'s Statement<'a>) -> &'s [Statement<'a>] {
@@ -271,7 +231,7 @@ fn place(statement: &Statement<'_>) -> Option<(u32, u32, u32)> {
 // Whether statements are of such forms and names.
 fn are_said(found: &[Statement<'_>], want: &[Said<'_>]) -> bool {
     for (statement, want) in found.iter().zip(want) {
-        if said(statement) != *want {
+        if !is_said(statement, want) {
             return false;
         }
     }
@@ -320,99 +280,52 @@ fn statements_within_statements(rt: HostRuntime) {
     assert!(rt; same);
 }
 
-// The operator of an expression, and the name that it is.
-fn operator<'a>(expr: &Expr<'a>) -> (&'static str, Name<'a>) {
+// Whether the statement of a place sets an attribute by `(and (or b all) (xor (not c) ((all) d)))`, by name and place.
+fn is_set(module: &Module<'_>, place: usize) -> bool {
+    match module.statements.get(place) {
+        Some(Statement::TypeAttributeSet { expr, .. }) => is_and(expr),
+        _ => false,
+    }
+}
+
+fn is_and(expr: &Expr<'_>) -> bool {
+    matches!(expr, Expr::And(left, right) if is_or(left) && is_xor(right))
+}
+
+fn is_or(expr: &Expr<'_>) -> bool {
+    matches!(expr, Expr::Or(left, right) if is_name(left, ("b", 29)) && is_all(right))
+}
+
+fn is_xor(expr: &Expr<'_>) -> bool {
+    matches!(expr, Expr::Xor(left, right) if is_not(left) && is_union(right))
+}
+
+fn is_not(expr: &Expr<'_>) -> bool {
+    matches!(expr, Expr::Not(only) if is_name(only, ("c", 46)))
+}
+
+fn is_union(expr: &Expr<'_>) -> bool {
     match expr {
-        Expr::All => ("all", NONE),
-        Expr::Name(word) => ("name", seen(word)),
-        Expr::Not(_) => ("not", NONE),
-        Expr::And(_, _) => ("and", NONE),
-        Expr::Or(_, _) => ("or", NONE),
-        Expr::Xor(_, _) => ("xor", NONE),
-        Expr::Union(_) => ("union", NONE),
+        Expr::Union(elements) => match elements.as_slice() {
+            [first, second] => is_all(first) && is_name(second, ("d", 56)),
+            _ => false,
+        },
+        _ => false,
     }
 }
 
-// The operands of an operation of two.
-fn left<'e, 'a>(expr: Option<&'e Expr<'a>>) -> Option<&'e Expr<'a>> {
-    match expr {
-        Some(Expr::And(left, _) | Expr::Or(left, _) | Expr::Xor(left, _)) => Some(left),
-        _ => None,
-    }
+fn is_all(expr: &Expr<'_>) -> bool {
+    matches!(expr, Expr::All)
 }
 
-fn right<'e, 'a>(expr: Option<&'e Expr<'a>>) -> Option<&'e Expr<'a>> {
-    match expr {
-        Some(Expr::And(_, right) | Expr::Or(_, right) | Expr::Xor(_, right)) => Some(right),
-        _ => None,
-    }
-}
-
-// What a complement is of.
-fn negated<'e, 'a>(expr: Option<&'e Expr<'a>>) -> Option<&'e Expr<'a>> {
-    match expr {
-        Some(Expr::Not(only)) => Some(only),
-        _ => None,
-    }
-}
-
-// An element of a list.
-fn element<'e, 'a>(expr: Option<&'e Expr<'a>>, i: usize) -> Option<&'e Expr<'a>> {
-    match expr {
-        Some(Expr::Union(elements)) => elements.get(i),
-        _ => None,
-    }
-}
-
-fn told<'a>(expr: Option<&Expr<'a>>) -> Option<(&'static str, Name<'a>)> {
-    Some(operator(expr?))
-}
-
-// The expression of a statement.
-fn expression<'s, 'a>(statement: Option<&'s Statement<'a>>) -> Option<&'s Expr<'a>> {
-    match statement {
-        Some(Statement::TypeAttributeSet { expr, .. }) => Some(expr),
-        _ => None,
-    }
-}
-
-// What `(and (or b all) (xor (not c) ((all) d)))` is, with its names where they stand in the text: first the operations, then the operands.
-const TOLD: [Option<(&str, Name<'static>)>; 11] = [
-    Some(("and", NONE)),
-    Some(("or", NONE)),
-    Some(("xor", NONE)),
-    Some(("not", NONE)),
-    Some(("union", NONE)),
-    Some(("name", ("b", 29))),
-    Some(("all", NONE)),
-    Some(("name", ("c", 46))),
-    Some(("all", NONE)),
-    Some(("name", ("d", 56))),
-    None,
-];
-
-fn all_told<'a>(expr: Option<&Expr<'a>>) -> [Option<(&'static str, Name<'a>)>; 11] {
-    let (or, xor) = (left(expr), right(expr));
-    let (not, union) = (left(xor), right(xor));
-    [
-        told(expr),
-        told(or),
-        told(xor),
-        told(not),
-        told(union),
-        told(left(or)),
-        told(right(or)),
-        told(negated(not)),
-        told(element(union, 0)),
-        told(element(union, 1)),
-        told(element(union, 2)),
-    ]
+fn is_name(expr: &Expr<'_>, name: Name<'_>) -> bool {
+    matches!(expr, Expr::Name(word) if seen(word) == name)
 }
 
 #[test]
 fn an_expression_with_each_operator(rt: HostRuntime) {
     let text = b"(typeattributeset a (and (or b all) (xor (not c) ((all) d))))";
     let module = shaped(&rt, rt.alloc(), text);
-    let same = all_told(expression(module.statements.get(0))) == TOLD;
+    let same = is_set(&module, 0);
     assert!(rt; same);
 }
