@@ -9,9 +9,9 @@ pub use Rattle.cil_program.specs.Reply.{Writes, counts_line}
 pub use Rattle.cil_program.specs.Session.{Advances, AllDone, AnswersBatch, AreGoodWords, Comes, Does, HasAnswered, HasBegun, HasTold, HasToldSome, IsAnswerFor, IsBad, IsInstallCut, IsInstallOutcome, IsLast, IsLeftAside, IsLineCut, IsOutcome, IsSessionCut, IsTurn, IsTurnCut, IsWhole, Leaves, LeavesByRead, LeavesByWrite, Makes, Moment, Point, Progress, Standing, Tries, after_answer, answer_aside, batch_behind, end_of, install_line, outcome_of, status_at, status_of, stood, told, turn_by, turn_of}
 pub use Rattle.cil_program.specs.declared.script.batch.NotHeld.TheVariants.{Memory, TooLong}
 pub use Rattle.cil_program.specs.declared.script.input.LineEnd.TheVariants.{LastByte, LineFeed}
-pub use Rattle.cil_program.specs.declared.script.session.SessionFault.{SessionFault}
-pub use Rattle.cil_program.specs.declared.script.session.SessionFault.TheVariants.{Read, Write}
-pub use Rattle.cil_program.specs.declared.script.session.Status.{Status}
+pub use Rattle.cil_program.specs.declared.script.outcome.SessionFault.{SessionFault}
+pub use Rattle.cil_program.specs.declared.script.outcome.SessionFault.TheVariants.{Read, Write}
+pub use Rattle.cil_program.specs.declared.script.outcome.Status.{Status}
 pub use Rattle.cil_specs.proofs.Runs.{both_true}
 pub use Rattle.cil_specs.specs.Report.{Changes, dropped_line, row_line}
 pub use Rattle.cil_store.specs.Edits.{edit_of, refusal_of, store_refusal_of}

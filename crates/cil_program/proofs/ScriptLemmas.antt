@@ -6,9 +6,9 @@ use Rattle.std.specs.Option.{option_map}
 use Rattle.cil_store_specs.specs.Session as spec
 use Rattle.cil_store_specs.proofs.RunLemmas.{line_behind, answers-more}
 use Rattle.cil_program.specs.Session.{IsReadOf}
-use Rattle.cil_program.specs.declared.script.session.Turn.TheVariants as turns
-use Rattle.cil_program.specs.declared.script.session.Status.TheVariants as statuses
-use Rattle.cil_program.specs.declared.script.session.Last.TheVariants.{AtEnd, AtLine}
+use Rattle.cil_program.specs.declared.script.outcome.Turn.TheVariants as turns
+use Rattle.cil_program.specs.declared.script.outcome.Status.TheVariants as statuses
+use Rattle.cil_program.specs.declared.script.outcome.Last.TheVariants.{AtEnd, AtLine}
 use Rattle.cil_program.proofs.InputLemmas.{ended-now, ended-within}
 use Rattle.cil_program.proofs.SessionLemmas.{stands, advances-both}
 

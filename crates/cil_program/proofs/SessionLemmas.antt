@@ -6,10 +6,10 @@ use Rattle.cil_store_specs.proofs.LineLemmas.{has-feed, command-line, no-line-co
 use Rattle.cil_program.specs.Session.{IsReadOf}
 use Rattle.cil_program.specs.declared.script.input.LineEnd.{LineEnd}
 use Rattle.cil_program.specs.declared.script.input.LineEnd.TheVariants.{TooLong}
-use Rattle.cil_program.specs.declared.script.session.Outcome.{Outcome}
-use Rattle.cil_program.specs.declared.script.session.Outcome.TheVariants.{Accepted, Refused, NoCommand}
-use Rattle.cil_program.specs.declared.script.session.Turn.{Turn}
-use Rattle.cil_program.specs.declared.script.session.Turn.TheVariants as turns
+use Rattle.cil_program.specs.declared.script.outcome.Outcome.{Outcome}
+use Rattle.cil_program.specs.declared.script.outcome.Outcome.TheVariants.{Accepted, Refused, NoCommand}
+use Rattle.cil_program.specs.declared.script.outcome.Turn.{Turn}
+use Rattle.cil_program.specs.declared.script.outcome.Turn.TheVariants as turns
 use Rattle.cil_program.proofs.InputLemmas.{reads-none, reads-both, stops-later, ended-within}
 use Rattle.cil_program.proofs.EndLemmas.{no-text-command, on-install}
 use Rattle.cil_program.proofs.ReplyLemmas.{writes-report}

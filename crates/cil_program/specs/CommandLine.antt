@@ -11,10 +11,10 @@ use Rattle.cil_store_specs.specs.Script.{refusal_line}
 use Rattle.cil_program.specs.Session.{Leaves, LeavesByRead, LeavesByWrite}
 use Rattle.cil_program.specs.declared.command_line.compile.Report.{Report}
 use Rattle.cil_program.specs.declared.command_line.compile.Report.TheVariants.{Listing, Violations}
-use Rattle.cil_program.specs.declared.script.session.SessionFault.{SessionFault}
-use Rattle.cil_program.specs.declared.script.session.SessionFault.TheVariants.{Read, Write}
-use Rattle.cil_program.specs.declared.script.session.Status.{Status}
-use Rattle.cil_program.specs.declared.script.session.Status.TheVariants.{Clean, Refused, Script}
+use Rattle.cil_program.specs.declared.script.outcome.SessionFault.{SessionFault}
+use Rattle.cil_program.specs.declared.script.outcome.SessionFault.TheVariants.{Read, Write}
+use Rattle.cil_program.specs.declared.script.outcome.Status.{Status}
+use Rattle.cil_program.specs.declared.script.outcome.Status.TheVariants.{Clean, Refused, Script}
 
 -- behind the program's name stands `session` alone
 abbrev pub AsksSession : List (List ℕ) → Type 0

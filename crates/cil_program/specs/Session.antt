@@ -19,18 +19,18 @@ use Rattle.cil_program.specs.Reply.{counts_line}
 use Rattle.cil_program.specs.Input.{Held, HasRead, HasStopped, IsShort}
 use Rattle.cil_program.specs.declared.script.input.LineEnd.{LineEnd}
 use Rattle.cil_program.specs.declared.script.input.LineEnd.TheVariants.{LineFeed, LastByte, TooLong}
-use Rattle.cil_program.specs.declared.script.session.Last.{Last}
-use Rattle.cil_program.specs.declared.script.session.Last.TheVariants.{AtEnd, AtLine}
+use Rattle.cil_program.specs.declared.script.outcome.Last.{Last}
+use Rattle.cil_program.specs.declared.script.outcome.Last.TheVariants.{AtEnd, AtLine}
 use Rattle.cil_program.specs.declared.script.session.LeftAside.{LeftAside}
 use Rattle.cil_program.specs.declared.script.session.LeftAside.TheVariants.{ByStore, NotHeld}
-use Rattle.cil_program.specs.declared.script.session.Outcome.{Outcome}
-use Rattle.cil_program.specs.declared.script.session.Outcome.TheVariants.{Accepted, Refused, NoCommand}
-use Rattle.cil_program.specs.declared.script.session.SessionFault.{SessionFault}
-use Rattle.cil_program.specs.declared.script.session.SessionFault.TheVariants.{Read, Write}
-use Rattle.cil_program.specs.declared.script.session.Turn.{Turn}
-use Rattle.cil_program.specs.declared.script.session.Turn.TheVariants as turns
-use Rattle.cil_program.specs.declared.script.session.Status.{Status}
-use Rattle.cil_program.specs.declared.script.session.Status.TheVariants as statuses
+use Rattle.cil_program.specs.declared.script.outcome.Outcome.{Outcome}
+use Rattle.cil_program.specs.declared.script.outcome.Outcome.TheVariants.{Accepted, Refused, NoCommand}
+use Rattle.cil_program.specs.declared.script.outcome.SessionFault.{SessionFault}
+use Rattle.cil_program.specs.declared.script.outcome.SessionFault.TheVariants.{Read, Write}
+use Rattle.cil_program.specs.declared.script.outcome.Turn.{Turn}
+use Rattle.cil_program.specs.declared.script.outcome.Turn.TheVariants as turns
+use Rattle.cil_program.specs.declared.script.outcome.Status.{Status}
+use Rattle.cil_program.specs.declared.script.outcome.Status.TheVariants as statuses
 
 -- a source by its account, and what of it is held back
 pub record Moment : Type 0 where

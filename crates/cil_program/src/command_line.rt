@@ -3,8 +3,8 @@
 ghost use Rattle.std.specs.Prelude.{◌≡◌, ◌≢◌, ◌⊎◌, ◌≤◌, ℕ, true, List, Result, Some, codes, map, IfOk, OnErr, OnOk};
 ghost use Rattle.cil_program.specs.Common.{Row, found_of, kind_of, rows_of, subcommand_of, takes, OutOfMemory, Gains, GainsFront, HasFailed, for_memory, refusal_line, AsksSession, AnswersSession, CompilesFiles, LacksMemory, exit_status_of, unreadable_line, untold, AnswersCompile, IsToBeWritten, program_app};
 ghost use Rattle.cil_program.specs.declared.command_line.compile.Report.{Report};
-ghost use Rattle.cil_program.specs.declared.script.session.SessionFault.{SessionFault};
-ghost use Rattle.cil_program.specs.declared.script.session.Status.{Status};
+ghost use Rattle.cil_program.specs.declared.script.outcome.SessionFault.{SessionFault};
+ghost use Rattle.cil_program.specs.declared.script.outcome.Status.{Status};
 
 pub mod compile;
 pub mod files;
@@ -13,7 +13,8 @@ mod words;
 use crate::command_line::compile::{Asked, Report, compile_entries, refuse_for_memory};
 use crate::command_line::files::{ReadFault, TextFiles, entries_of, read_files};
 use crate::command_line::words::{COMPILE, FILES, VIOLATIONS, matches_of};
-use crate::script::session::{SessionFault, Status, session};
+use crate::script::outcome::{SessionFault, Status};
+use crate::script::session::session;
 use cil_store::{Delta, Seed};
 use cil_stream::{Sink, SinkFault, Source, write_all, write_pieces};
 use clap::error::ErrorKind;
@@ -163,10 +164,8 @@ fn answer_compile<F: TextFiles, W: Sink, E: Sink>(
         Report::Listing
     };
     let asked = Asked { report, seed };
-    match words.get_strs(FILES) {
-        Some(paths) => compile_files(from, alloc, paths, asked, out, err),
-        None => compile_files(from, alloc, &[], asked, out, err),
-    }
+    let paths = words.get_strs(FILES).unwrap_or(&[]);
+    compile_files(from, alloc, paths, asked, out, err)
 }
 
 fn flush_both<W: Sink, E: Sink>(out: &mut W, err: &mut E) -> Result<(), SinkFault>

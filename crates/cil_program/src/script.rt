@@ -3,10 +3,13 @@
 pub mod batch;
 pub mod command;
 pub mod edit_list;
+mod edits;
 pub mod held_edit;
 pub mod input;
 pub mod laws;
 pub mod line;
 pub mod memory;
+pub mod outcome;
+mod questions;
 pub mod reply;
 pub mod session;

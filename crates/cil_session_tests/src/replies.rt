@@ -2,7 +2,7 @@
 
 use crate::shown::shown;
 use cil_program::script::reply::write_script_line;
-use cil_program::script::session::SessionFault;
+use cil_program::script::outcome::SessionFault;
 use cil_store::WriteFault;
 use cil_stream::{MemorySink, SinkFault, SourceFault};
 use std::alloc::Global;

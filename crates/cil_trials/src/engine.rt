@@ -5,7 +5,7 @@ use crate::delta::TriedDelta;
 use crate::plain::TriedPlain;
 use crate::replies::{or_memory, write_replies};
 use cil_program::script::reply;
-use cil_program::script::session::{SessionFault, Status};
+use cil_program::script::outcome::{SessionFault, Status};
 use cil_rules::Atom;
 use cil_store::{Call, Compiled, run};
 use cil_stream::{MemorySink, SinkFault};

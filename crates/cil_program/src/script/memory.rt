@@ -3,7 +3,8 @@
 ghost use Rattle.std.specs.Prelude.{◌≡◌, ◌≤◌, ◌++◌, List, ℕ, true, IfOk, OnOk, IsErrOf};
 ghost use Rattle.cil_program.specs.Common.{IsSession, IsCutByRead, IsCutByWrite, HasFailed, Gains, status_of};
 
-use crate::script::session::{SessionFault, Status, session};
+use crate::script::outcome::{SessionFault, Status};
+use crate::script::session::session;
 use cil_store::Compiled;
 use cil_stream::{MemorySource, Sink};
 use std::alloc::Allocator;
