@@ -1,6 +1,6 @@
 -- Places that a walk found, and those that are filled in behind it.
 use Rattle.cil_matching.proofs.Common.{◌≡◌, ◌∙◌, ℕ, ◌+◌, ◌<◌, ◌≤◌, inl, inr, List, length, map, set, slice_get, Option, None, Some, sym, ap, subst, arith, cases_eq, length-set, none-some, same_Some, AreSameAt, ArePlaces, AreRight, Spot, AreApart}
-use Rattle.cil_optionals.proofs.ListLemmas.{get-set_same, get-set_other}
+use Rattle.cil_needs.proofs.ListLemmas.{get-set_same, get-set_other}
 use Rattle.cil_matching.proofs.MatchedLemmas.{spot-here, spot-there, to-mapped}
 
 -- So many places are filled in where the first ones had none.

@@ -1,6 +1,6 @@
 -- Places the other way round.
 use Rattle.cil_matching.proofs.Common.{◌≡◌, ◌∙◌, ◌↔◌, ℕ, ◌+◌, ◌<◌, ◌≤◌, inl, inr, List, length, set, get_or, slice_get, Option, None, Some, refl, sym, ap, arith, cases_eq, cases_lt, length-set, none-some, same_Some, slice_get_within, slice_get-get_or, noted, IsInverse}
-use Rattle.cil_optionals.proofs.ListLemmas.{get-set_same, get-set_other}
+use Rattle.cil_needs.proofs.ListLemmas.{get-set_same, get-set_other}
 
 pub noted-length : (back : List (Option ℕ)) (place : Option ℕ) (i : ℕ) → length (noted back place i) ≡ length back
 noted-length back None i = refl

@@ -1,7 +1,7 @@
 -- Statements that stand in two lists.
 use Rattle.cil_matching.proofs.Common.{◌≡◌, ◌∙◌, ◌↔◌, ℕ, zero, suc, ◌+◌, ◌<◌, ◌≤◌, inl, inr, Bool, true, false, true≢false, List, ◌∷◌, [], ◌++◌, length, map, position, slice_get, Option, None, Some, option_map, IsTrue, refl, sym, ap, subst, arith, cases_lt, length-append, none-some, same_Some, slice_get_within, slice_get-map, get-append, get-last, AreSameAt, AreMatched, ArePlaces, AreRight, Spot, same_spot, AreApart}
 use Rattle.std.specs.Bool.{then_some}
-use Rattle.cil_optionals.proofs.DependentLemmas.{got-push}
+use Rattle.cil_needs.proofs.DependentLemmas.{got-push}
 use Rattle.cil_matching.proofs.SpotLemmas.{found-spot, stands-found}
 
 -- what stands in a list stands where its image does

@@ -2,7 +2,7 @@
 use Rattle.cil_matching.proofs.Common.{◌≡◌, ◌∙◌, ℕ, ◌+◌, inl, inr, false, true≢false, List, [], ◌∷◌, ◌++◌, length, get_or, position, slice_get, Option, None, Some, is_some, refl, sym, ap, arith, list_any, cases_lt, length-append, slice_get_within, slice_get-get_or, get-append, get-last, ArePassed, Spot, same_spot, AreApart}
 use Rattle.std.specs.Option.{option_and_then}
 use Rattle.cil_bind.proofs.PositionLemmas.{any-position}
-use Rattle.cil_optionals.proofs.DependentLemmas.{got-push}
+use Rattle.cil_needs.proofs.DependentLemmas.{got-push}
 use Rattle.cil_matching.proofs.SpotLemmas.{any-stands, found-spot, stands-found}
 
 module _ (spots : List Spot) (found : List (Option ℕ)) where

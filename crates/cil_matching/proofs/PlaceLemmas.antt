@@ -1,7 +1,7 @@
 -- The places of one policy's rules in another one.
 use Rattle.cil_matching.proofs.Common.{◌≡◌, ◌∙◌, ◌↔◌, ℕ, ◌<◌, Bool, true, false, true≢false, List, [], ◌∷◌, length, map, get_or, slice_get, Option, None, Some, IsTrue, refl, sym, ap, subst, arith, IsStrictlySortedBy, Ordering, Equal, tied_itself, length-map, none-some, same_Some, slice_get-get_or, Rule, IsSameRule, content_of, rule_cmp, rule_total, meaning_in, SayTheSame, AreNumbers, AreSameAt, IsFoundAt, IsMissedAt, Spot, spot_cmp, rule_spot}
 use Rattle.std.specs.Bool.{then_some}
-use Rattle.cil_optionals.proofs.GreatestLemmas.{all-got}
+use Rattle.cil_needs.proofs.GreatestLemmas.{all-got}
 use Rattle.cil_resolve.specs.Below.{is_rule_below}
 use Rattle.cil_resolve.specs.Numbers.{rule_of}
 use Rattle.cil_resolve.specs.declared.numbered.NumberedRule.{NumberedRule}

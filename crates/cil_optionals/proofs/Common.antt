@@ -9,16 +9,16 @@ pub use Rattle.cil_bind.specs.declared.joined.NamedModule.{NamedModule}
 pub use Rattle.cil_bind.specs.declared.policy.Policy.{Policy}
 pub use Rattle.cil_bind.specs.declared.rows.Row.{Row}
 pub use Rattle.cil_optionals.specs.Asks.{AddsNeed, Asks, IsOf, LeadsOutside, are_found, are_there, is_need_of, optional_at, row_optional}
-pub use Rattle.cil_optionals.specs.Dependents.{AreDependents, AreReopened, IsDependent, dependent, dependents_of_node, node_of}
+pub use Rattle.cil_needs.specs.Dependents.{AreDependents, AreReopened, IsDependent, dependent, dependents_of_node, node_of}
 pub use Rattle.cil_optionals.specs.Given.{AreAnswers, AreRecent, IsInverse, IsUpTo, common_passes, commons_at, gift, given_at, gives_common, gives_passing, has_gift, has_list, is_rule, last_bound, listers_at, lists, lists_at, permissions_in, places_in}
-pub use Rattle.cil_optionals.specs.Needs.{are_met, has_node, is_met, is_need_below, meeting}
+pub use Rattle.cil_needs.specs.Needs.{are_met, has_node, is_met, is_need_below, meeting}
 pub use Rattle.cil_optionals.specs.Nested.{ShowsKept, mark_at, set_of}
 pub use Rattle.cil_optionals.specs.Nodes.{AreNodesOf, AreOptionalsOf, declared_table, declared_text, is_naming, is_plain, is_provided, is_single}
 pub use Rattle.cil_optionals.specs.Others.{AreFoundWithin, AreOthers, AreOthersTo, is_need_within}
 pub use Rattle.cil_optionals.specs.Permissions.{HavePermissions, SeenPermissions}
 pub use Rattle.cil_optionals.specs.Providers.{AreProviders, IsDeclaration, IsProvidedBy, IsReady, alternatives, further_out}
-pub use Rattle.cil_optionals.specs.declared.dependents.Dependent.{Dependent}
-pub use Rattle.cil_optionals.specs.declared.greatest.Need.{Need}
+pub use Rattle.cil_needs.specs.declared.dependents.Dependent.{Dependent}
+pub use Rattle.cil_needs.specs.declared.greatest.Need.{Need}
 pub use Rattle.cil_optionals.specs.declared.listed.Permission.{Permission}
 pub use Rattle.cil_parse.specs.Builder.{read}
 pub use Rattle.cil_parse.specs.Parsed.{Spells, texts_of}

@@ -1,7 +1,4 @@
 pub mod Common
-pub mod ListLemmas
-pub mod DependentLemmas
-pub mod GreatestLemmas
 pub mod FoundLemmas
 pub mod ProviderLemmas
 pub mod AsksLemmas

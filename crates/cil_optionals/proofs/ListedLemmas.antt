@@ -6,7 +6,7 @@ use Rattle.cil_optionals.specs.declared.listed.Gift.{Gift}
 use Rattle.cil_optionals.specs.declared.listed.Listed.{Listed}
 use Rattle.cil_optionals.specs.contracts.listed.GiftPartialEq.TheImpl as gift_eq
 use Rattle.cil_optionals.specs.contracts.listed.PermissionPartialEq.TheImpl as permission_eq
-use Rattle.cil_optionals.proofs.ListLemmas.{get-set_same, get-set_other}
+use Rattle.cil_needs.proofs.ListLemmas.{get-set_same, get-set_other}
 use Rattle.cil_optionals.proofs.PermissionLemmas.{lists-insert}
 
 any-none : {X : Type 0} (xs : List X) → list_any (λ x. false) xs ≡ false

@@ -13,9 +13,9 @@ use Rattle.cil_parse.specs.Parsed.{Spells, statement_count}
 use Rattle.cil_parse.specs.declared.parsed.ParsedModule.{ParsedModule}
 use Rattle.cil_bind.specs.declared.rows.Row.{Row}
 use Rattle.cil_bind.specs.declared.policy.Policy.{Policy}
-use Rattle.cil_optionals.specs.Needs.{are_met, meeting}
+use Rattle.cil_needs.specs.Needs.{are_met, meeting}
 use Rattle.cil_optionals.specs.Nodes.{AreNodesOf}
-use Rattle.cil_optionals.specs.declared.greatest.Need.{Need}
+use Rattle.cil_needs.specs.declared.greatest.Need.{Need}
 
 -- a need of a node came behind others: of one node, or what nothing meets
 pub record AddsNeed (old new : List Need) (optional : ℕ) (node : Option ℕ) : Type 0 where

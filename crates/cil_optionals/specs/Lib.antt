@@ -1,10 +1,8 @@
 pub mod Common
-pub mod Needs
 pub mod Nested
 pub mod Nodes
 pub mod Providers
 pub mod Asks
-pub mod Dependents
 pub mod Others
 pub mod Permissions
 pub mod Given

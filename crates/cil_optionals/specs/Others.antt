@@ -6,10 +6,10 @@ use Rattle.cil_specs.specs.Joined.{Placed}
 use Rattle.cil_specs.specs.PolicyFault.{missing_words}
 use Rattle.cil_specs.specs.Kept.{Optionals, is_within, restricted}
 use Rattle.cil_bind.specs.declared.rows.Row.{Row}
-use Rattle.cil_optionals.specs.Needs.{are_met, meeting}
+use Rattle.cil_needs.specs.Needs.{are_met, meeting}
 use Rattle.cil_optionals.specs.Nodes.{AreNodesOf}
 use Rattle.cil_optionals.specs.Providers.{AreProviders}
-use Rattle.cil_optionals.specs.declared.greatest.Need.{Need}
+use Rattle.cil_needs.specs.declared.greatest.Need.{Need}
 
 -- whether a need is that of an optional of a policy of so many statements, and the nodes are those of the policy
 abbrev pub is_need_within : ℕ → Need → Bool

@@ -9,10 +9,10 @@ use Rattle.cil_bind.specs.Policy.{IsBoundTo}
 use Rattle.cil_bind.specs.declared.rows.Row.{Row}
 use Rattle.cil_bind.specs.declared.joined.NamedModule.{NamedModule}
 use Rattle.cil_bind.specs.declared.policy.Policy.{Policy}
-use Rattle.cil_optionals.specs.Needs.{are_met, is_need_below}
+use Rattle.cil_needs.specs.Needs.{are_met, is_need_below}
 use Rattle.cil_bind.specs.Nested.{AreNested}
 use Rattle.cil_optionals.specs.Nodes.{declared_table, declared_text, AreNodesOf}
-use Rattle.cil_optionals.specs.declared.greatest.Need.{Need}
+use Rattle.cil_needs.specs.declared.greatest.Need.{Need}
 
 -- The policy is bound to the statements of the joined policy, its rows have the numbers of their optionals, and places have 32 bits.
 pub record IsReady {A : Type 0} (p : Policy A) (parsed : List (NamedModule A)) (policy : List Placed) : Type 0 where

@@ -6,11 +6,11 @@ ghost use Rattle.cil_bind.specs.Policy.{IsBoundTo};
 ghost use Rattle.cil_bind.specs.Nested.{AreNested};
 ghost use Rattle.cil_optionals.specs.Nested.{ShowsKept};
 
-use crate::greatest::{Need, greatest};
 use crate::others::others;
 use crate::providers::providers;
 use cil_bind::{Joined, Policy, Row};
 use cil_names::counted_in_32_bits;
+use cil_needs::{Need, greatest_set};
 use std::alloc::{AllocError, Allocator};
 
 /// Whether no row is an optional.
@@ -56,7 +56,7 @@ fn kept_by_needs<'m, A: Allocator + Copy>(
 {
     let count = policy.rows.len();
     let needs = all_needs(alloc, joined, policy)?;
-    let mut kept = greatest(alloc, count + count, &needs)?;
+    let mut kept = greatest_set(alloc, count + count, &needs)?;
     kept.truncate(count + 1);
     Ok(kept)
 }

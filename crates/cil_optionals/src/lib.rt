@@ -1,8 +1,6 @@
 //! The optionals that a policy keeps, whose references are bound.
 #![tactic(auto)]
 
-mod dependents;
-mod greatest;
 mod kept;
 mod listed;
 mod others;

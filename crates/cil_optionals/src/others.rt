@@ -5,11 +5,11 @@ ghost use Rattle.cil_optionals.specs.Common.{Placed, restricted, NamedModule, ar
 ghost use Rattle.cil_specs.specs.Lookup.{references as references_of, named_permissions};
 ghost use Rattle.cil_optionals.specs.Given.{permissions_in, IsInverse, IsUpTo};
 
-use crate::greatest::Need;
 use crate::listed::Listed;
 use crate::permissions::Permissions;
 use crate::references::{add_need, references};
 use cil_bind::{Joined, Policy};
+use cil_needs::Need;
 use std::alloc::{AllocError, Allocator};
 
 /// Puts what an optional inside another needs behind others: that.

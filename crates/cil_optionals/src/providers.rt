@@ -5,8 +5,8 @@ ghost use Rattle.cil_optionals.specs.Common.{Placed, word_at, namespace_at, tabl
 ghost use Rattle.cil_parse.specs.declared.table.Table.TheVariants.{Scopes};
 ghost use Rattle.cil_optionals.specs.Providers.{node_of_name, further_out as looked_further, IsReady, AreProviders};
 
-use crate::greatest::Need;
 use cil_bind::{Lookup, Policy};
+use cil_needs::Need;
 use cil_parse::Table;
 use std::alloc::{AllocError, Allocator};
 

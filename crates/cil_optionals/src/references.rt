@@ -5,8 +5,8 @@ ghost use Rattle.cil_optionals.specs.Common.{Placed, Optionals, is_within, restr
 ghost use Rattle.cil_specs.specs.Lookup.{Table as TableOf, holds_of, references as references_of, is_global as is_global_text};
 ghost use Rattle.cil_optionals.specs.Nodes.{is_provided, is_plain as is_plain_text, is_single as are_single, AreNodesOf};
 
-use crate::greatest::Need;
 use cil_bind::Policy;
+use cil_needs::Need;
 use cil_parse::ParsedModule;
 use std::alloc::{AllocError, Allocator};
 

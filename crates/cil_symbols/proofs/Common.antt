@@ -2,7 +2,7 @@
 pub use Rattle.cil_bind.proofs.PositionLemmas.{any-position, take-last, take-length}
 pub use Rattle.cil_check.proofs.PositionLemmas.{get-append, get-last}
 pub use Rattle.cil_names.proofs.TextLemmas.{distinct-texts, found-name, has_name-texts, same, stored-text, texts, with_name-texts}
-pub use Rattle.cil_optionals.proofs.ListLemmas.{get-set_other, get-set_same}
+pub use Rattle.cil_needs.proofs.ListLemmas.{get-set_other, get-set_same}
 pub use Rattle.cil_parse.specs.Lexicon.{AreNumbersOf}
 pub use Rattle.cil_specs.specs.Lookup.{has_name, with_name}
 pub use Rattle.cil_symbols.specs.InUse.{AreUsed, AreUsedBelow, IsUsed, used_in}

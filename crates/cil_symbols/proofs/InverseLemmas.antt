@@ -2,7 +2,7 @@
 use Rattle.cil_symbols.proofs.Common.{◌≡◌, ℕ, zero, suc, ◌+◌, ◌<◌, ◌≤◌, inl, inr, List, [], ◌∷◌, ◌++◌, length, take, drop, set, replicate, get_or, cond, slice_get, Option, None, Some, refl, sym, ap, subst, ◌∙◌, arith, is_none, length-replicate, length-set, length-append, get_or-replicate, take-append-drop, take_all, sum_by-cons, sum_by-set, slice_get_within, slice_get-get_or, get_or_from_slice_get, same_Some, get-append, get-last, get-set_same, get-set_other, take-last, take-length, AreApart, AreInverse}
 use Rattle.std.specs.List.{count_by}
 use Rattle.std.proofs.lemmas.Bool.{cases_eq}
-use Rattle.cil_optionals.proofs.DependentLemmas.{got-push}
+use Rattle.cil_needs.proofs.DependentLemmas.{got-push}
 
 count-none : (n : ℕ) → count_by is_none (replicate {A = Option ℕ} n None) ≡ n
 count-none zero = refl

@@ -2,8 +2,8 @@ use Rattle.cil_optionals.proofs.Common.{◌≡◌, ◌<◌, ◌+◌, ◌++◌, f
 use Rattle.cil_optionals.proofs.KeptLemmas.{rows-there, all-below, shows-kept, shows-taken}
 use Rattle.cil_optionals.proofs.kept.kept_by_needs.Goals as goal
 
-pub greatest-requires : goal.greatest-requires
-greatest-requires g c =
+pub greatest_set-requires : goal.greatest_set-requires
+greatest_set-requires g c =
     let r = c.requires.ready in
     let p = c.args.policy.now in
     let long = rows-length p.names p.lookup.namespaces p.rows.items r.0 r.1.bound.stands.rows_are in

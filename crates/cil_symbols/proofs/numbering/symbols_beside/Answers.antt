@@ -1,7 +1,7 @@
 use Rattle.cil_symbols.proofs.Common.{◌≡◌, ◌∙◌, ◌+◌, ◌<◌, ◌≤◌, [], Some, length, max, slice_get, take, sym, ap, subst, inl, inr, arith, append-nil, AreNumbersOf, used_in, IsUsed}
 use Rattle.std.proofs.Math.Nat.{le-max_left, le-max_right, max-le}
 use Rattle.cil_bind.proofs.WordLemmas.{numbers-next}
-use Rattle.cil_optionals.proofs.DependentLemmas.{got-push}
+use Rattle.cil_needs.proofs.DependentLemmas.{got-push}
 use Rattle.cil_symbols.proofs.InUseLemmas.{numbers-kept}
 use Rattle.cil_symbols.proofs.numbering.symbols_beside.Goals as goal
 

@@ -1,7 +1,8 @@
 //! The greatest set of optionals that has what its members need.
 
 ghost use Rattle.std.specs.Prelude.{◌≡◌, ◌≤◌, ◌<◌, ◌+◌, ℕ, Bool, true, false, length, replicate, slice_index_or, not, IfOk, IfSome, IsTrue};
-ghost use Rattle.cil_optionals.specs.Common.{list_all, range_with_len, are_met, has_node, is_met, is_need_below};
+ghost use Rattle.std.specs.List.{list_all, range_with_len};
+ghost use Rattle.cil_needs.specs.Needs.{are_met, has_node, is_met, is_need_below};
 
 use crate::dependents::{dependents, reopen};
 use std::alloc::{AllocError, Allocator};
@@ -16,7 +17,7 @@ pub struct Need {
 
 /// For each number up to that of the last optional whether it is in the greatest set in which all needs are met: the union of
 /// all such sets. 0 stands for no optional and is in it.
-pub fn greatest<A: Allocator + Copy>(
+pub fn greatest_set<A: Allocator + Copy>(
     alloc: A,
     count: usize,
     needs: &[Need],

@@ -1,6 +1,6 @@
 use Rattle.std.proofs.Common.{◌<◌, ℕ, length, take}
-use Rattle.cil_optionals.specs.Dependents.{IsDependent, AreDependents}
-use Rattle.cil_optionals.proofs.dependents.by_need.Given as goal
+use Rattle.cil_needs.specs.Dependents.{IsDependent, AreDependents}
+use Rattle.cil_needs.proofs.dependents.by_need.Given as goal
 
 abbrev pub invariant-loop-i : goal.invariant-loop-i
 invariant-loop-i g l = record {

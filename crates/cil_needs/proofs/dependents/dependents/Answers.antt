@@ -1,5 +1,5 @@
-use Rattle.cil_optionals.proofs.Common.{All-weaker, Contains-permutation, IsPermutation-sym, meeting, dependent, IsDependent}
-use Rattle.cil_optionals.proofs.dependents.dependents.Goals as goal
+use Rattle.cil_needs.proofs.Common.{All-weaker, Contains-permutation, IsPermutation-sym, meeting, dependent, IsDependent}
+use Rattle.cil_needs.proofs.dependents.dependents.Goals as goal
 
 pub returns-clause-within : goal.returns-clause-within
 returns-clause-within g c = λ o i is.

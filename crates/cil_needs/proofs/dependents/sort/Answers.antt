@@ -1,5 +1,5 @@
-use Rattle.cil_optionals.proofs.Common.{rules, IsNonDecreasingBy-from_sort_by_key, on_ok_weaker, node_of}
-use Rattle.cil_optionals.proofs.dependents.sort.Goals as goal
+use Rattle.cil_needs.proofs.Common.{rules, IsNonDecreasingBy-from_sort_by_key, on_ok_weaker, node_of}
+use Rattle.cil_needs.proofs.dependents.sort.Goals as goal
 
 pub returns-clause-sorted : goal.returns-clause-sorted
 returns-clause-sorted g c =

@@ -1,8 +1,8 @@
 -- Which needs each node can meet.
 use Rattle.std.specs.Prelude.{◌≡◌, ◌≤◌, ℕ, List, [], ◌∷◌, ◌++◌, length, slice_get, Option, None, Some, Contains, All}
-use Rattle.cil_optionals.specs.Needs.{meeting}
-use Rattle.cil_optionals.specs.declared.dependents.Dependent.{Dependent}
-use Rattle.cil_optionals.specs.declared.greatest.Need.{Need}
+use Rattle.cil_needs.specs.Needs.{meeting}
+use Rattle.cil_needs.specs.declared.dependents.Dependent.{Dependent}
+use Rattle.cil_needs.specs.declared.greatest.Need.{Need}
 
 abbrev pub node_of : Dependent → ℕ
 node_of d = d.node

@@ -1,6 +1,6 @@
-use Rattle.cil_optionals.proofs.Common.{◌≡◌, ◌≢◌, ◌<◌, ◌+◌, true, false, length, None, get_or, replicate, sym, ◌∙◌, subst, arith, All, get_or-set_other, get_or-replicate, length-replicate, length-set, nil_from_length, range_with_len, AreReopened, is_met, is_need_below, Need}
-use Rattle.cil_optionals.proofs.GreatestLemmas.{has_kept, AreSettled, IsAbove, looked, tested-met, tested-unmet, unmet-kept, measure-less, reopened-below, settled-all, above-all, range-below, settled-met, settled-taken, settled-none, above-taken}
-use Rattle.cil_optionals.proofs.greatest.greatest.Goals as goal
+use Rattle.cil_needs.proofs.Common.{◌≡◌, ◌≢◌, ◌<◌, ◌+◌, true, false, length, None, get_or, replicate, sym, ◌∙◌, subst, arith, All, get_or-set_other, get_or-replicate, length-replicate, length-set, nil_from_length, range_with_len, AreReopened, is_met, is_need_below, Need}
+use Rattle.cil_needs.proofs.GreatestLemmas.{has_kept, AreSettled, IsAbove, looked, tested-met, tested-unmet, unmet-kept, measure-less, reopened-below, settled-all, above-all, range-below, settled-met, settled-taken, settled-none, above-taken}
+use Rattle.cil_needs.proofs.greatest.greatest_set.Goals as goal
 
 -- what stands in a list where it has nothing
 abbrev no-need : Need

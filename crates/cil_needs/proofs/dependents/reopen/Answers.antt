@@ -1,6 +1,6 @@
-use Rattle.cil_optionals.proofs.Common.{ltb, leb, get_or, arith, rules, IsPartitionPoint-from_clause, IsPartitionedBy-leb, IsPartitionedBy-ltb, slice_get-get_or, node_of, Dependent}
-use Rattle.cil_optionals.proofs.DependentLemmas.{opened-more, opened-all, IsStart, IsEnd}
-use Rattle.cil_optionals.proofs.dependents.reopen.Goals as goal
+use Rattle.cil_needs.proofs.Common.{ltb, leb, get_or, arith, rules, IsPartitionPoint-from_clause, IsPartitionedBy-leb, IsPartitionedBy-ltb, slice_get-get_or, node_of, Dependent}
+use Rattle.cil_needs.proofs.DependentLemmas.{opened-more, opened-all, IsStart, IsEnd}
+use Rattle.cil_needs.proofs.dependents.reopen.Goals as goal
 
 pub loop-place-preserved : goal.loop-place-preserved
 loop-place-preserved g c =

@@ -1,5 +1,5 @@
-use Rattle.cil_optionals.proofs.DependentLemmas.{AreOpenedTo}
-use Rattle.cil_optionals.proofs.dependents.reopen.Given as goal
+use Rattle.cil_needs.proofs.DependentLemmas.{AreOpenedTo}
+use Rattle.cil_needs.proofs.dependents.reopen.Given as goal
 
 abbrev pub invariant-loop-place : goal.invariant-loop-place
 invariant-loop-place g l = AreOpenedTo l.dependents l.start l.end l.place l.fn.waiting.items l.waiting.items

@@ -1,5 +1,5 @@
 -- Taking away optionals whose needs aren't met leaves the greatest set.
-use Rattle.cil_optionals.proofs.Common.{◌≡◌, ◌⊎◌, inl, inr, ℕ, ◌+◌, ◌*◌, ◌<◌, ◌≤◌, Bool, true, false, not, ◌||◌, nat_lt, List, [], ◌∷◌, ◌++◌, length, get_or, set, replicate, count_by, Some, slice_get, All, Contains, IsTrue, cond, sym, ap, ◌∙◌, subst, arith, true≢false, list_all, list_any, range_with_len, and_parts, or_cases, or_parts, or_left, or_right, not-true, not-false, cases_eq, ltb-true, get_or-set_other, get_or-set_same, get_or-replicate, All-append, All-same, All-contains, All-pop, Contains-get_or, Contains-push_cases, Contains-append_left, Contains-append_right, slice_get-get_or, slice_get_within, get_or_from_slice_get, same_Some, Need, is_met, are_met, is_need_below, meeting, IsDependent, AreDependents, AreReopened, Dependent}
+use Rattle.cil_needs.proofs.Common.{◌≡◌, ◌⊎◌, inl, inr, ℕ, ◌+◌, ◌*◌, ◌<◌, ◌≤◌, Bool, true, false, not, ◌||◌, nat_lt, List, [], ◌∷◌, ◌++◌, length, get_or, set, replicate, count_by, Some, slice_get, All, Contains, IsTrue, cond, sym, ap, ◌∙◌, subst, arith, true≢false, list_all, list_any, range_with_len, and_parts, or_cases, or_parts, or_left, or_right, not-true, not-false, cases_eq, ltb-true, get_or-set_other, get_or-set_same, get_or-replicate, All-append, All-same, All-contains, All-pop, Contains-get_or, Contains-push_cases, Contains-append_left, Contains-append_right, slice_get-get_or, slice_get_within, get_or_from_slice_get, same_Some, Need, is_met, are_met, is_need_below, meeting, IsDependent, AreDependents, AreReopened, Dependent}
 use Rattle.std.proofs.Common.{length-append}
 use Rattle.std.proofs.lemmas.List.FromFn.{get_or-range_with_len, length-range_with_len}
 use Rattle.std.proofs.lemmas.List.Sums.{AllPass-from_list_all, list_all-from_AllPass, sum_by-set}

@@ -1,6 +1,6 @@
-use Rattle.cil_optionals.proofs.Common.{◌≡◌, ◌+◌, ◌++◌, [], ◌∷◌, length, sym, subst, arith, take, get_or, None, take_more, take_all, length-take, AreDependents, Need}
-use Rattle.cil_optionals.proofs.DependentLemmas.{dependents-push, dependents-within}
-use Rattle.cil_optionals.proofs.dependents.by_need.Goals as goal
+use Rattle.cil_needs.proofs.Common.{◌≡◌, ◌+◌, ◌++◌, [], ◌∷◌, length, sym, subst, arith, take, get_or, None, take_more, take_all, length-take, AreDependents, Need}
+use Rattle.cil_needs.proofs.DependentLemmas.{dependents-push, dependents-within}
+use Rattle.cil_needs.proofs.dependents.by_need.Goals as goal
 
 pub loop-i-preserved : goal.loop-i-preserved
 loop-i-preserved g c =

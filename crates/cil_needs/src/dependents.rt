@@ -2,7 +2,7 @@
 
 ghost use Rattle.std.specs.Prelude.{◌≡◌, ◌<◌, ◌++◌, ℕ, length, IfOk, OnOk};
 ghost use Rattle.std.specs.List.Sorted.{IsNonDecreasingBy, IsPermutation};
-ghost use Rattle.cil_optionals.specs.Dependents.{dependents_of_node, node_of, AreDependents, AreReopened, IsDependent};
+ghost use Rattle.cil_needs.specs.Dependents.{dependents_of_node, node_of, AreDependents, AreReopened, IsDependent};
 
 use crate::greatest::Need;
 use std::alloc::{AllocError, Allocator};

@@ -2,7 +2,7 @@
 use Rattle.std.specs.Prelude.{ℕ, Bool, false, not, ◌&&◌, ◌||◌, nat_lt, List, ◌++◌, Option, None, Some}
 use Rattle.std.specs.List.{list_all, list_any}
 use Rattle.std.specs.Option.{option_to_list}
-use Rattle.cil_optionals.specs.declared.greatest.Need.{Need}
+use Rattle.cil_needs.specs.declared.greatest.Need.{Need}
 
 -- the nodes that can meet a need
 abbrev pub meeting : Need → List ℕ

@@ -1,5 +1,5 @@
 -- Which needs each node can meet.
-use Rattle.cil_optionals.proofs.Common.{◌≡◌, ◌⊎◌, inl, inr, ℕ, ◌+◌, ◌<◌, ◌≤◌, zero, suc, false, true, ltb, leb, List, [], ◌∷◌, ◌++◌, length, get_or, Option, None, Some, slice_get, All, Contains, IfSome, refl, sym, ap, ◌∙◌, subst, arith, option_to_list, cases_lt, ltb-true, ltb-false, leb-true, leb-false, All-append, All-weaker, Contains-append_cases, Contains-append_left, Contains-append_right, Contains-push_cases, slice_get_within, slice_get-get_or, get_or_from_slice_get, same_Some, meeting, dependent, dependents_of_node, IsDependent, AreDependents, AreReopened, Dependent, Need}
+use Rattle.cil_needs.proofs.Common.{◌≡◌, ◌⊎◌, inl, inr, ℕ, ◌+◌, ◌<◌, ◌≤◌, zero, suc, false, true, ltb, leb, List, [], ◌∷◌, ◌++◌, length, get_or, Option, None, Some, slice_get, All, Contains, IfSome, refl, sym, ap, ◌∙◌, subst, arith, option_to_list, cases_lt, ltb-true, ltb-false, leb-true, leb-false, All-append, All-weaker, Contains-append_cases, Contains-append_left, Contains-append_right, Contains-push_cases, slice_get_within, slice_get-get_or, get_or_from_slice_get, same_Some, meeting, dependent, dependents_of_node, IsDependent, AreDependents, AreReopened, Dependent, Need}
 use Rattle.std.specs.List.Sorted.{IsPartitionPoint}
 use Rattle.std.proofs.Common.{length-append}
 use Rattle.cil_specs.proofs.NamesLemmas.{contains-first}

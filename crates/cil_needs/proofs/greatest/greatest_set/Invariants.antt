@@ -1,6 +1,6 @@
 use Rattle.std.proofs.Common.{◌≡◌, ◌+◌, ◌*◌, ◌<◌, false, true, length, All, get_or, count_by}
-use Rattle.cil_optionals.proofs.GreatestLemmas.{AreSettled, IsAbove}
-use Rattle.cil_optionals.proofs.greatest.greatest.Given as goal
+use Rattle.cil_needs.proofs.GreatestLemmas.{AreSettled, IsAbove}
+use Rattle.cil_needs.proofs.greatest.greatest_set.Given as goal
 
 abbrev pub invariant-loop-i : goal.invariant-loop-i
 invariant-loop-i g l = record {

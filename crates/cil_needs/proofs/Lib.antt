@@ -1,0 +1,4 @@
+pub mod Common
+pub mod ListLemmas
+pub mod DependentLemmas
+pub mod GreatestLemmas
