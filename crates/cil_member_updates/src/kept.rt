@@ -13,7 +13,8 @@ use std::marker::Model;
 // How many symbols a word has.
 const WORD: usize = 64;
 
-/// The symbols of the types that a policy keeps, as bits, 64 a word. Contracts see the list of the words.
+/// The symbols of the types that a policy keeps, as bits, 64 a word. Contracts see the list of the
+/// words.
 #[derive(Drop)]
 pub struct KeptTypes<A: Allocator = Global> {
     words: Vec<u64, A>,

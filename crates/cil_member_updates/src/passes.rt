@@ -77,7 +77,8 @@ fn lower_gone<A: Allocator + Copy>(
     Ok(())
 }
 
-/// Moves the counters to what the new set statement at a place gives, from what it gave if the old policy has it.
+/// Moves the counters to what the new set statement at a place gives, from what it gave if the old
+/// policy has it.
 fn renew_set<A: Allocator + Copy>(
     rows: &mut MemberRows<A>,
     alloc: A,
@@ -137,8 +138,9 @@ fn renew<A: Allocator + Copy>(
     Ok(())
 }
 
-/// Makes the rows, which hold how many set statements of an old policy make each type a member of each attribute, hold it of a new
-/// policy. Who was a member before the steps stays, also where memory runs out, so that `undo` leads back to the old policy.
+/// Makes the rows, which hold how many set statements of an old policy make each type a member of
+/// each attribute, hold it of a new policy. Who was a member before the steps stays, also where
+/// memory runs out, so that `undo` leads back to the old policy.
 pub fn update<A: Allocator + Copy>(
     rows: &mut MemberRows<A>,
     alloc: A,

@@ -13,7 +13,8 @@ use std::alloc::{AllocError, Allocator};
 // How many symbols a word has.
 const WORD: usize = 64;
 
-/// Lowers the counters by what a set statement gave, if it is read as it was, or raises them by what it gives now.
+/// Lowers the counters by what a set statement gave, if it is read as it was, or raises them by
+/// what it gives now.
 pub fn give_set<A: Allocator + Copy>(
     rows: &mut MemberRows<A>,
     alloc: A,
@@ -35,8 +36,9 @@ pub fn give_set<A: Allocator + Copy>(
     Ok(())
 }
 
-/// Moves the counters from what a set statement gave in the old policy to what it gives in the new one. Only the words are gone over in
-/// which the two policies keep different types, or an attribute that the statement mentions had a step, and those between them.
+/// Moves the counters from what a set statement gave in the old policy to what it gives in the new
+/// one. Only the words are gone over in which the two policies keep different types, or an
+/// attribute that the statement mentions had a step, and those between them.
 pub fn move_set<A: Allocator + Copy>(
     rows: &mut MemberRows<A>,
     alloc: A,

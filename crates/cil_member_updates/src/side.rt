@@ -19,7 +19,8 @@ pub struct Side<'p, A: Allocator = Global> {
     pub kept: &'p KeptTypes<A>,
 }
 
-/// The set statement of a policy at a place. Its expression is read by who was a member before the steps, or is one now.
+/// The set statement of a policy at a place. Its expression is read by who was a member before the
+/// steps, or is one now.
 #[derive(Clone, Copy)]
 pub struct Reading<'p, A: Allocator = Global> {
     pub symbols: &'p Symbols<A>,
@@ -28,7 +29,8 @@ pub struct Reading<'p, A: Allocator = Global> {
     pub place: usize,
 }
 
-/// Two policies with their set statements matched, and words outside which they keep the same types.
+/// Two policies with their set statements matched, and words outside which they keep the same
+/// types.
 #[derive(Clone, Copy)]
 pub struct Policies<'p, A: Allocator = Global> {
     pub symbols: &'p Symbols<A>,

@@ -80,7 +80,8 @@ pub fn reached<A: Allocator>(reading: &Reading<'_, A>, rows: &MemberRows<A>, wor
     }
 }
 
-/// The types of a word that became members of the attribute of a name of an expression, or are none any more.
+/// The types of a word that became members of the attribute of a name of an expression, or are none
+/// any more.
 fn changed_by_name<A: Allocator>(
     reading: &Reading<'_, A>,
     rows: &MemberRows<A>,
@@ -103,7 +104,8 @@ fn changed_by_name<A: Allocator>(
     }
 }
 
-/// The types of a word that became members of an attribute that a set statement mentions, or are none any more.
+/// The types of a word that became members of an attribute that a set statement mentions, or are
+/// none any more.
 fn changed_by_names<A: Allocator>(
     reading: &Reading<'_, A>,
     rows: &MemberRows<A>,
@@ -124,7 +126,8 @@ fn changed_by_names<A: Allocator>(
     bits
 }
 
-/// The types of a word that one of two policies keeps alone, or that turned in an attribute that a set statement of both mentions.
+/// The types of a word that one of two policies keeps alone, or that turned in an attribute that a
+/// set statement of both mentions.
 fn touched<A: Allocator>(stayed: &Stayed<'_, A>, rows: &MemberRows<A>, word: usize) -> u64
     requires stayed { HasStayed stayed.now rows.now }
     ensures { AreVisits stayed.now word result }
@@ -145,8 +148,8 @@ fn touched<A: Allocator>(stayed: &Stayed<'_, A>, rows: &MemberRows<A>, word: usi
     changed | (old.kept.word(word) ^ new.kept.word(word))
 }
 
-/// The types of a word at which a set statement that both policies have may hold in one of them alone: of those that are touched, the
-/// types that it may hold in either.
+/// The types of a word at which a set statement that both policies have may hold in one of them
+/// alone: of those that are touched, the types that it may hold in either.
 pub fn unsettled<A: Allocator>(stayed: &Stayed<'_, A>, rows: &MemberRows<A>, word: usize) -> u64
     requires stayed { HasStayed stayed.now rows.now }
     ensures { AreVisits stayed.now word result }
@@ -206,8 +209,9 @@ fn words_of_names<A: Allocator>(reading: &Reading<'_, A>, rows: &MemberRows<A>) 
     words
 }
 
-/// Words outside which a set statement of both policies holds the same in both: those in which the policies keep different types or an
-/// attribute that it mentions had a step, and what stands between them.
+/// Words outside which a set statement of both policies holds the same in both: those in which the
+/// policies keep different types or an attribute that it mentions had a step, and what stands
+/// between them.
 pub fn turned_words<A: Allocator>(stayed: &Stayed<'_, A>, rows: &MemberRows<A>) -> Words
     requires policies { ArePolicies stayed.now.policies.now }
     requires stayed { HasStayed stayed.now rows.now }

@@ -11,7 +11,8 @@ use cil_member_rows::MemberRows;
 use cil_resolve::Meter;
 use std::alloc::{AllocError, Allocator};
 
-/// Lowers the counters of a word by what a set statement gave, if it is read as it was, or raises them by what it gives now.
+/// Lowers the counters of a word by what a set statement gave, if it is read as it was, or raises
+/// them by what it gives now.
 pub fn give_word<A: Allocator + Copy>(
     rows: &mut MemberRows<A>,
     alloc: A,
@@ -40,7 +41,8 @@ pub fn give_word<A: Allocator + Copy>(
     }
 }
 
-/// Moves the counters of a word from what a set statement gave in the old policy to what it gives in the new one.
+/// Moves the counters of a word from what a set statement gave in the old policy to what it gives
+/// in the new one.
 pub fn move_word<A: Allocator + Copy>(
     rows: &mut MemberRows<A>,
     alloc: A,

@@ -1,7 +1,7 @@
 //! Counters moved from what a rule gave to what it gives.
 
-ghost use Rattle.std.specs.Prelude.{◌≡◌, ◌+◌, ◌≤◌, ◌&&◌, ℕ, IsTrue, length, OnOk};
-ghost use Rattle.cil_table_updates.specs.Common.{is_rule_below, adjustments_in, evaluations_in, one_if, IsShort, RisesBy, count_before, count_now, NoneRises, RiseAtMost, gives_it, replaces, shifts, gives_by, gives_as, HaveSameHead, IsKnown};
+ghost use Rattle.std.specs.Prelude.{◌≡◌, OnOk};
+ghost use Rattle.cil_table_updates.specs.Common.{evaluations_in, IsShort, AreLowered, AreMoved, AreRaised, CountAtLeast, NoneRises, RiseAtMost, StaysBefore, Adjusts, gives_it, replaces, shifts, given_as, given_by, HaveHeads, IsKnown, IsRuleOf};
 
 use crate::policy::Policy;
 use cil_keyed_lines::{KeyedLines, SymbolKey};
@@ -10,9 +10,9 @@ use cil_rule_reach::{permission_symbols, rule_reach, symbol_of};
 use cil_rule_shifts::{Reach, RuleHead, shift_rule};
 use std::alloc::{AllocError, Allocator};
 
-/// Moves the counters of what a rule gave to those of what it gives, by the kind, the class and the permissions of a policy's rule. The
-/// meter counts each counter that moves. But for `loading::add_rule` no other function moves counters of accesses, so that none moves
-/// uncounted.
+/// Moves the counters of what a rule gave to those of what it gives, by the kind, the class and the
+/// permissions of a policy's rule. The meter counts each counter that moves. But for
+/// `loading::add_rule` no other function moves counters of accesses, so that none moves uncounted.
 fn shift_as<A: Allocator + Copy>(
     lines: &mut KeyedLines<A>,
     alloc: A,
@@ -22,16 +22,19 @@ fn shift_as<A: Allocator + Copy>(
     is: &Reach<A>,
     meter: &mut Meter,
 ) -> Result<(), AllocError>
-    requires below { IsTrue (is_rule_below (length policy.now.numbering.now.symbols) rule.now) }
+    requires below { IsRuleOf policy.now rule.now }
     requires was { IsShort was.now }
     requires is { IsShort is.now }
-    requires counted { (key : SymbolKey) (t : ℕ) → one_if (gives_as policy.now.numbering.now.symbols rule.now was.now key t) ≤ count_now lines.old key t }
-    ensures now { OnOk result ((key : SymbolKey) (t : ℕ) → count_now lines.new key t + one_if (gives_as policy.now.numbering.now.symbols rule.now was.now key t)
-        ≡ count_now lines.old key t + one_if (gives_as policy.now.numbering.now.symbols rule.now is.now key t)) }
-    ensures before { (key : SymbolKey) (t : ℕ) → count_before lines.new key t ≡ count_before lines.old key t }
+    requires counted { CountAtLeast lines.old
+        (given_as policy.now.numbering.now.symbols rule.now was.now) }
+    ensures now { OnOk result (AreMoved lines.old lines.new
+        (given_as policy.now.numbering.now.symbols rule.now was.now)
+        (given_as policy.now.numbering.now.symbols rule.now is.now)) }
+    ensures before { StaysBefore lines.old lines.new }
     ensures bounded { RiseAtMost lines.old lines.new
-        (λ key t. one_if (gives_as policy.now.numbering.now.symbols rule.now is.now key t)) }
-    ensures adjustments { OnOk result (RisesBy (shifts policy.now.numbering.now.symbols rule.now was.now is.now) (adjustments_in meter.old) (adjustments_in meter.new)) }
+        (given_as policy.now.numbering.now.symbols rule.now is.now) }
+    ensures adjustments { OnOk result (Adjusts
+        (shifts policy.now.numbering.now.symbols rule.now was.now is.now) meter.old meter.new) }
     ensures evaluations { evaluations_in meter.new ≡ evaluations_in meter.old }
 {
     let permissions = permission_symbols(alloc, policy.numbering, rule.permissions.as_slice())?;
@@ -55,12 +58,12 @@ pub fn take_rule<A: Allocator + Copy>(
     meter: &mut Meter,
 ) -> Result<(), AllocError>
     requires known { IsKnown policy.now }
-    requires below { IsTrue (is_rule_below (length policy.now.numbering.now.symbols) rule.now) }
-    requires counted { (key : SymbolKey) (t : ℕ) → one_if (gives_by policy.now key t rule.now) ≤ count_now lines.old key t }
-    ensures now { OnOk result ((key : SymbolKey) (t : ℕ) → count_now lines.new key t + one_if (gives_by policy.now key t rule.now) ≡ count_now lines.old key t) }
-    ensures before { (key : SymbolKey) (t : ℕ) → count_before lines.new key t ≡ count_before lines.old key t }
+    requires below { IsRuleOf policy.now rule.now }
+    requires counted { CountAtLeast lines.old (given_by policy.now rule.now) }
+    ensures now { OnOk result (AreLowered lines.old lines.new (given_by policy.now rule.now)) }
+    ensures before { StaysBefore lines.old lines.new }
     ensures bounded { NoneRises lines.old lines.new }
-    ensures adjustments { OnOk result (RisesBy (gives_it policy.now rule.now) (adjustments_in meter.old) (adjustments_in meter.new)) }
+    ensures adjustments { OnOk result (Adjusts (gives_it policy.now rule.now) meter.old meter.new) }
     ensures evaluations { evaluations_in meter.new ≡ evaluations_in meter.old }
 {
     let was = rule_reach(alloc, &policy.members, policy.numbering, rule)?;
@@ -76,11 +79,11 @@ pub fn put_rule<A: Allocator + Copy>(
     meter: &mut Meter,
 ) -> Result<(), AllocError>
     requires known { IsKnown policy.now }
-    requires below { IsTrue (is_rule_below (length policy.now.numbering.now.symbols) rule.now) }
-    ensures now { OnOk result ((key : SymbolKey) (t : ℕ) → count_now lines.new key t ≡ count_now lines.old key t + one_if (gives_by policy.now key t rule.now)) }
-    ensures before { (key : SymbolKey) (t : ℕ) → count_before lines.new key t ≡ count_before lines.old key t }
-    ensures bounded { RiseAtMost lines.old lines.new (λ key t. one_if (gives_by policy.now key t rule.now)) }
-    ensures adjustments { OnOk result (RisesBy (gives_it policy.now rule.now) (adjustments_in meter.old) (adjustments_in meter.new)) }
+    requires below { IsRuleOf policy.now rule.now }
+    ensures now { OnOk result (AreRaised lines.old lines.new (given_by policy.now rule.now)) }
+    ensures before { StaysBefore lines.old lines.new }
+    ensures bounded { RiseAtMost lines.old lines.new (given_by policy.now rule.now) }
+    ensures adjustments { OnOk result (Adjusts (gives_it policy.now rule.now) meter.old meter.new) }
     ensures evaluations { evaluations_in meter.new ≡ evaluations_in meter.old }
 {
     let is = rule_reach(alloc, &policy.members, policy.numbering, rule)?;
@@ -99,15 +102,16 @@ pub fn replace_rule<A: Allocator + Copy>(
 ) -> Result<(), AllocError>
     requires old_known { IsKnown old.now }
     requires new_known { IsKnown new.now }
-    requires old_below { IsTrue (is_rule_below (length old.now.numbering.now.symbols) old_rule.now) }
-    requires new_below { IsTrue (is_rule_below (length new.now.numbering.now.symbols) new_rule.now) }
-    requires head { HaveSameHead old.now.numbering.now.symbols old_rule.now new.now.numbering.now.symbols new_rule.now }
-    requires counted { (key : SymbolKey) (t : ℕ) → one_if (gives_by old.now key t old_rule.now) ≤ count_now lines.old key t }
-    ensures now { OnOk result ((key : SymbolKey) (t : ℕ) → count_now lines.new key t + one_if (gives_by old.now key t old_rule.now)
-        ≡ count_now lines.old key t + one_if (gives_by new.now key t new_rule.now)) }
-    ensures before { (key : SymbolKey) (t : ℕ) → count_before lines.new key t ≡ count_before lines.old key t }
-    ensures bounded { RiseAtMost lines.old lines.new (λ key t. one_if (gives_by new.now key t new_rule.now)) }
-    ensures adjustments { OnOk result (RisesBy (replaces old.now old_rule.now new.now new_rule.now) (adjustments_in meter.old) (adjustments_in meter.new)) }
+    requires old_below { IsRuleOf old.now old_rule.now }
+    requires new_below { IsRuleOf new.now new_rule.now }
+    requires head { HaveHeads old.now old_rule.now new.now new_rule.now }
+    requires counted { CountAtLeast lines.old (given_by old.now old_rule.now) }
+    ensures now { OnOk result (AreMoved lines.old lines.new
+        (given_by old.now old_rule.now) (given_by new.now new_rule.now)) }
+    ensures before { StaysBefore lines.old lines.new }
+    ensures bounded { RiseAtMost lines.old lines.new (given_by new.now new_rule.now) }
+    ensures adjustments { OnOk result (Adjusts
+        (replaces old.now old_rule.now new.now new_rule.now) meter.old meter.new) }
     ensures evaluations { evaluations_in meter.new ≡ evaluations_in meter.old }
 {
     let was = rule_reach(alloc, &old.members, old.numbering, old_rule)?;

@@ -1,7 +1,7 @@
 //! Rules taken out, put in and replaced, one by one.
 
-ghost use Rattle.std.specs.Prelude.{◌≡◌, ◌+◌, ◌≤◌, ◌<◌, ℕ, length, OnOk};
-ghost use Rattle.cil_table_updates.specs.Common.{adjustments_in, evaluations_in, below, RisesBy, across, alone, sum_below, count_before, count_now, NoneRises, RiseAtMost, goes, swaps, turns, given, AreReplaced, IsReady, IsReplaced};
+ghost use Rattle.std.specs.Prelude.{◌≡◌, ◌<◌, OnOk};
+ghost use Rattle.cil_table_updates.specs.Common.{evaluations_in, below, AreLowered, AreMoved, CountAtLeast, NoneRises, RiseAtMost, StaysBefore, Adjusts, goes, swaps, turns, all_given, all_gone, all_stayed, given_there, gone_there, rules_in, stayed_there, AreReplaced, IsReady, IsReplaced};
 
 use crate::changed_rows::ChangedRows;
 use crate::moves::{put_rule, replace_rule, take_rule};
@@ -21,12 +21,12 @@ fn take_if_gone<A: Allocator + Copy>(
     meter: &mut Meter,
 ) -> Result<(), AllocError>
     requires ready { IsReady old.now }
-    requires within { i < length old.now.resolved.now.rules.items }
-    requires counted { (key : SymbolKey) (t : ℕ) → alone (given old.now key t) matching.now.ahead i ≤ count_now lines.old key t }
-    ensures now { OnOk result ((key : SymbolKey) (t : ℕ) → count_now lines.new key t + alone (given old.now key t) matching.now.ahead i ≡ count_now lines.old key t) }
-    ensures before { (key : SymbolKey) (t : ℕ) → count_before lines.new key t ≡ count_before lines.old key t }
+    requires within { i < rules_in old.now }
+    requires counted { CountAtLeast lines.old (gone_there old.now matching.now i) }
+    ensures now { OnOk result (AreLowered lines.old lines.new (gone_there old.now matching.now i)) }
+    ensures before { StaysBefore lines.old lines.new }
     ensures bounded { NoneRises lines.old lines.new }
-    ensures adjustments { OnOk result (RisesBy (goes old.now matching.now i) (adjustments_in meter.old) (adjustments_in meter.new)) }
+    ensures adjustments { OnOk result (Adjusts (goes old.now matching.now i) meter.old meter.new) }
     ensures evaluations { evaluations_in meter.new ≡ evaluations_in meter.old }
 {
     match matching.new_place(i) {
@@ -44,13 +44,12 @@ pub fn take_gone<A: Allocator + Copy>(
     meter: &mut Meter,
 ) -> Result<(), AllocError>
     requires ready { IsReady old.now }
-    requires counted { (key : SymbolKey) (t : ℕ) → sum_below (alone (given old.now key t) matching.now.ahead) (length old.now.resolved.now.rules.items) ≤ count_now lines.old key t }
-    ensures now { OnOk result ((key : SymbolKey) (t : ℕ) → count_now lines.new key t + sum_below (alone (given old.now key t) matching.now.ahead) (length old.now.resolved.now.rules.items)
-        ≡ count_now lines.old key t) }
-    ensures before { (key : SymbolKey) (t : ℕ) → count_before lines.new key t ≡ count_before lines.old key t }
+    requires counted { CountAtLeast lines.old (all_gone old.now matching.now) }
+    ensures now { OnOk result (AreLowered lines.old lines.new (all_gone old.now matching.now)) }
+    ensures before { StaysBefore lines.old lines.new }
     ensures bounded { NoneRises lines.old lines.new }
-    ensures adjustments { OnOk result (RisesBy (below (goes old.now matching.now) (length old.now.resolved.now.rules.items))
-        (adjustments_in meter.old) (adjustments_in meter.new)) }
+    ensures adjustments { OnOk result
+        (Adjusts (below (goes old.now matching.now) (rules_in old.now)) meter.old meter.new) }
     ensures evaluations { evaluations_in meter.new ≡ evaluations_in meter.old }
 {
     for i in 0..old.resolved.rules().len() {
@@ -59,7 +58,8 @@ pub fn take_gone<A: Allocator + Copy>(
     Ok(())
 }
 
-/// Puts the rule of a place of the new policy in place of the same one of the old policy, unless it covers what that did.
+/// Puts the rule of a place of the new policy in place of the same one of the old policy, unless it
+/// covers what that did.
 fn replace_changed<A: Allocator + Copy>(
     lines: &mut KeyedLines<A>,
     alloc: A,
@@ -73,11 +73,12 @@ fn replace_changed<A: Allocator + Copy>(
     requires old_ready { IsReady old.now }
     requires new_ready { IsReady new.now }
     requires replaced { IsReplaced changed.now old.now i new.now j }
-    requires counted { (key : SymbolKey) (t : ℕ) → given old.now key t i ≤ count_now lines.old key t }
-    ensures now { OnOk result ((key : SymbolKey) (t : ℕ) → count_now lines.new key t + given old.now key t i ≡ count_now lines.old key t + given new.now key t j) }
-    ensures before { (key : SymbolKey) (t : ℕ) → count_before lines.new key t ≡ count_before lines.old key t }
-    ensures bounded { RiseAtMost lines.old lines.new (λ key t. given new.now key t j) }
-    ensures adjustments { OnOk result (RisesBy (swaps old.now i new.now j) (adjustments_in meter.old) (adjustments_in meter.new)) }
+    requires counted { CountAtLeast lines.old (given_there old.now i) }
+    ensures now { OnOk result (AreMoved lines.old lines.new
+        (given_there old.now i) (given_there new.now j)) }
+    ensures before { StaysBefore lines.old lines.new }
+    ensures bounded { RiseAtMost lines.old lines.new (given_there new.now j) }
+    ensures adjustments { OnOk result (Adjusts (swaps old.now i new.now j) meter.old meter.new) }
     ensures evaluations { evaluations_in meter.new ≡ evaluations_in meter.old }
 {
     let rule = &new.resolved.rules()[j];
@@ -108,13 +109,15 @@ fn put_or_replace<A: Allocator + Copy>(
 ) -> Result<(), AllocError>
     requires old_ready { IsReady old.now }
     requires new_ready { IsReady new.now }
-    requires within { j < length new.now.resolved.now.rules.items }
+    requires within { j < rules_in new.now }
     requires matched { AreReplaced changed.now old.now new.now matching.now }
-    requires counted { (key : SymbolKey) (t : ℕ) → across (given old.now key t) matching.now.back j ≤ count_now lines.old key t }
-    ensures now { OnOk result ((key : SymbolKey) (t : ℕ) → count_now lines.new key t + across (given old.now key t) matching.now.back j ≡ count_now lines.old key t + given new.now key t j) }
-    ensures before { (key : SymbolKey) (t : ℕ) → count_before lines.new key t ≡ count_before lines.old key t }
-    ensures bounded { RiseAtMost lines.old lines.new (λ key t. given new.now key t j) }
-    ensures adjustments { OnOk result (RisesBy (turns old.now new.now matching.now j) (adjustments_in meter.old) (adjustments_in meter.new)) }
+    requires counted { CountAtLeast lines.old (stayed_there old.now matching.now j) }
+    ensures now { OnOk result (AreMoved lines.old lines.new
+        (stayed_there old.now matching.now j) (given_there new.now j)) }
+    ensures before { StaysBefore lines.old lines.new }
+    ensures bounded { RiseAtMost lines.old lines.new (given_there new.now j) }
+    ensures adjustments { OnOk result
+        (Adjusts (turns old.now new.now matching.now j) meter.old meter.new) }
     ensures evaluations { evaluations_in meter.new ≡ evaluations_in meter.old }
 {
     match matching.old_place(j) {
@@ -123,7 +126,8 @@ fn put_or_replace<A: Allocator + Copy>(
     }
 }
 
-/// Adds what each rule of the new policy gives. A rule that both have replaces what it gave in the old one.
+/// Adds what each rule of the new policy gives. A rule that both have replaces what it gave in the
+/// old one.
 pub fn put_new<A: Allocator + Copy>(
     lines: &mut KeyedLines<A>,
     alloc: A,
@@ -136,14 +140,13 @@ pub fn put_new<A: Allocator + Copy>(
     requires old_ready { IsReady old.now }
     requires new_ready { IsReady new.now }
     requires matched { AreReplaced changed.now old.now new.now matching.now }
-    requires counted { (key : SymbolKey) (t : ℕ) → sum_below (across (given old.now key t) matching.now.back) (length new.now.resolved.now.rules.items) ≤ count_now lines.old key t }
-    ensures now { OnOk result ((key : SymbolKey) (t : ℕ) → count_now lines.new key t + sum_below (across (given old.now key t) matching.now.back) (length new.now.resolved.now.rules.items)
-        ≡ count_now lines.old key t + sum_below (given new.now key t) (length new.now.resolved.now.rules.items)) }
-    ensures before { (key : SymbolKey) (t : ℕ) → count_before lines.new key t ≡ count_before lines.old key t }
-    ensures bounded { RiseAtMost lines.old lines.new
-        (λ key t. sum_below (given new.now key t) (length new.now.resolved.now.rules.items)) }
-    ensures adjustments { OnOk result (RisesBy (below (turns old.now new.now matching.now) (length new.now.resolved.now.rules.items))
-        (adjustments_in meter.old) (adjustments_in meter.new)) }
+    requires counted { CountAtLeast lines.old (all_stayed old.now new.now matching.now) }
+    ensures now { OnOk result (AreMoved lines.old lines.new
+        (all_stayed old.now new.now matching.now) (all_given new.now)) }
+    ensures before { StaysBefore lines.old lines.new }
+    ensures bounded { RiseAtMost lines.old lines.new (all_given new.now) }
+    ensures adjustments { OnOk result (Adjusts
+        (below (turns old.now new.now matching.now) (rules_in new.now)) meter.old meter.new) }
     ensures evaluations { evaluations_in meter.new ≡ evaluations_in meter.old }
 {
     for j in 0..new.resolved.rules().len() {
