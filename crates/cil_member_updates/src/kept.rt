@@ -37,7 +37,8 @@ fn type_symbol<A: Allocator>(
 ) -> usize
     requires numbers { IsNumbering symbols.now resolved.now numbering.now }
     requires within { i < length (meaning_in resolved.now).types }
-    ensures { slice_get symbols.now result ≡ Some (slice_index_or (meaning_in resolved.now).types i no_declared).name }
+    ensures { slice_get symbols.now result
+        ≡ Some (slice_index_or (meaning_in resolved.now).types i no_declared).name }
 {
     let number = resolved.type_number(i).unwrap();
     numbering.symbol(number).unwrap()

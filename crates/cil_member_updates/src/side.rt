@@ -19,6 +19,14 @@ pub struct Side<'p, A: Allocator = Global> {
     pub kept: &'p KeptTypes<A>,
 }
 
+/// An old policy and a new one, with their set statements matched.
+#[derive(Clone, Copy)]
+pub struct Sides<'p, A: Allocator = Global> {
+    pub old: Side<'p, A>,
+    pub new: Side<'p, A>,
+    pub matching: &'p SetMatching<A>,
+}
+
 /// The set statement of a policy at a place. Its expression is read by who was a member before the
 /// steps, or is one now.
 #[derive(Clone, Copy)]
