@@ -5,7 +5,7 @@ ghost use Rattle.cil_table_updates.specs.Common.{adjustments_in, evaluations_in,
 ghost use Rattle.cil_member_rows.specs.Rows as members;
 
 use crate::changed_rows::ChangedRows;
-use crate::passes::{put_new, take_gone};
+use crate::passes::{Update, put_new, take_gone};
 use crate::policy::{Policies, Policy, Shared};
 use cil_keyed_lines::{KeyedLines, SymbolKey};
 use cil_matching::RuleMatching;
@@ -32,7 +32,8 @@ pub fn update<A: Allocator + Copy>(
         (meaning_in policies.old.resolved.now) (members.count_before shared.rows.now) }
     requires new_members { AreMembersOf shared.names.now
         (meaning_in policies.new.resolved.now) (members.count_now shared.rows.now) }
-    requires stands { AreCountsOf shared.names.now (meaning_in policies.old.resolved.now) lines.old }
+    requires stands { AreCountsOf
+        shared.names.now (meaning_in policies.old.resolved.now) lines.old }
     ensures now { OnOk result (AreCountsOf shared.entry.names.now
         (meaning_in policies.entry.new.resolved.now) lines.new) }
     ensures before { StaysBefore lines.old lines.new }
@@ -52,6 +53,12 @@ pub fn update<A: Allocator + Copy>(
     resolved_rules_are_in_order(new.resolved);
     let matching = RuleMatching::of(alloc, old.resolved, new.resolved)?;
     let changed = ChangedRows::of(alloc, shared.rows, shared.names.len())?;
-    take_gone(lines, alloc, &old, &matching, meter)?;
-    put_new(lines, alloc, &old, &new, &matching, &changed, meter)
+    let update = Update {
+        old: &old,
+        new: &new,
+        matching: &matching,
+        changed: &changed,
+    };
+    take_gone(lines, alloc, &update, meter)?;
+    put_new(lines, alloc, &update, meter)
 }

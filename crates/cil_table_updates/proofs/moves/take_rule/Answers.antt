@@ -14,7 +14,7 @@ returns g c =
     let symbols = c.args.policy.now.numbering.now.symbols in
     let members = members_of c.args.policy.now.members in
     let rule = c.args.rule.now in
-    let none = gives-nothing symbols rule c.none.result c.none.ensures.none in
+    let none = gives-nothing symbols rule c.none-is.result c.none-is.ensures.none in
     let was = gives-covered symbols rule c.in_ok-was.was' members c.in_ok-was.ensures.sources c.in_ok-was.ensures.targets in
     record {
       now = on_ok_weaker c.shift_as.result (λ moved key t. omega (arith, moved key t, ap one_if (was key t), ap one_if (none key t))) c.shift_as.ensures.now;
@@ -22,7 +22,7 @@ returns g c =
       bounded = λ key t. omega (arith, c.shift_as.ensures.bounded key t, ap one_if (none key t));
       adjustments =
           on_ok_weaker c.shift_as.result
-          (λ rises. take-rises symbols rule c.in_ok-was.was' c.none.result (adjustments_in c.args.meter.now) (adjustments_in c.shift_as.new.meter) rises (covers_by members symbols rule) none was)
+          (λ rises. take-rises symbols rule c.in_ok-was.was' c.none-is.result (adjustments_in c.args.meter.now) (adjustments_in c.shift_as.new.meter) rises (covers_by members symbols rule) none was)
           c.shift_as.ensures.adjustments;
       evaluations = c.shift_as.ensures.evaluations;
     }

@@ -7,67 +7,67 @@ use Rattle.cil_table_updates.proofs.passes.replace_changed.Goals as goal
 
 pub rule_stays-requires : goal.rule_stays-requires
 rule_stays-requires g c =
-    let rules = c.args.new.now.resolved.now.rules.items in
-    passes-at (is_rule_below (length c.args.new.now.numbering.now.symbols)) rules c.args.j c.index-rules-j.result c.requires.new_ready.below
-    (read-there c.rules.result.now rules c.args.j c.index-rules-j.result _ c.rules.ensures.rules c.requires.replaced.there c.index-rules-j.is)
+    let rules = c.args.stayed.now.update.now.new.now.resolved.now.rules.items in
+    passes-at (is_rule_below (length c.args.stayed.now.update.now.new.now.numbering.now.symbols)) rules c.args.stayed.now.j c.index-rules-j.result c.requires.new_ready.below
+    (read-there c.rules.result.now rules c.args.stayed.now.j c.index-rules-j.result _ c.rules.ensures.rules c.requires.replaced.there c.index-rules-j.is)
 
 pub returns-then-rule_stays-clause-now : goal.returns-then-rule_stays-clause-now
 returns-then-rule_stays-clause-now g c key t =
-    let read = read-there c.rules.result.now c.args.new.now.resolved.now.rules.items c.args.j c.index-rules-j.result _ c.rules.ensures.rules c.requires.replaced.there c.index-rules-j.is in
+    let read = read-there c.rules.result.now c.args.stayed.now.update.now.new.now.resolved.now.rules.items c.args.stayed.now.j c.index-rules-j.result _ c.rules.ensures.rules c.requires.replaced.there c.index-rules-j.is in
     ap (λ n. count_now c.args.lines.now key t + n)
-    (stays-given c.args.changed.now c.args.old.now c.args.i c.args.new.now c.args.j c.requires.replaced c.index-rules-j.result read (c.rule_stays.ensures c.if-rule_stays.true) key t)
+    (stays-given c.args.stayed.now.update.now.changed.now c.args.stayed.now.update.now.old.now c.args.stayed.now.i c.args.stayed.now.update.now.new.now c.args.stayed.now.j c.requires.replaced c.index-rules-j.result read (c.rule_stays.ensures c.if-rule_stays.true) key t)
 
 pub returns-then-rule_stays-clause-adjustments : goal.returns-then-rule_stays-clause-adjustments
 returns-then-rule_stays-clause-adjustments g c =
-    let read = read-there c.rules.result.now c.args.new.now.resolved.now.rules.items c.args.j c.index-rules-j.result _ c.rules.ensures.rules c.requires.replaced.there c.index-rules-j.is in
-    rises-none (swaps c.args.old.now c.args.i c.args.new.now c.args.j) (adjustments_in c.args.meter.now)
-    (λ x. no-other (given c.args.old.now x.key x.target c.args.i) (given c.args.new.now x.key x.target c.args.j)
-    (stays-given c.args.changed.now c.args.old.now c.args.i c.args.new.now c.args.j c.requires.replaced c.index-rules-j.result read (c.rule_stays.ensures c.if-rule_stays.true) x.key x.target))
+    let read = read-there c.rules.result.now c.args.stayed.now.update.now.new.now.resolved.now.rules.items c.args.stayed.now.j c.index-rules-j.result _ c.rules.ensures.rules c.requires.replaced.there c.index-rules-j.is in
+    rises-none (swaps c.args.stayed.now.update.now.old.now c.args.stayed.now.i c.args.stayed.now.update.now.new.now c.args.stayed.now.j) (adjustments_in c.args.meter.now)
+    (λ x. no-other (given c.args.stayed.now.update.now.old.now x.key x.target c.args.stayed.now.i) (given c.args.stayed.now.update.now.new.now x.key x.target c.args.stayed.now.j)
+    (stays-given c.args.stayed.now.update.now.changed.now c.args.stayed.now.update.now.old.now c.args.stayed.now.i c.args.stayed.now.update.now.new.now c.args.stayed.now.j c.requires.replaced c.index-rules-j.result read (c.rule_stays.ensures c.if-rule_stays.true) x.key x.target))
 
 pub bounds-rules-i : goal.bounds-rules-i
 bounds-rules-i g c =
-    let rules = c.args.old.now.resolved.now.rules.items in
-    subst (λ l. c.args.i < length l) (sym c.rules-2.ensures.rules) (slice_get_within rules c.args.i c.requires.replaced.old_rule c.requires.replaced.here)
+    let rules = c.args.stayed.now.update.now.old.now.resolved.now.rules.items in
+    subst (λ l. c.args.stayed.now.i < length l) (sym c.rules-2.ensures.rules) (slice_get_within rules c.args.stayed.now.i c.requires.replaced.old_rule c.requires.replaced.here)
 
 pub offset_bounds-rules-i : goal.offset_bounds-rules-i
 offset_bounds-rules-i g c =
-    let rules = c.args.old.now.resolved.now.rules.items in
-    let within = subst (λ l. c.args.i < length l) (sym c.rules-2.ensures.rules) (slice_get_within rules c.args.i c.requires.replaced.old_rule c.requires.replaced.here) in
+    let rules = c.args.stayed.now.update.now.old.now.resolved.now.rules.items in
+    let within = subst (λ l. c.args.stayed.now.i < length l) (sym c.rules-2.ensures.rules) (slice_get_within rules c.args.stayed.now.i c.requires.replaced.old_rule c.requires.replaced.here) in
     omega (arith, within)
 
 pub replace_rule-requires-clause-old_below : goal.replace_rule-requires-clause-old_below
 replace_rule-requires-clause-old_below g c =
-    let rules = c.args.old.now.resolved.now.rules.items in
-    passes-at (is_rule_below (length c.args.old.now.numbering.now.symbols)) rules c.args.i c.index-rules-i.result c.requires.old_ready.below
-    (read-there c.rules-2.result.now rules c.args.i c.index-rules-i.result _ c.rules-2.ensures.rules c.requires.replaced.here c.index-rules-i.is)
+    let rules = c.args.stayed.now.update.now.old.now.resolved.now.rules.items in
+    passes-at (is_rule_below (length c.args.stayed.now.update.now.old.now.numbering.now.symbols)) rules c.args.stayed.now.i c.index-rules-i.result c.requires.old_ready.below
+    (read-there c.rules-2.result.now rules c.args.stayed.now.i c.index-rules-i.result _ c.rules-2.ensures.rules c.requires.replaced.here c.index-rules-i.is)
 
 pub replace_rule-requires-clause-new_below : goal.replace_rule-requires-clause-new_below
 replace_rule-requires-clause-new_below g c =
-    let rules = c.args.new.now.resolved.now.rules.items in
-    passes-at (is_rule_below (length c.args.new.now.numbering.now.symbols)) rules c.args.j c.index-rules-j.result c.requires.new_ready.below
-    (read-there c.rules.result.now rules c.args.j c.index-rules-j.result _ c.rules.ensures.rules c.requires.replaced.there c.index-rules-j.is)
+    let rules = c.args.stayed.now.update.now.new.now.resolved.now.rules.items in
+    passes-at (is_rule_below (length c.args.stayed.now.update.now.new.now.numbering.now.symbols)) rules c.args.stayed.now.j c.index-rules-j.result c.requires.new_ready.below
+    (read-there c.rules.result.now rules c.args.stayed.now.j c.index-rules-j.result _ c.rules.ensures.rules c.requires.replaced.there c.index-rules-j.is)
 
 pub replace_rule-requires-clause-head : goal.replace_rule-requires-clause-head
 replace_rule-requires-clause-head g c =
-    let old = c.args.old.now in
-    let new = c.args.new.now in
-    let read = read-there c.rules-2.result.now old.resolved.now.rules.items c.args.i c.index-rules-i.result _ c.rules-2.ensures.rules c.requires.replaced.here c.index-rules-i.is in
-    let other = read-there c.rules.result.now new.resolved.now.rules.items c.args.j c.index-rules-j.result _ c.rules.ensures.rules c.requires.replaced.there c.index-rules-j.is in
+    let old = c.args.stayed.now.update.now.old.now in
+    let new = c.args.stayed.now.update.now.new.now in
+    let read = read-there c.rules-2.result.now old.resolved.now.rules.items c.args.stayed.now.i c.index-rules-i.result _ c.rules-2.ensures.rules c.requires.replaced.here c.index-rules-i.is in
+    let other = read-there c.rules.result.now new.resolved.now.rules.items c.args.stayed.now.j c.index-rules-j.result _ c.rules.ensures.rules c.requires.replaced.there c.index-rules-j.is in
     subst (λ rule. HaveHeads old rule new c.index-rules-j.result) (same_Some c.requires.replaced.old_rule c.index-rules-i.result (sym c.requires.replaced.here ∙ read))
     (subst (λ rule. HaveHeads old c.requires.replaced.old_rule new rule) (same_Some c.requires.replaced.new_rule c.index-rules-j.result (sym c.requires.replaced.there ∙ other))
     c.requires.replaced.head)
 
 pub replace_rule-requires-clause-counted : goal.replace_rule-requires-clause-counted
 replace_rule-requires-clause-counted g c key t =
-    let read = read-there c.rules-2.result.now c.args.old.now.resolved.now.rules.items c.args.i c.index-rules-i.result _ c.rules-2.ensures.rules c.requires.replaced.here c.index-rules-i.is in
-    subst (λ n. n ≤ count_now c.args.lines.now key t) (given-rule c.args.old.now key t c.args.i c.index-rules-i.result read) (c.requires.counted key t)
+    let read = read-there c.rules-2.result.now c.args.stayed.now.update.now.old.now.resolved.now.rules.items c.args.stayed.now.i c.index-rules-i.result _ c.rules-2.ensures.rules c.requires.replaced.here c.index-rules-i.is in
+    subst (λ n. n ≤ count_now c.args.lines.now key t) (given-rule c.args.stayed.now.update.now.old.now key t c.args.stayed.now.i c.index-rules-i.result read) (c.requires.counted key t)
 
 pub returns : goal.returns
 returns g c =
-    let old = c.args.old.now in
-    let new = c.args.new.now in
-    let i = c.args.i in
-    let j = c.args.j in
+    let old = c.args.stayed.now.update.now.old.now in
+    let new = c.args.stayed.now.update.now.new.now in
+    let i = c.args.stayed.now.i in
+    let j = c.args.stayed.now.j in
     let rule = c.index-rules-i.result in
     let other = c.index-rules-j.result in
     let gave : (key : SymbolKey) (t : ℕ) → given old key t i ≡ one_if (gives_by old key t rule) =
