@@ -1,6 +1,6 @@
 //! The counters of a policy.
 
-ghost use Rattle.std.specs.Prelude.{◌≡◌, ◌↔◌, ◌-◌, ◌<◌, ◌≤◌, ◌^◌, ℕ, List, bytes_eq, false, length, min, IfOk, IsTrue, None, OnOk};
+ghost use Rattle.std.specs.Prelude.{◌≡◌, ◌↔◌, ◌-◌, ◌<◌, ◌^◌, ℕ, bytes_eq, false, length, min, IfOk, IsTrue, None, OnOk};
 ghost use Rattle.cil_counters.specs.Common.{rc_value, is_in_table, is_member, differ, AreViolations, AreNumbersOf, meaning_in, name_in, sets_in, pairs_of, AreChangedMembers, count_with, had_named, has_named, steps_in, symbols_now, AreBounded, AreSettled, AreSymbolsOf, AreTakenBack, HasFewNames, HasNames, IsNow, WasBefore};
 ghost use Rattle.std.specs.List.{IsDistinct};
 ghost use Rattle.cil_delta_specs.specs.Work.{AdjustsFew, EvaluatesFew};

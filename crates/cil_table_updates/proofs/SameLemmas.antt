@@ -1,5 +1,5 @@
 -- The same rule of two policies, by symbols.
-use Rattle.cil_table_updates.proofs.Common.{◌≡◌, ℕ, ◌<◌, ◌==◌, ◌&&◌, ◌||◌, Bool, true, false, List, [], ◌∷◌, length, map, nat_lt, slice_index, slice_index_or, Some, refl, ap, ◌∙◌, list_all, list_any, eq-eqb, ltb-true, content_of, kind_index, is_kind, SymbolKey, is_element_below, is_rule_below, is_target_below, element_of, resolved_target_of, rule_of, NumberedRule, Resolved, aims_by, covers_by, has_by, is-below, symbol-named, HaveSameHead, AreApart}
+use Rattle.cil_table_updates.proofs.Common.{◌≡◌, ℕ, ◌<◌, ◌==◌, ◌&&◌, ◌||◌, true, List, [], ◌∷◌, length, map, nat_lt, slice_index, slice_index_or, Some, refl, ap, ◌∙◌, list_all, list_any, eq-eqb, ltb-true, content_of, kind_index, is_kind, SymbolKey, is_element_below, is_rule_below, is_target_below, element_of, resolved_target_of, rule_of, NumberedRule, Resolved, aims_by, covers_by, has_by, is-below, symbol-named, HaveSameHead, AreApart}
 use Rattle.cil_parse.specs.Lexicon.{AreNumbersOf}
 use Rattle.cil_expression.specs.declared.expression.Element.{Element}
 use Rattle.cil_expression.specs.declared.expression.Element.TheVariants.{«Type», Attribute}

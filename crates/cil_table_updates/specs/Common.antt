@@ -1,6 +1,5 @@
 -- The names from elsewhere that this crate's contracts cite most, passed on from one place.
 pub use Rattle.cil_keyed_lines.specs.Keyed.{NoneRises, RiseAtMost, StaysBefore, count_now, steps_in}
-pub use Rattle.cil_resolve.specs.Below.{is_element_below, is_target_below}
 pub use Rattle.cil_resolve.specs.Meter.{adjustments_in, evaluations_in}
 pub use Rattle.cil_resolve.specs.Resolved.{meaning_in}
 pub use Rattle.cil_rule_reach.specs.Named.{AreMembersOf}
