@@ -1,10 +1,8 @@
 -- How many accesses came to a table, told by the counters.
-use Rattle.cil_counters.proofs.Common.{◌≡◌, ◌≢◌, ◌⊎◌, ℕ, ◌<◌, ◌&&◌, Bool, true, not, List, [], ◌∷◌, length, map, get_or, nat_lt, Some, Less, Equal, Greater, true≢false, refl, sym, ap, subst, ◌∙◌, inl, inr, arith, IsTrue, AllByRecursion, AllPairs, IsStrictlySortedBy, ltb-true, length-map, slice_get-get_or, count_of, is_in_table, atom_cmp, AreAtoms, AreChanges, Atom, AnyByRecursion, all_weaker, contains_from, contains_to, rule_kind_of, RuleKind, Allow, AuditAllow, DontAudit, NeverAllow, SymbolKey, meaning_in, Resolved, atom_of, is_named, name_at, AreApart, and-first, and-second, IsCounted}
+use Rattle.cil_counters.proofs.Common.{◌≡◌, ◌≢◌, ◌⊎◌, ℕ, ◌<◌, ◌&&◌, Bool, true, not, List, [], ◌∷◌, length, map, nat_lt, Some, Less, Equal, Greater, true≢false, refl, sym, ap, subst, ◌∙◌, inl, inr, arith, IsTrue, AllByRecursion, AllPairs, IsStrictlySortedBy, ltb-true, length-map, slice_get-get_or, count_of, is_in_table, atom_cmp, AreAtoms, AreChanges, Atom, AnyByRecursion, all_weaker, contains_from, contains_to, rule_kind_of, RuleKind, Allow, AuditAllow, DontAudit, NeverAllow, SymbolKey, meaning_in, Resolved, atom_of, is_named, name_at, AreApart, and-first, and-second, IsCounted}
 use Rattle.std.proofs.Common.{Contains}
 use Rattle.std.specs.Ordering.{ordering_reverse}
 use Rattle.std.specs.declared.cmp.Ordering.{Ordering}
-use Rattle.std.proofs.lemmas.Cmp.{tied_itself}
-use Rattle.std.proofs.lemmas.Map.Keys.{Less-from_sorted}
 use Rattle.cil_sums.proofs.PairLemmas.{at-most-all, from-mapped, mapped, pairs-map}
 use Rattle.cil_specs.specs.Statements as spec
 use Rattle.cil_specs.specs.Statements.{allow, auditallow, dontaudit, neverallow}
@@ -13,6 +11,7 @@ use Rattle.cil_symbol_changes.specs.Counts.{has_come, has_risen, AreSoMany}
 use Rattle.cil_symbol_changes.specs.declared.counted_changes.ChangeCounts.{ChangeCounts}
 use Rattle.cil_symbol_changes.proofs.CountLemmas.{both-hold}
 use Rattle.cil_counters.specs.ChangeCounts.{CountsSome}
+use Rattle.cil_table_updates.proofs.FewLemmas.{atoms-apart}
 use Rattle.cil_counters.proofs.ChangedLemmas.{counted-atom, counted-listed, table-key}
 
 -- ---- accesses put in order
@@ -96,14 +95,6 @@ in-order (a ∷ atoms) =
       all = λ b at. elim at [ inl same ↦ put.all b (inl (sym same)) | inr there ↦ put.all b (inr (rest.all b there)) ];
       only = λ b at. elim (put.only b at) [ inl same ↦ inl (sym same) | inr there ↦ inr (rest.only b there) ];
     }
-
--- what ascends is apart
-atoms-apart : (atoms : List Atom) → IsStrictlySortedBy atom_cmp atoms → AllPairs (λ a b. a ≢ b) atoms
-atoms-apart atoms ordered i j d less within same =
-    never (sym (Less-from_sorted atom_cmp atoms i j d ordered less within) ∙ ap (atom_cmp (get_or atoms i d)) (sym same) ∙ tied_itself atom_total (get_or atoms i d))
-  where
-    never : Less ≡ Equal → ⊥
-    never e = cc
 
 -- ---- accesses by symbols
 

@@ -1,6 +1,6 @@
 //! The counters of a policy.
 
-ghost use Rattle.std.specs.Prelude.{◌≡◌, ◌↔◌, ◌-◌, ◌<◌, ◌≤◌, ◌^◌, ℕ, List, bytes_eq, false, length, min, IfOk, IsTrue, None, OnOk};
+ghost use Rattle.std.specs.Prelude.{◌≡◌, ◌↔◌, ◌-◌, ◌<◌, ◌^◌, ℕ, bytes_eq, false, length, min, IfOk, IsTrue, None, OnOk};
 ghost use Rattle.cil_counters.specs.Common.{rc_value, is_in_table, is_member, differ, AreViolations, AreNumbersOf, meaning_in, name_in, sets_in, pairs_of, AreChangedMembers, count_with, had_named, has_named, steps_in, symbols_now, AreBounded, AreSettled, AreSymbolsOf, AreTakenBack, HasFewNames, HasNames, IsNow, WasBefore};
 ghost use Rattle.std.specs.List.{IsDistinct};
 ghost use Rattle.cil_delta_specs.specs.Work.{AdjustsFew, EvaluatesFew};
@@ -23,7 +23,7 @@ use crate::symbol_ranks::{ranks_of, ranks_of_both};
 use cil_keyed_lines::{KeyedLines, SymbolKey};
 use cil_matching::SetMatching;
 use cil_member_rows::MemberRows;
-use cil_member_updates::Side;
+use cil_member_updates::{Side, Sides};
 use cil_names::Seed;
 use cil_resolve::{
     Meter, Resolved, resolved_is_consistent, resolved_is_sound, resolved_names_are_kept,
@@ -32,7 +32,7 @@ use cil_resolve::{
 use cil_rules::{Changes, Table, rank};
 use cil_symbol_changes::{ChangeCounts, count_accesses};
 use cil_symbols::{Numbering, Symbols};
-use cil_table_updates::Named;
+use cil_table_updates::{Named, Policies, Shared};
 use cil_text::RuleKind;
 use cil_violations::Violations;
 use std::alloc::{AllocError, Allocator, Global};
@@ -131,25 +131,20 @@ impl<A: Allocator + Copy> Counters<A> {
     {
         let matching = SetMatching::of(alloc, self.names.seed(), old, new)?;
         add_rows(&mut self.rows, alloc, self.names.len())?;
-        let old_side = Side {
-            resolved: old,
-            numbering: &self.policy.numbering,
-            kept: &self.policy.kept,
+        let sides = Sides {
+            old: Side {
+                resolved: old,
+                numbering: &self.policy.numbering,
+                kept: &self.policy.kept,
+            },
+            new: Side {
+                resolved: new,
+                numbering: &next.numbering,
+                kept: &next.kept,
+            },
+            matching: &matching,
         };
-        let new_side = Side {
-            resolved: new,
-            numbering: &next.numbering,
-            kept: &next.kept,
-        };
-        cil_member_updates::update(
-            &mut self.rows,
-            alloc,
-            &self.names,
-            &old_side,
-            &new_side,
-            &matching,
-            meter,
-        )
+        cil_member_updates::update(&mut self.rows, alloc, &self.names, &sides, meter)
     }
 
     /// Brings the members from an old policy to a new one, in steps, and answers the symbols of the new one. What is counted of accesses
@@ -206,23 +201,21 @@ impl<A: Allocator + Copy> Counters<A> {
         resolved_sets_are_in_order(old);
         resolved_sets_are_in_order(new);
         let next = self.bring_members(alloc, old, new, meter)?;
-        let old = Named {
-            resolved: old,
-            numbering: &self.policy.numbering,
+        let shared = Shared {
+            names: &self.names,
+            rows: &self.rows,
         };
-        let new = Named {
-            resolved: new,
-            numbering: &next.numbering,
+        let policies = Policies {
+            old: Named {
+                resolved: old,
+                numbering: &self.policy.numbering,
+            },
+            new: Named {
+                resolved: new,
+                numbering: &next.numbering,
+            },
         };
-        cil_table_updates::update(
-            &mut self.tables,
-            alloc,
-            &self.names,
-            &self.rows,
-            old,
-            new,
-            meter,
-        )?;
+        cil_table_updates::update(&mut self.tables, alloc, shared, policies, meter)?;
         self.next = Some(next);
         Ok(())
     }
@@ -260,7 +253,11 @@ impl<A: Allocator + Copy> Counters<A> {
             resolved: new,
             numbering: &next.numbering,
         };
-        cil_table_updates::load(&mut self.tables, alloc, &self.names, &self.rows, new, meter)?;
+        let shared = Shared {
+            names: &self.names,
+            rows: &self.rows,
+        };
+        cil_table_updates::load(&mut self.tables, alloc, shared, new, meter)?;
         self.next = Some(next);
         Ok(())
     }

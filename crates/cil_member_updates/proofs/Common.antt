@@ -6,7 +6,7 @@ pub use Rattle.cil_member_rows.specs.Rows.{count_before, count_now}
 pub use Rattle.cil_member_rows.specs.Words.{IsOutside}
 pub use Rattle.cil_member_updates.specs.Bits.{AreBits, AreHeld, Cover}
 pub use Rattle.cil_member_updates.specs.Counts.{gives_count, gives_member, one_if}
-pub use Rattle.cil_member_updates.specs.Evaluated.{AreUnsettledAt, Comes, EvaluatesGone, EvaluatesNew, Goes, HasTurned, InWord, IsHeld, IsKept, IsMovedAt, IsTurnedAt, IsUnsettled, MayGo, MayTurn, is_asked}
+pub use Rattle.cil_member_updates.specs.Evaluated.{AreUnsettledAt, Comes, Goes, HasTurned, InWord, IsHeld, IsKept, IsMovedAt, IsTurnedAt, IsUnsettled, MayGo, MayTurn, is_asked}
 pub use Rattle.cil_member_updates.specs.Given.{IsUnchanged, Tell, gives, of_name}
 unfoldable pub use Rattle.cil_member_updates.specs.Given.{element_holds, holds, is_of, keeps}
 pub use Rattle.cil_member_updates.specs.Moved.{AreMoved, IsMoved, nothing}
@@ -14,7 +14,8 @@ pub use Rattle.cil_member_updates.specs.Passes.{gave_in, given_by, gives_in, gon
 pub use Rattle.cil_member_updates.specs.Places.{no_declared, no_set, set_at}
 pub use Rattle.cil_member_updates.specs.Policy.{AreCounts, counts_at}
 unfoldable pub use Rattle.cil_member_updates.specs.Policy.{given}
-pub use Rattle.cil_member_updates.specs.Reading.{AreVisits, CoversStayed, HasStayed, MayHold, MayMove, MustHold, MustMove, Reads, Stays, given_of, held_by, is_given, is_held, lowered, new_in, old_in, raised, set_of, was_given, was_held}
+pub use Rattle.cil_member_updates.specs.Reading.{AreVisits, CoversStayed, HasStayed, MayHold, MayMove, MustHold, MustMove, Reads, Stays, given_of, held_by, is_given, is_held, lowered, lowered_by, new_in, old_in, raised, raised_by, set_of, was_given, was_held}
+pub use Rattle.cil_member_updates.specs.Steps.{AreLowered, AreRenewed, ComesIn, EvaluatesGone, EvaluatesNew, GoesIn, MayGoIn, MayTurnIn, new_sets, old_sets}
 pub use Rattle.cil_parse.specs.Lexicon.{AreNumbersOf}
 pub use Rattle.cil_resolve.specs.Meter.{adjustments_in, evaluations_in}
 pub use Rattle.cil_resolve.specs.Numbers.{element_of}
@@ -32,7 +33,7 @@ pub use Rattle.cil_specs.specs.Rule.{Declared, Element, IsSameSet, SetStatement,
 pub use Rattle.cil_specs.specs.Sets.{differ, holds_with, is_the_attribute, mentions}
 pub use Rattle.cil_sums.proofs.SumLemmas.{across-none, across-some, alone-most, alone-none, alone-some, sum-differs, sum-more, sum-most, sum-none, sum-part, sum-rest, sum-sides, sum-zero}
 pub use Rattle.cil_sums.proofs.WithinLemmas.{up_to-add, up_to-skip, up_to-some, within-both, within-by, within-either, within-first, within-map, within-next, within-none, within-weaker}
-pub use Rattle.cil_sums.specs.Rises.{RisesBy, RisesWithin, up_to}
+pub use Rattle.cil_sums.specs.Rises.{RisesBy, RisesWithin, UpTo, up_to}
 pub use Rattle.cil_sums.specs.Sums.{ArePlaces, across, alone, sum_below}
 pub use Rattle.std.proofs.Common.{Bool, IsTrue, List, None, Option, Some, [], add-one, ap, arith, below_more, bit_and, bit_or, bit_xor, bytes_eq, cond, count_by, false, get_or, get_or-set_other, get_or-set_same, inl, inr, length, map, min, nat_lt, of_calls, option_map, refl, replicate, rules, set, slice_get, slice_index, subst, suc, sym, take, true, w64, zero, zero-add, ℕ, ◌%◌, ◌&&◌, ◌*◌, ◌++◌, ◌+◌, ◌-◌, ◌/◌, ◌<◌, ◌==◌, ◌^◌, ◌||◌, ◌∙◌, ◌∷◌, ◌≡◌, ◌≢◌, ◌≤◌, ◌⊎◌}
 pub use Rattle.std.proofs.Math.Bool.{and-false, or-false, or-true}

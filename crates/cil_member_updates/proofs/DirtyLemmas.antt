@@ -1,5 +1,5 @@
 -- Set statements are evaluated at dirty pairs alone, twice at most, and for each member gained at least once.
-use Rattle.cil_member_updates.proofs.Common.{◌≡◌, ◌≢◌, ◌⊎◌, ◌<◌, ◌≤◌, ◌&&◌, ℕ, Bool, true, false, List, [], ◌++◌, get_or, length, map, nat_lt, slice_get, bytes_eq, count_by, Option, None, Some, IsTrue, refl, sym, ap, ◌∙◌, subst, inl, inr, arith, All, AllPairs, Contains, IsDistinct, cases_eq, cases_lt, lt-ltb, length-append, length-map, All-append, All-contains, All-map, Contains-get_or, get_or_from_slice_get, none-some, same_Some, slice_get-get_or, slice_get_read, bytes_eq-Decides, AreMatched, Matched, AreNumbersOf, meaning_in, sets_in, Resolved, one_if, no_set, set_at, AreTheSame, has_name, keeps_type, Meaning, is_member, keeps_attribute, HasSoundSets, IsSameSet, SetStatement, sum_below, across-none, across-some, sum-differs, sum-part, sum-zero, EvaluatesGone, EvaluatesNew, IsKept, MayGo, MayTurn, gives, holds, is_of, given_by, stayed, given}
+use Rattle.cil_member_updates.proofs.Common.{◌≡◌, ◌≢◌, ◌⊎◌, ◌<◌, ◌≤◌, ◌&&◌, ℕ, Bool, true, false, List, [], ◌++◌, get_or, length, map, nat_lt, slice_get, bytes_eq, count_by, Option, None, Some, IsTrue, refl, sym, ap, ◌∙◌, subst, inl, inr, arith, All, AllPairs, Contains, IsDistinct, cases_eq, cases_lt, lt-ltb, length-append, length-map, All-append, All-contains, All-map, Contains-get_or, get_or_from_slice_get, none-some, same_Some, slice_get-get_or, slice_get_read, bytes_eq-Decides, AreMatched, Matched, AreNumbersOf, meaning_in, sets_in, Resolved, one_if, no_set, set_at, AreTheSame, has_name, keeps_type, Meaning, is_member, keeps_attribute, HasSoundSets, IsSameSet, SetStatement, sum_below, across-none, across-some, sum-differs, sum-part, sum-zero, IsKept, MayGo, MayTurn, gives, holds, is_of, given_by, stayed, given, RisesWithin, UpTo, Goes, Comes}
 use Rattle.std.proofs.Common.{true≢false}
 use Rattle.cil_delta_specs.specs.Dirty.{AreGained, HasSet, IsDirtyPair}
 use Rattle.cil_delta_specs.specs.Work.{raised, EvaluatesFew}
@@ -117,7 +117,9 @@ module _ {A B : Type 0} (symbols : List (List ℕ)) (distinct : IsDistinct bytes
   one-pair : (p q : ℕ × ℕ) → p.0 ≡ q.0 → p.1 ≡ q.1 → p ≡ q
   one-pair p q first second n = (first n, second n)
 
-  module _ (before between after : ℕ) (first : EvaluatesGone symbols old m (length (sets_in old)) before between) (second : EvaluatesNew symbols old new m (length (sets_in new)) between after) where
+  module _ (before between after : ℕ)
+      (first : RisesWithin (UpTo (MayGo symbols old m) (length (sets_in old))) (UpTo (Goes symbols old m) (length (sets_in old))) before between)
+      (second : RisesWithin (UpTo (MayTurn symbols old new m) (length (sets_in new))) (UpTo (Comes symbols old new m) (length (sets_in new))) between after) where
     abbrev pairs : List (SetStatement × List ℕ)
     pairs = map old_pair first.those ++ map new_pair second.those
 

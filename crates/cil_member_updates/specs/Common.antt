@@ -2,11 +2,11 @@
 pub use Rattle.cil_member_rows.specs.Rows.{count_before, count_now, rows_in}
 pub use Rattle.cil_member_rows.specs.Words.{IsOutside}
 pub use Rattle.cil_member_updates.specs.Bits.{AreHeld, Cover}
-pub use Rattle.cil_member_updates.specs.Evaluated.{AreTurnedAt, EvaluatesGone, EvaluatesGoneAt, EvaluatesNew, EvaluatesNewAt, IsTurnedAt, is_asked}
-pub use Rattle.cil_member_updates.specs.Given.{IsUnchanged, element_holds, keeps}
-pub use Rattle.cil_member_updates.specs.Moved.{AreMoved, IsMoved}
-pub use Rattle.cil_member_updates.specs.Policy.{AreCounts, AreKept, AreUnchanged, CoverNames, IsNumbering, IsSide, counts_at}
-pub use Rattle.cil_member_updates.specs.Reading.{ArePolicies, AreVisits, CoversStayed, EvaluatesSet, EvaluatesWord, HasStayed, IsRead, MovesSet, MovesWord, Reads, Stays, given_of, held_by, is_given, lowered, new_in, old_in, raised, set_of, was_given}
+pub use Rattle.cil_member_updates.specs.Evaluated.{is_asked}
+pub use Rattle.cil_member_updates.specs.Moved.{AreAtLeast, AreMoved, IsAtLeast, IsMoved}
+pub use Rattle.cil_member_updates.specs.Policy.{AreCounts, AreKept, IsNumbering, IsSide}
+pub use Rattle.cil_member_updates.specs.Reading.{AreNamesTurned, AreNamesUnchanged, ArePolicies, AreSetsMatched, AreVisits, CoversNames, CoversStayed, EvaluatesOnce, EvaluatesSet, EvaluatesWord, HasStayed, IsNameIn, IsNameTurned, IsNameUnchanged, IsRead, MayHold, MovesSet, MovesWord, Reads, Stays, TellsMember, held_by, is_given, lowered_by, name_holds, named_by, raised_by, set_of, was_given}
+pub use Rattle.cil_member_updates.specs.Steps.{AreLowered, AreNew, AreOld, AreStayed, EvaluatesGone, EvaluatesGoneAt, EvaluatesNew, EvaluatesNewAt, IsLowered, IsRenewed, new_sets, old_sets}
 pub use Rattle.cil_resolve.specs.Meter.{adjustments_in, evaluations_in}
 pub use Rattle.cil_resolve.specs.Resolved.{meaning_in}
 pub use Rattle.cil_resolve.specs.Sets.{sets_in}

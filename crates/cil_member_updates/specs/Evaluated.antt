@@ -10,7 +10,7 @@ use Rattle.cil_specs.specs.Meaning.{Meaning, keeps_type}
 use Rattle.cil_specs.specs.Members.{is_member}
 use Rattle.cil_specs.specs.Rule.{Element, an_attribute, SetStatement}
 use Rattle.cil_specs.specs.Sets.{differ, mentions}
-use Rattle.cil_sums.specs.Rises.{up_to, RisesWithin, UpTo}
+use Rattle.cil_sums.specs.Rises.{up_to}
 use Rattle.cil_member_updates.specs.Given.{holds, keeps}
 use Rattle.cil_member_updates.specs.Passes.{stayed}
 use Rattle.cil_member_updates.specs.Policy.{given}
@@ -75,17 +75,3 @@ MayTurn symbols old new m j t = (((i : ℕ) → slice_get m.back j ≡ Some (Som
 -- the set statement at a place of the new policy gives an attribute the type, and it gave none in the old policy, or wasn't there
 abbrev pub Comes : {A B : Type 0} → List (List ℕ) → Resolved A → Resolved B → Matched → ℕ → ℕ → Type 0
 Comes symbols old new m j t = (a : ℕ) × (stayed symbols old m a t j < given symbols new j a t)
-
--- So is the set statement at a place of the old policy evaluated, if it goes, and that at a place of the new policy.
-abbrev pub EvaluatesGoneAt : {A : Type 0} → List (List ℕ) → Resolved A → Matched → ℕ → (before after : ℕ) → Type 0
-EvaluatesGoneAt symbols old m i = RisesWithin (MayGo symbols old m i) (Goes symbols old m i)
-
-abbrev pub EvaluatesNewAt : {A B : Type 0} → List (List ℕ) → Resolved A → Resolved B → Matched → ℕ → (before after : ℕ) → Type 0
-EvaluatesNewAt symbols old new m j = RisesWithin (MayTurn symbols old new m j) (Comes symbols old new m j)
-
--- and those at the places below one
-abbrev pub EvaluatesGone : {A : Type 0} → List (List ℕ) → Resolved A → Matched → ℕ → (before after : ℕ) → Type 0
-EvaluatesGone symbols old m n = RisesWithin (UpTo (MayGo symbols old m) n) (UpTo (Goes symbols old m) n)
-
-abbrev pub EvaluatesNew : {A B : Type 0} → List (List ℕ) → Resolved A → Resolved B → Matched → ℕ → (before after : ℕ) → Type 0
-EvaluatesNew symbols old new m n = RisesWithin (UpTo (MayTurn symbols old new m) n) (UpTo (Comes symbols old new m) n)

@@ -8,3 +8,4 @@ pub mod Passes
 pub mod Places
 pub mod Policy
 pub mod Reading
+pub mod Steps

@@ -1,23 +1,26 @@
 -- Set statements of a policy, and of two.
-use Rattle.std.specs.Prelude.{◌≡◌, ◌<◌, ℕ, Bool, List, length, slice_index}
-use Rattle.cil_matching.specs.Matching.{AreMatched}
+use Rattle.std.specs.Prelude.{◌≡◌, ◌<◌, ◌+◌, ◌-◌, ◌^◌, ℕ, Bool, IsTrue, List, Some, length, min, nat_lt, slice_get, slice_index}
+use Rattle.cil_expression.specs.declared.expression.Element as numbered
+use Rattle.cil_matching.specs.Matching.{AreMatched, Matched}
 use Rattle.cil_member_rows.specs.Rows.{count_before, count_now, rows_in}
 use Rattle.cil_member_rows.specs.Words.{IsOutside}
 use Rattle.cil_recorded.specs.Recorded.{State}
+use Rattle.cil_resolve.specs.Below.{is_element_below}
 use Rattle.cil_resolve.specs.Meter.{adjustments_in, evaluations_in}
+use Rattle.cil_resolve.specs.Numbers.{element_of}
 use Rattle.cil_resolve.specs.Resolved.{meaning_in}
 use Rattle.cil_resolve.specs.Sets.{sets_in}
 use Rattle.cil_resolve.specs.declared.meter.Meter.{Meter}
 use Rattle.cil_resolve.specs.declared.resolved.Resolved.{Resolved}
-use Rattle.cil_specs.specs.Rule.{IsSameSet, SetStatement}
+use Rattle.cil_specs.specs.Rule.{Element, IsSameSet, SetStatement}
 use Rattle.cil_specs.specs.Sets.{differ}
 use Rattle.cil_sums.specs.Rises.{RisesWithin}
 use Rattle.cil_member_updates.specs.Bits.{Cover}
-use Rattle.cil_member_updates.specs.Evaluated.{AreUnsettledAt, InWord, IsHeld, IsKept, IsMovedAt, IsUnsettled}
-use Rattle.cil_member_updates.specs.Given.{holds, Tell}
+use Rattle.cil_member_updates.specs.Evaluated.{AreTurnedAt, AreUnsettledAt, InWord, IsHeld, IsKept, IsMovedAt, IsTurnedAt, IsUnsettled}
+use Rattle.cil_member_updates.specs.Given.{element_holds, holds, IsUnchanged, Tell}
 use Rattle.cil_member_updates.specs.Moved.{nothing}
 use Rattle.cil_member_updates.specs.Places.{set_at}
-use Rattle.cil_member_updates.specs.Policy.{IsSide, counts_at, given}
+use Rattle.cil_member_updates.specs.Policy.{AreUnchanged, CoverNames, IsSide, counts_at, given}
 use Rattle.cil_member_updates.specs.declared.side.Policies.{Policies}
 use Rattle.cil_member_updates.specs.declared.side.Reading.{Reading}
 use Rattle.cil_member_updates.specs.declared.side.Side.{Side}
@@ -37,12 +40,50 @@ held_by r = holds r.symbols.now (meaning_in r.side.now.resolved.now) (set_of r)
 abbrev pub given_of : {A : Type 0} → Reading A → ℕ → ℕ → ℕ
 given_of r = given r.symbols.now r.side.now.resolved.now r.place
 
+-- a name of its expression, and that the policy has it
+abbrev pub named_by : {A : Type 0} → Reading A → numbered.Element → Element
+named_by r element = element_of r.side.now.resolved.now.names.items element
+
+abbrev pub IsNameIn : {A : Type 0} → Reading A → numbered.Element → Type 0
+IsNameIn r element = IsTrue (is_element_below (length r.side.now.resolved.now.names.items) element)
+
+-- whether the name holds the type of a symbol
+abbrev pub name_holds : {A : Type 0} → Reading A → numbered.Element → ℕ → Bool
+name_holds r element = element_holds r.symbols.now (meaning_in r.side.now.resolved.now) (named_by r element)
+
+-- each of its names fails where the bit isn't set
+abbrev pub CoversNames : {A : Type 0} → Reading A → ℕ → ℕ → Type 0
+CoversNames r word bits = CoverNames r.symbols.now r.side.now.resolved.now r.place word bits
+
+-- an answer tells who is a member of an attribute that has a number in the policy
+abbrev pub TellsMember : {A : Type 0} → Reading A → State → (attribute t : ℕ) → Bool → Type 0
+TellsMember r rows attribute t answer = (a : ℕ) → slice_get r.side.now.numbering.now.symbols attribute ≡ Some a
+    → answer ≡ nat_lt 0 (counts_at r.when rows a t)
+
+-- the attribute of a name has the same members before and now where the bit isn't set, and others where it is
+abbrev pub IsNameUnchanged : {A : Type 0} → Reading A → State → numbered.Element → ℕ → ℕ → Type 0
+IsNameUnchanged r rows element word bits = IsUnchanged r.symbols.now (count_before rows) (count_now rows) (named_by r element) word bits
+
+abbrev pub IsNameTurned : {A : Type 0} → Reading A → State → numbered.Element → ℕ → ℕ → Type 0
+IsNameTurned r rows element word bits = IsTurnedAt r.symbols.now (count_before rows) (count_now rows) (named_by r element) word bits
+
+-- so has each attribute that it mentions, and one of them has others
+abbrev pub AreNamesUnchanged : {A : Type 0} → Reading A → State → ℕ → ℕ → Type 0
+AreNamesUnchanged r rows word bits = AreUnchanged r.symbols.now (count_before rows) (count_now rows) r.side.now.resolved.now r.place word bits
+
+abbrev pub AreNamesTurned : {A : Type 0} → Reading A → State → ℕ → ℕ → Type 0
+AreNamesTurned r rows word bits = AreTurnedAt r.symbols.now (count_before rows) (count_now rows) r.side.now.resolved.now r.place word bits
+
 -- a kept type, and one that it holds
 abbrev pub MayHold : {A : Type 0} → Reading A → ℕ → Type 0
 MayHold r = IsKept r.symbols.now (meaning_in r.side.now.resolved.now)
 
 abbrev pub MustHold : {A : Type 0} → Reading A → ℕ → Type 0
 MustHold r = IsHeld r.symbols.now (meaning_in r.side.now.resolved.now) (set_of r)
+
+-- it is evaluated once
+abbrev pub EvaluatesOnce : (before after : Meter) → Type 0
+EvaluatesOnce before after = evaluations_in after ≡ min (evaluations_in before + 1) (2 ^ 128 - 1)
 
 -- It is evaluated at types of a word: at kept types alone, and at each that it holds.
 abbrev pub EvaluatesWord : {A : Type 0} → Reading A → ℕ → (before after : Meter) → Type 0
@@ -71,6 +112,13 @@ abbrev pub raised : When → (ℕ → ℕ → ℕ) → ℕ → ℕ → ℕ
 raised Before gives = nothing
 raised Now gives = gives
 
+-- the same by the set statement that is read
+abbrev pub lowered_by : {A : Type 0} → Reading A → ℕ → ℕ → ℕ
+lowered_by r = lowered r.when (given_of r)
+
+abbrev pub raised_by : {A : Type 0} → Reading A → ℕ → ℕ → ℕ
+raised_by r = raised r.when (given_of r)
+
 -- What stays while counters move: the counters before the steps, how many rows there are, and the adjustments.
 pub record Stays (old new : State) (before after : Meter) : Type 0 where
   pub counts : (a t : ℕ) → count_before new a t ≡ count_before old a t
@@ -79,10 +127,14 @@ pub record Stays (old new : State) (before after : Meter) : Type 0 where
 
 -- ---- two policies
 
+-- the set statements of both are matched
+abbrev pub AreSetsMatched : {A : Type 0} → Side A → Side A → Matched → Type 0
+AreSetsMatched old new m = AreMatched IsSameSet (sets_in old.resolved.now) (sets_in new.resolved.now) m
+
 pub record ArePolicies {A : Type 0} (p : Policies A) : Type 0 where
   pub old : IsSide p.symbols.now p.old.now
   pub new : IsSide p.symbols.now p.new.now
-  pub matched : AreMatched IsSameSet (sets_in p.old.now.resolved.now) (sets_in p.new.now.resolved.now) p.matching.now
+  pub matched : AreSetsMatched p.old.now p.new.now p.matching.now
   pub alike : (w : ℕ) → IsOutside p.unlike w → slice_index p.old.now.kept.now w ≡ slice_index p.new.now.kept.now w
 
 abbrev pub old_in : {A : Type 0} → Policies A → Resolved A

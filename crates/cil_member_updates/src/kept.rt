@@ -13,7 +13,8 @@ use std::marker::Model;
 // How many symbols a word has.
 const WORD: usize = 64;
 
-/// The symbols of the types that a policy keeps, as bits, 64 a word. Contracts see the list of the words.
+/// The symbols of the types that a policy keeps, as bits, 64 a word. Contracts see the list of the
+/// words.
 #[derive(Drop)]
 pub struct KeptTypes<A: Allocator = Global> {
     words: Vec<u64, A>,
@@ -36,7 +37,8 @@ fn type_symbol<A: Allocator>(
 ) -> usize
     requires numbers { IsNumbering symbols.now resolved.now numbering.now }
     requires within { i < length (meaning_in resolved.now).types }
-    ensures { slice_get symbols.now result ≡ Some (slice_index_or (meaning_in resolved.now).types i no_declared).name }
+    ensures { slice_get symbols.now result
+        ≡ Some (slice_index_or (meaning_in resolved.now).types i no_declared).name }
 {
     let number = resolved.type_number(i).unwrap();
     numbering.symbol(number).unwrap()

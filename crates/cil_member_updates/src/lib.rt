@@ -12,4 +12,4 @@ mod words;
 
 pub use kept::KeptTypes;
 pub use passes::update;
-pub use side::Side;
+pub use side::{Side, Sides};

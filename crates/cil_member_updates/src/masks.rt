@@ -1,7 +1,7 @@
 //! The types of a word that a set statement holds.
 
-ghost use Rattle.std.specs.Prelude.{◌≡◌, ◌+◌, ◌-◌, ◌*◌, ◌%◌, ◌<◌, ◌^◌, ℕ, IsTrue, min, slice_get, slice_index, Some, nat_lt};
-ghost use Rattle.cil_member_updates.specs.Common.{adjustments_in, evaluations_in, meaning_in, keeps, counts_at, held_by, Reads, AreHeld, is_asked};
+ghost use Rattle.std.specs.Prelude.{◌≡◌, ◌*◌, ◌%◌, ◌<◌, ◌^◌, slice_index};
+ghost use Rattle.cil_member_updates.specs.Common.{adjustments_in, evaluations_in, held_by, EvaluatesOnce, MayHold, Reads, TellsMember, AreHeld, is_asked};
 ghost use Rattle.cil_member_updates.specs.Counts.{one_if};
 ghost use Rattle.cil_sums.specs.Rises.{RisesBy};
 
@@ -21,8 +21,7 @@ fn is_known<A: Allocator>(
     attribute: usize,
     t: usize,
 ) -> bool
-    ensures { (a : ℕ) → slice_get reading.now.side.now.numbering.now.symbols attribute ≡ Some a
-        → result ≡ nat_lt 0 (counts_at reading.now.when rows.now a t) }
+    ensures { TellsMember reading.now rows.now attribute t result }
 {
     match reading.side.numbering.symbol(attribute) {
         Some(row) => is_member(rows, &reading.when, row, t),
@@ -38,9 +37,9 @@ fn is_held<A: Allocator>(
     meter: &mut Meter,
 ) -> bool
     requires reads { Reads reading.now rows.now }
-    requires kept { IsTrue (keeps reading.now.symbols.now (meaning_in reading.now.side.now.resolved.now) t) }
+    requires kept { MayHold reading.now t }
     ensures held { result ≡ held_by reading.now t }
-    ensures evaluations { evaluations_in meter.new ≡ min (evaluations_in meter.old + 1) (2 ^ 128 - 1) }
+    ensures evaluations { EvaluatesOnce meter.old meter.new }
     ensures adjustments { adjustments_in meter.new ≡ adjustments_in meter.old }
 {
     resolved_names_are_kept(reading.side.resolved);
@@ -49,8 +48,7 @@ fn is_held<A: Allocator>(
         reading.place,
         ty,
         |attribute|
-            ensures { (a : ℕ) → slice_get reading.entry.now.side.now.numbering.now.symbols attribute ≡ Some a
-                → result ≡ nat_lt 0 (counts_at reading.entry.now.when rows.entry.now a t) }
+            ensures { TellsMember reading.entry.now rows.entry.now attribute t result }
         { is_known(reading, rows, attribute, t) },
         meter,
     )
@@ -64,9 +62,9 @@ fn held_bit<A: Allocator>(
     meter: &mut Meter,
 ) -> u64
     requires reads { Reads reading.now rows.now }
-    requires kept { IsTrue (keeps reading.now.symbols.now (meaning_in reading.now.side.now.resolved.now) t) }
+    requires kept { MayHold reading.now t }
     ensures bit { result ≡ one_if (held_by reading.now t) * 2 ^ (t % 64) }
-    ensures evaluations { evaluations_in meter.new ≡ min (evaluations_in meter.old + 1) (2 ^ 128 - 1) }
+    ensures evaluations { EvaluatesOnce meter.old meter.new }
     ensures adjustments { adjustments_in meter.new ≡ adjustments_in meter.old }
 {
     if is_held(reading, rows, t, meter) {

@@ -1,7 +1,7 @@
 //! One set statement at all types.
 
-ghost use Rattle.std.specs.Prelude.{◌≤◌, ℕ, length, OnOk};
-ghost use Rattle.cil_member_updates.specs.Common.{count_now, rows_in, AreMoved, ArePolicies, EvaluatesSet, given_of, HasStayed, is_given, lowered, MovesSet, raised, Reads, Stays, was_given};
+ghost use Rattle.std.specs.Prelude.{◌≤◌, length, OnOk};
+ghost use Rattle.cil_member_updates.specs.Common.{count_now, rows_in, AreAtLeast, AreMoved, ArePolicies, EvaluatesSet, HasStayed, is_given, lowered_by, MovesSet, raised_by, Reads, Stays, was_given};
 
 use crate::side::{Reading, Stayed};
 use crate::visits::turned_words;
@@ -13,7 +13,8 @@ use std::alloc::{AllocError, Allocator};
 // How many symbols a word has.
 const WORD: usize = 64;
 
-/// Lowers the counters by what a set statement gave, if it is read as it was, or raises them by what it gives now.
+/// Lowers the counters by what a set statement gave, if it is read as it was, or raises them by
+/// what it gives now.
 pub fn give_set<A: Allocator + Copy>(
     rows: &mut MemberRows<A>,
     alloc: A,
@@ -22,9 +23,9 @@ pub fn give_set<A: Allocator + Copy>(
 ) -> Result<(), AllocError>
     requires reads { Reads reading.now rows.old }
     requires room { length reading.now.symbols.now ≤ rows_in rows.old }
-    requires above { (a t : ℕ) → lowered reading.now.when (given_of reading.now) a t ≤ count_now rows.old a t }
-    ensures now { OnOk result (AreMoved (lowered reading.now.when (given_of reading.now))
-        (raised reading.now.when (given_of reading.now)) (count_now rows.old) (count_now rows.new)) }
+    requires above { AreAtLeast (lowered_by reading.now) (count_now rows.old) }
+    ensures now { OnOk result (AreMoved (lowered_by reading.now) (raised_by reading.now)
+        (count_now rows.old) (count_now rows.new)) }
     ensures stays { Stays rows.old rows.new meter.old meter.new }
     ensures evaluations { OnOk result (EvaluatesSet reading.now meter.old meter.new) }
 {
@@ -35,8 +36,9 @@ pub fn give_set<A: Allocator + Copy>(
     Ok(())
 }
 
-/// Moves the counters from what a set statement gave in the old policy to what it gives in the new one. Only the words are gone over in
-/// which the two policies keep different types, or an attribute that the statement mentions had a step, and those between them.
+/// Moves the counters from what a set statement gave in the old policy to what it gives in the new
+/// one. Only the words are gone over in which the two policies keep different types, or an
+/// attribute that the statement mentions had a step, and those between them.
 pub fn move_set<A: Allocator + Copy>(
     rows: &mut MemberRows<A>,
     alloc: A,
@@ -46,8 +48,9 @@ pub fn move_set<A: Allocator + Copy>(
     requires policies { ArePolicies stayed.now.policies.now }
     requires stayed { HasStayed stayed.now rows.old }
     requires room { length stayed.now.policies.now.symbols.now ≤ rows_in rows.old }
-    requires above { (a t : ℕ) → was_given stayed.now a t ≤ count_now rows.old a t }
-    ensures now { OnOk result (AreMoved (was_given stayed.now) (is_given stayed.now) (count_now rows.old) (count_now rows.new)) }
+    requires above { AreAtLeast (was_given stayed.now) (count_now rows.old) }
+    ensures now { OnOk result (AreMoved (was_given stayed.now) (is_given stayed.now)
+        (count_now rows.old) (count_now rows.new)) }
     ensures stays { Stays rows.old rows.new meter.old meter.new }
     ensures evaluations { OnOk result (MovesSet stayed.now meter.old meter.new) }
 {

@@ -19,7 +19,16 @@ pub struct Side<'p, A: Allocator = Global> {
     pub kept: &'p KeptTypes<A>,
 }
 
-/// The set statement of a policy at a place. Its expression is read by who was a member before the steps, or is one now.
+/// An old policy and a new one, with their set statements matched.
+#[derive(Clone, Copy)]
+pub struct Sides<'p, A: Allocator = Global> {
+    pub old: Side<'p, A>,
+    pub new: Side<'p, A>,
+    pub matching: &'p SetMatching<A>,
+}
+
+/// The set statement of a policy at a place. Its expression is read by who was a member before the
+/// steps, or is one now.
 #[derive(Clone, Copy)]
 pub struct Reading<'p, A: Allocator = Global> {
     pub symbols: &'p Symbols<A>,
@@ -28,7 +37,8 @@ pub struct Reading<'p, A: Allocator = Global> {
     pub place: usize,
 }
 
-/// Two policies with their set statements matched, and words outside which they keep the same types.
+/// Two policies with their set statements matched, and words outside which they keep the same
+/// types.
 #[derive(Clone, Copy)]
 pub struct Policies<'p, A: Allocator = Global> {
     pub symbols: &'p Symbols<A>,

@@ -1,9 +1,7 @@
 //! Where a set statement may hold a type, word by word.
 
-ghost use Rattle.std.specs.Prelude.{◌<◌, ◌==◌, ℕ, Contains, IsTrue, length};
-ghost use Rattle.cil_resolve.specs.Below.{is_element_below};
-ghost use Rattle.cil_resolve.specs.Numbers.{element_of};
-ghost use Rattle.cil_member_updates.specs.Common.{meaning_in, sets_in, count_before, count_now, IsOutside, AreTurnedAt, IsTurnedAt, element_holds, IsUnchanged, AreUnchanged, CoverNames, IsSide, ArePolicies, AreVisits, CoversStayed, HasStayed, held_by, Reads, set_of, Cover};
+ghost use Rattle.std.specs.Prelude.{◌<◌, ◌==◌, ℕ, Contains, length};
+ghost use Rattle.cil_member_updates.specs.Common.{sets_in, IsOutside, IsSide, AreNamesTurned, AreNamesUnchanged, ArePolicies, AreVisits, CoversNames, CoversStayed, HasStayed, IsNameIn, IsNameTurned, IsNameUnchanged, Reads, held_by, name_holds, named_by, set_of, Cover};
 ghost use Rattle.cil_specs.specs.Expr.{leaves};
 
 use crate::side::{Reading, Stayed};
@@ -37,11 +35,9 @@ fn element_bits<A: Allocator>(
     word: usize,
 ) -> u64
     requires reads { Reads reading.now rows.now }
-    requires below { IsTrue (is_element_below (length reading.now.side.now.resolved.now.names.items) element) }
-    requires named { Contains (leaves (set_of reading.now).expr)
-        (element_of reading.now.side.now.resolved.now.names.items element) }
-    ensures { Cover (element_holds reading.now.symbols.now (meaning_in reading.now.side.now.resolved.now)
-        (element_of reading.now.side.now.resolved.now.names.items element)) word result }
+    requires below { IsNameIn reading.now element }
+    requires named { Contains (leaves (set_of reading.now).expr) (named_by reading.now element) }
+    ensures { Cover (name_holds reading.now element) word result }
 {
     match element {
         Element::Type(ty) => symbol_bit(reading.side.numbering.symbol(ty).unwrap(), word),
@@ -57,7 +53,7 @@ fn element_bits<A: Allocator>(
 /// The types of a word that one of the names of a set statement may hold.
 fn name_bits<A: Allocator>(reading: &Reading<'_, A>, rows: &MemberRows<A>, word: usize) -> u64
     requires { Reads reading.now rows.now }
-    ensures { CoverNames reading.now.symbols.now reading.now.side.now.resolved.now reading.now.place word result }
+    ensures { CoversNames reading.now word result }
 {
     let names = reading.side.resolved.set_names(reading.place);
     let mut bits = 0;
@@ -80,7 +76,8 @@ pub fn reached<A: Allocator>(reading: &Reading<'_, A>, rows: &MemberRows<A>, wor
     }
 }
 
-/// The types of a word that became members of the attribute of a name of an expression, or are none any more.
+/// The types of a word that became members of the attribute of a name of an expression, or are none
+/// any more.
 fn changed_by_name<A: Allocator>(
     reading: &Reading<'_, A>,
     rows: &MemberRows<A>,
@@ -88,11 +85,9 @@ fn changed_by_name<A: Allocator>(
     word: usize,
 ) -> u64
     requires side { IsSide reading.now.symbols.now reading.now.side.now }
-    requires below { IsTrue (is_element_below (length reading.now.side.now.resolved.now.names.items) element) }
-    ensures unchanged { IsUnchanged reading.now.symbols.now (count_before rows.now) (count_now rows.now)
-        (element_of reading.now.side.now.resolved.now.names.items element) word result }
-    ensures turned { IsTurnedAt reading.now.symbols.now (count_before rows.now) (count_now rows.now)
-        (element_of reading.now.side.now.resolved.now.names.items element) word result }
+    requires below { IsNameIn reading.now element }
+    ensures unchanged { IsNameUnchanged reading.now rows.now element word result }
+    ensures turned { IsNameTurned reading.now rows.now element word result }
 {
     match element {
         Element::Type(_) => 0,
@@ -103,7 +98,8 @@ fn changed_by_name<A: Allocator>(
     }
 }
 
-/// The types of a word that became members of an attribute that a set statement mentions, or are none any more.
+/// The types of a word that became members of an attribute that a set statement mentions, or are
+/// none any more.
 fn changed_by_names<A: Allocator>(
     reading: &Reading<'_, A>,
     rows: &MemberRows<A>,
@@ -111,10 +107,8 @@ fn changed_by_names<A: Allocator>(
 ) -> u64
     requires side { IsSide reading.now.symbols.now reading.now.side.now }
     requires within { reading.now.place < length (sets_in reading.now.side.now.resolved.now) }
-    ensures unchanged { AreUnchanged reading.now.symbols.now (count_before rows.now) (count_now rows.now)
-        reading.now.side.now.resolved.now reading.now.place word result }
-    ensures turned { AreTurnedAt reading.now.symbols.now (count_before rows.now) (count_now rows.now)
-        reading.now.side.now.resolved.now reading.now.place word result }
+    ensures unchanged { AreNamesUnchanged reading.now rows.now word result }
+    ensures turned { AreNamesTurned reading.now rows.now word result }
 {
     let names = reading.side.resolved.set_names(reading.place);
     let mut bits = 0;
@@ -124,7 +118,8 @@ fn changed_by_names<A: Allocator>(
     bits
 }
 
-/// The types of a word that one of two policies keeps alone, or that turned in an attribute that a set statement of both mentions.
+/// The types of a word that one of two policies keeps alone, or that turned in an attribute that a
+/// set statement of both mentions.
 fn touched<A: Allocator>(stayed: &Stayed<'_, A>, rows: &MemberRows<A>, word: usize) -> u64
     requires stayed { HasStayed stayed.now rows.now }
     ensures { AreVisits stayed.now word result }
@@ -145,8 +140,8 @@ fn touched<A: Allocator>(stayed: &Stayed<'_, A>, rows: &MemberRows<A>, word: usi
     changed | (old.kept.word(word) ^ new.kept.word(word))
 }
 
-/// The types of a word at which a set statement that both policies have may hold in one of them alone: of those that are touched, the
-/// types that it may hold in either.
+/// The types of a word at which a set statement that both policies have may hold in one of them
+/// alone: of those that are touched, the types that it may hold in either.
 pub fn unsettled<A: Allocator>(stayed: &Stayed<'_, A>, rows: &MemberRows<A>, word: usize) -> u64
     requires stayed { HasStayed stayed.now rows.now }
     ensures { AreVisits stayed.now word result }
@@ -177,10 +172,8 @@ fn words_of_name<A: Allocator>(
     element: Element,
 ) -> Words
     requires side { IsSide reading.now.symbols.now reading.now.side.now }
-    requires below { IsTrue (is_element_below (length reading.now.side.now.resolved.now.names.items) element) }
-    ensures { (w : ℕ) → IsOutside result w
-        → IsUnchanged reading.now.symbols.now (count_before rows.now) (count_now rows.now)
-        (element_of reading.now.side.now.resolved.now.names.items element) w 0 }
+    requires below { IsNameIn reading.now element }
+    ensures { (w : ℕ) → IsOutside result w → IsNameUnchanged reading.now rows.now element w 0 }
 {
     match element {
         Element::Type(_) => Words::none(),
@@ -194,9 +187,7 @@ fn words_of_name<A: Allocator>(
 fn words_of_names<A: Allocator>(reading: &Reading<'_, A>, rows: &MemberRows<A>) -> Words
     requires side { IsSide reading.now.symbols.now reading.now.side.now }
     requires within { reading.now.place < length (sets_in reading.now.side.now.resolved.now) }
-    ensures { (w : ℕ) → IsOutside result w
-        → AreUnchanged reading.now.symbols.now (count_before rows.now) (count_now rows.now)
-        reading.now.side.now.resolved.now reading.now.place w 0 }
+    ensures { (w : ℕ) → IsOutside result w → AreNamesUnchanged reading.now rows.now w 0 }
 {
     let names = reading.side.resolved.set_names(reading.place);
     let mut words = Words::none();
@@ -206,8 +197,9 @@ fn words_of_names<A: Allocator>(reading: &Reading<'_, A>, rows: &MemberRows<A>) 
     words
 }
 
-/// Words outside which a set statement of both policies holds the same in both: those in which the policies keep different types or an
-/// attribute that it mentions had a step, and what stands between them.
+/// Words outside which a set statement of both policies holds the same in both: those in which the
+/// policies keep different types or an attribute that it mentions had a step, and what stands
+/// between them.
 pub fn turned_words<A: Allocator>(stayed: &Stayed<'_, A>, rows: &MemberRows<A>) -> Words
     requires policies { ArePolicies stayed.now.policies.now }
     requires stayed { HasStayed stayed.now rows.now }

@@ -1,7 +1,7 @@
 //! One set statement at the types of a word.
 
-ghost use Rattle.std.specs.Prelude.{◌≡◌, ◌/◌, ◌<◌, ◌≤◌, ◌^◌, ℕ, length, OnOk};
-ghost use Rattle.cil_member_updates.specs.Common.{count_now, rows_in, IsMoved, EvaluatesWord, given_of, HasStayed, is_given, lowered, MovesWord, raised, Reads, Stays, was_given};
+ghost use Rattle.std.specs.Prelude.{◌<◌, ◌≤◌, ◌^◌, length, OnOk};
+ghost use Rattle.cil_member_updates.specs.Common.{count_now, rows_in, IsAtLeast, IsMoved, EvaluatesWord, HasStayed, is_given, lowered_by, MovesWord, raised_by, Reads, Stays, was_given};
 
 use crate::masks::masked;
 use crate::side::{Reading, Stayed, row_of};
@@ -11,7 +11,8 @@ use cil_member_rows::MemberRows;
 use cil_resolve::Meter;
 use std::alloc::{AllocError, Allocator};
 
-/// Lowers the counters of a word by what a set statement gave, if it is read as it was, or raises them by what it gives now.
+/// Lowers the counters of a word by what a set statement gave, if it is read as it was, or raises
+/// them by what it gives now.
 pub fn give_word<A: Allocator + Copy>(
     rows: &mut MemberRows<A>,
     alloc: A,
@@ -22,9 +23,9 @@ pub fn give_word<A: Allocator + Copy>(
     requires reads { Reads reading.now rows.old }
     requires word { word < 2 ^ 58 }
     requires room { length reading.now.symbols.now ≤ rows_in rows.old }
-    requires above { (a t : ℕ) → t / 64 ≡ word → lowered reading.now.when (given_of reading.now) a t ≤ count_now rows.old a t }
-    ensures now { OnOk result (IsMoved word (lowered reading.now.when (given_of reading.now))
-        (raised reading.now.when (given_of reading.now)) (count_now rows.old) (count_now rows.new)) }
+    requires above { IsAtLeast word (lowered_by reading.now) (count_now rows.old) }
+    ensures now { OnOk result (IsMoved word (lowered_by reading.now) (raised_by reading.now)
+        (count_now rows.old) (count_now rows.new)) }
     ensures stays { Stays rows.old rows.new meter.old meter.new }
     ensures evaluations { EvaluatesWord reading.now word meter.old meter.new }
 {
@@ -40,7 +41,8 @@ pub fn give_word<A: Allocator + Copy>(
     }
 }
 
-/// Moves the counters of a word from what a set statement gave in the old policy to what it gives in the new one.
+/// Moves the counters of a word from what a set statement gave in the old policy to what it gives
+/// in the new one.
 pub fn move_word<A: Allocator + Copy>(
     rows: &mut MemberRows<A>,
     alloc: A,
@@ -51,8 +53,9 @@ pub fn move_word<A: Allocator + Copy>(
     requires stayed { HasStayed stayed.now rows.old }
     requires word { word < 2 ^ 58 }
     requires room { length stayed.now.policies.now.symbols.now ≤ rows_in rows.old }
-    requires above { (a t : ℕ) → t / 64 ≡ word → was_given stayed.now a t ≤ count_now rows.old a t }
-    ensures now { OnOk result (IsMoved word (was_given stayed.now) (is_given stayed.now) (count_now rows.old) (count_now rows.new)) }
+    requires above { IsAtLeast word (was_given stayed.now) (count_now rows.old) }
+    ensures now { OnOk result (IsMoved word (was_given stayed.now) (is_given stayed.now)
+        (count_now rows.old) (count_now rows.new)) }
     ensures stays { Stays rows.old rows.new meter.old meter.new }
     ensures evaluations { MovesWord stayed.now word meter.old meter.new }
 {

@@ -1,3 +1,4 @@
 pub mod Reach
 pub mod Moves
 pub mod Pieces
+pub mod Amounts

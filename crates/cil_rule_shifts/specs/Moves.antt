@@ -9,6 +9,7 @@ use Rattle.cil_rule_shifts.specs.declared.head.RuleHead.{RuleHead}
 use Rattle.cil_rule_shifts.specs.declared.reach.Reach.{Reach}
 use Rattle.cil_rule_shifts.specs.declared.targets.Targets.{Targets}
 use Rattle.cil_rule_shifts.specs.declared.turned.TurnedReach.{TurnedReach}
+use Rattle.cil_rule_shifts.specs.declared.turned.TurnedTargets.{TurnedTargets}
 
 -- whether exactly one of two is true
 abbrev pub differs : Bool → Bool → Bool
@@ -44,6 +45,10 @@ pub record AreTurned (was is : ℕ → Bool) (words : List ℕ) : Type 0 where
   pub rising : IsStrictlyIncreasing words
   pub short : (i : ℕ) → i < length words → slice_index words i < 2 ^ 58
   pub rest : (t : ℕ) → has_word words t ≡ false → differs (was t) (is t) ≡ false
+
+-- those of a source
+abbrev pub AreTurnedAt : {A : Type 0} → ℕ → TurnedTargets A → Type 0
+AreTurnedAt source t = AreTurned (takes t.was.now source) (takes t.is.now source) t.words.now
 
 -- those of the targets of each source
 abbrev pub AreTurnedForAll : {A : Type 0} → Targets A → Targets A → List ℕ → Type 0

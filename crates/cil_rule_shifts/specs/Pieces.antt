@@ -1,13 +1,14 @@
 -- The targets of a source, word by word.
-use Rattle.std.specs.Prelude.{◌+◌, ◌<◌, ◌≤◌, ◌^◌, ◌&&◌, ℕ, Bool, List, [], ◌∷◌, nat_lt}
+use Rattle.std.specs.Prelude.{◌≡◌, ◌+◌, ◌<◌, ◌≤◌, ◌^◌, ◌&&◌, ℕ, Bool, List, [], ◌∷◌, nat_lt}
 use Rattle.std.specs.List.{All}
 use Rattle.cil_lines.specs.Line.{hit}
 use Rattle.cil_keyed_lines.specs.Keyed.{is_key}
 use Rattle.cil_keyed_lines.specs.declared.symbol_key.SymbolKey.{SymbolKey}
-use Rattle.cil_rule_shifts.specs.Reach.{is_line}
+use Rattle.cil_rule_shifts.specs.Reach.{is_line, takes}
 use Rattle.cil_rule_shifts.specs.declared.head.RuleHead.{RuleHead}
 use Rattle.cil_rule_shifts.specs.declared.pieces.Piece.{Piece}
 use Rattle.cil_rule_shifts.specs.declared.pieces.Pieces.{Pieces}
+use Rattle.cil_rule_shifts.specs.declared.targets.Targets.{Targets}
 use Rattle.cil_sums.specs.Rises.{RisesBy}
 
 -- how many of the pieces have a target
@@ -32,6 +33,10 @@ put_in key pieces p = is_key key p.0 && has_target pieces p.1
 pub record ArePieces {A : Type 0} (pieces : Pieces A) : Type 0 where
   pub apart : AreApart pieces.list.items
   pub counted : (key : SymbolKey) → RisesBy (put_in key pieces.list.items) 0 pieces.ones
+
+-- they have the targets of a source
+abbrev pub ArePiecesOf : {A B : Type 0} → ℕ → Targets A → Pieces B → Type 0
+ArePiecesOf source targets pieces = (t : ℕ) → has_target pieces.list.items t ≡ takes targets source t
 
 -- whether a counter is one of the targets in the lines of a source for a rule's kind, class and permissions
 abbrev pub put_for : ℕ → RuleHead → List Piece → SymbolKey × ℕ → Bool

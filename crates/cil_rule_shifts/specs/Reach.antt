@@ -1,9 +1,9 @@
 -- What a rule gives, by symbols.
-use Rattle.std.specs.Prelude.{◌≡◌, ◌≤◌, ◌+◌, ◌-◌, ◌*◌, ◌^◌, ◌/◌, ◌&&◌, ◌==◌, ◌<◌, ℕ, Bool, true, false, List, cond, nat_eq, nat_lt}
+use Rattle.std.specs.Prelude.{◌≡◌, ◌≤◌, ◌+◌, ◌-◌, ◌*◌, ◌^◌, ◌/◌, ◌&&◌, ◌==◌, ◌<◌, ℕ, Bool, true, false, List, MatchOption, Option, cond, nat_eq, nat_lt}
 use Rattle.std.specs.Int.{bit_at}
 use Rattle.std.specs.List.{list_any}
 use Rattle.cil_lines.specs.Line.{Counters, count_of}
-use Rattle.cil_keyed_lines.specs.Keyed.{is_kind}
+use Rattle.cil_keyed_lines.specs.Keyed.{is_key, is_kind}
 use Rattle.cil_keyed_lines.specs.declared.symbol_key.SymbolKey.{SymbolKey}
 use Rattle.cil_rule_shifts.specs.declared.head.RuleHead.{RuleHead}
 use Rattle.cil_rule_shifts.specs.declared.targets.Targets.{Targets}
@@ -44,9 +44,25 @@ has_head head key = is_kind head.kind key.kind && ((head.class == key.class) && 
 abbrev pub gives : {A : Type 0} → Reach A → RuleHead → SymbolKey → ℕ → Bool
 gives reach head key t = reaches reach key.source t && has_head head key
 
+-- the same of a pair
+abbrev pub gives_at : {A : Type 0} → Reach A → RuleHead → SymbolKey × ℕ → Bool
+gives_at reach head p = gives reach head p.0 p.1
+
+-- from a source
+abbrev pub gives_from : {A : Type 0} → ℕ → Reach A → RuleHead → SymbolKey × ℕ → Bool
+gives_from source reach head p = (source == p.0.source) && gives_at reach head p
+
 -- whether a key is of a source and a rule's kind, class and permissions
 abbrev pub is_line : ℕ → RuleHead → SymbolKey → Bool
 is_line source head key = (source == key.source) && has_head head key
+
+-- whether the source of a key has a target, in the line of that key
+abbrev pub takes_in : {A : Type 0} → SymbolKey → Targets A → SymbolKey × ℕ → Bool
+takes_in key targets p = is_key key p.0 && takes targets key.source p.1
+
+-- whether a source has it, in its lines for a rule's kind, class and permissions
+abbrev pub takes_for : {A : Type 0} → ℕ → RuleHead → Targets A → SymbolKey × ℕ → Bool
+takes_for source head targets p = is_line source head p.0 && takes targets source p.1
 
 -- the targets of each source are numbers of the code
 abbrev pub AreShort : {A : Type 0} → Targets A → Type 0
@@ -67,6 +83,10 @@ pub record IsNext (test : ℕ → Bool) (from next : ℕ) : Type 0 where
 abbrev pub NoneFrom : (ℕ → Bool) → ℕ → Type 0
 NoneFrom test from = (n : ℕ) → from ≤ n → test n ≡ false
 
+-- that number, if there is one
+abbrev pub IsFirst : (ℕ → Bool) → ℕ → Option ℕ → Type 0
+IsFirst test from found = MatchOption found (NoneFrom test from) (IsNext test from)
+
 -- the first word from one on that has a number at which the test holds
 pub record IsNextWord (test : ℕ → Bool) (from next : ℕ) : Type 0 where
   pub from_on : from ≤ next
@@ -76,6 +96,10 @@ pub record IsNextWord (test : ℕ → Bool) (from next : ℕ) : Type 0 where
 -- it holds at no number of a word from one on
 abbrev pub NoneFromWord : (ℕ → Bool) → ℕ → Type 0
 NoneFromWord test from = (t : ℕ) → from ≤ t / 64 → test t ≡ false
+
+-- that word, if there is one
+abbrev pub IsFirstWord : (ℕ → Bool) → ℕ → Option ℕ → Type 0
+IsFirstWord test from found = MatchOption found (NoneFromWord test from) (IsNextWord test from)
 
 -- the bits of a word of those of its numbers at which the test holds
 abbrev pub IsMask : (ℕ → Bool) → ℕ → ℕ → Type 0

@@ -1,8 +1,8 @@
 //! The targets of a source, word by word.
 
-ghost use Rattle.std.specs.Prelude.{◌≡◌, ℕ, IfOk};
-ghost use Rattle.cil_rule_shifts.specs.Pieces.{has_target, ArePieces};
-ghost use Rattle.cil_rule_shifts.specs.Reach.{takes, AreShort};
+ghost use Rattle.std.specs.Prelude.{IfOk};
+ghost use Rattle.cil_rule_shifts.specs.Pieces.{ArePieces, ArePiecesOf};
+ghost use Rattle.cil_rule_shifts.specs.Reach.{AreShort};
 
 use crate::targets::Targets;
 use std::alloc::{AllocError, Allocator, Global};
@@ -14,7 +14,8 @@ pub struct Piece {
     pub mask: u64,
 }
 
-/// The targets of a source, word by word, and how many they are, or the greatest `u128` where they are more.
+/// The targets of a source, word by word, and how many they are, or the greatest `u128` where they
+/// are more.
 #[derive(Drop)]
 pub struct Pieces<A: Allocator = Global> {
     pub list: Vec<Piece, A>,
@@ -29,7 +30,7 @@ pub fn pieces_of<A: Allocator + Copy>(
 ) -> Result<Pieces<A>, AllocError>
     requires { AreShort targets.now }
     ensures pieces { IfOk result ArePieces }
-    ensures targets { IfOk result (λ p. (t : ℕ) → has_target p.list.items t ≡ takes targets.now source t) }
+    ensures targets { IfOk result (ArePiecesOf source targets.now) }
 {
     let mut list = Vec::new(alloc);
     let mut ones: u128 = 0;

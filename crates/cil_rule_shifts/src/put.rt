@@ -1,10 +1,11 @@
 //! The counters of keyed lines, raised by what a rule gives, for good.
 
-ghost use Rattle.std.specs.Prelude.{◌≡◌, ◌+◌, ◌&&◌, ℕ, false, IfOk, OnOk};
+ghost use Rattle.std.specs.Prelude.{◌≡◌, false, IfOk, OnOk};
 ghost use Rattle.std.specs.List.Sorted.{IsStrictlyIncreasing};
-ghost use Rattle.cil_keyed_lines.specs.Keyed.{count_now, is_key, steps_in, RiseAtMost};
-ghost use Rattle.cil_rule_shifts.specs.Pieces.{has_target, put_for, AreApart, ArePieces};
-ghost use Rattle.cil_rule_shifts.specs.Reach.{gives, is_line, one_if, takes, AreShort, IsShort};
+ghost use Rattle.cil_keyed_lines.specs.Keyed.{steps_in, RiseAtMost};
+ghost use Rattle.cil_rule_shifts.specs.Amounts.{ones, AreRaised};
+ghost use Rattle.cil_rule_shifts.specs.Pieces.{put_for, put_in, AreApart, ArePieces, ArePiecesOf};
+ghost use Rattle.cil_rule_shifts.specs.Reach.{gives_at, AreShort, IsShort};
 ghost use Rattle.cil_sums.specs.Rises.{RisesBy};
 
 use crate::head::RuleHead;
@@ -15,7 +16,8 @@ use crate::turned::is_itself;
 use cil_keyed_lines::{KeyedLines, SymbolKey};
 use std::alloc::{AllocError, Allocator};
 
-/// Adds 1 to the counter of each target of a list of pieces in the line of a key. After an out of memory those of some pieces have risen.
+/// Adds 1 to the counter of each target of a list of pieces in the line of a key. After an out of
+/// memory those of some pieces have risen.
 fn put_line<A: Allocator + Copy>(
     lines: &mut KeyedLines<A>,
     alloc: A,
@@ -25,9 +27,8 @@ fn put_line<A: Allocator + Copy>(
     requires pieces { AreApart pieces.now }
     requires settled { steps_in lines.old ≡ 0 }
     ensures settled { steps_in lines.new ≡ 0 }
-    ensures now { OnOk result ((k : SymbolKey) (t : ℕ) → count_now lines.new k t
-        ≡ count_now lines.old k t + one_if (is_key key k && has_target pieces.now t)) }
-    ensures bounded { RiseAtMost lines.old lines.new (λ k t. one_if (is_key key k && has_target pieces.now t)) }
+    ensures now { OnOk result (AreRaised lines.old lines.new (ones (put_in key pieces.now))) }
+    ensures bounded { RiseAtMost lines.old lines.new (ones (put_in key pieces.now)) }
 {
     for piece in pieces {
         lines.add(alloc, key, piece.word, piece.mask)?;
@@ -35,7 +36,8 @@ fn put_line<A: Allocator + Copy>(
     Ok(())
 }
 
-/// Adds 1 to the counter of each target of a source in its lines for a head's kind, class and permissions, and answers how many these are.
+/// Adds 1 to the counter of each target of a source in its lines for a head's kind, class and
+/// permissions, and answers how many these are.
 fn put_source<A: Allocator + Copy>(
     lines: &mut KeyedLines<A>,
     alloc: A,
@@ -47,10 +49,10 @@ fn put_source<A: Allocator + Copy>(
     requires pieces { ArePieces pieces.now }
     requires settled { steps_in lines.old ≡ 0 }
     ensures settled { steps_in lines.new ≡ 0 }
-    ensures now { OnOk result ((k : SymbolKey) (t : ℕ) → count_now lines.new k t
-        ≡ count_now lines.old k t + one_if (is_line source head.entry k && has_target pieces.now.list.items t)) }
+    ensures now { OnOk result (AreRaised lines.old lines.new
+        (ones (put_for source head.entry pieces.now.list.items))) }
     ensures bounded { RiseAtMost lines.old lines.new
-        (λ k t. one_if (is_line source head.entry k && has_target pieces.now.list.items t)) }
+        (ones (put_for source head.entry pieces.now.list.items)) }
     ensures given { IfOk result (RisesBy (put_for source head.entry pieces.now.list.items) 0) }
 {
     let mut given: u128 = 0;
@@ -67,8 +69,8 @@ fn put_source<A: Allocator + Copy>(
     Ok(given)
 }
 
-/// Makes pieces those of the targets of a source. Where the target of each source is itself, they are made anew; otherwise they are those
-/// of every source.
+/// Makes pieces those of the targets of a source. Where the target of each source is itself, they
+/// are made anew; otherwise they are those of every source.
 fn turn_pieces<A: Allocator + Copy>(
     pieces: &mut Pieces<A>,
     alloc: A,
@@ -78,9 +80,9 @@ fn turn_pieces<A: Allocator + Copy>(
 ) -> Result<(), AllocError>
     requires short { AreShort targets.now }
     requires pieces { ArePieces pieces.old }
-    requires same { itself ≡ false → (t : ℕ) → has_target pieces.old.list.items t ≡ takes targets.now source t }
+    requires same { itself ≡ false → ArePiecesOf source targets.now pieces.old }
     ensures pieces { ArePieces pieces.new }
-    ensures targets { OnOk result ((t : ℕ) → has_target pieces.new.list.items t ≡ takes targets.now source t) }
+    ensures targets { OnOk result (ArePiecesOf source targets.now pieces.new) }
     ensures same { itself ≡ false → pieces.new ≡ pieces.old }
 {
     if itself {
@@ -89,9 +91,10 @@ fn turn_pieces<A: Allocator + Copy>(
     Ok(())
 }
 
-/// Adds 1 to the counter of each access that a rule gives by its kind, class and permissions, and answers how many these are, or the greatest
-/// `u128` where they are more. The permissions are symbols, each once and in their order. There is no step to take back, and none is
-/// logged. After an out of memory some counters may have risen, none by more than 1.
+/// Adds 1 to the counter of each access that a rule gives by its kind, class and permissions, and
+/// answers how many these are, or the greatest `u128` where they are more. The permissions are
+/// symbols, each once and in their order. There is no step to take back, and none is logged. After
+/// an out of memory some counters may have risen, none by more than 1.
 pub fn put_rule<A: Allocator + Copy>(
     lines: &mut KeyedLines<A>,
     alloc: A,
@@ -102,10 +105,9 @@ pub fn put_rule<A: Allocator + Copy>(
     requires is { IsShort is.now }
     requires settled { steps_in lines.old ≡ 0 }
     ensures settled { steps_in lines.new ≡ 0 }
-    ensures now { OnOk result ((k : SymbolKey) (t : ℕ) → count_now lines.new k t
-        ≡ count_now lines.old k t + one_if (gives is.now head.entry k t)) }
-    ensures bounded { RiseAtMost lines.old lines.new (λ k t. one_if (gives is.now head.entry k t)) }
-    ensures given { IfOk result (RisesBy (λ (p : SymbolKey × ℕ). gives is.now head.entry p.0 p.1) 0) }
+    ensures now { OnOk result (AreRaised lines.old lines.new (ones (gives_at is.now head.entry))) }
+    ensures bounded { RiseAtMost lines.old lines.new (ones (gives_at is.now head.entry)) }
+    ensures given { IfOk result (RisesBy (gives_at is.now head.entry) 0) }
 {
     let none = Reach::none(alloc);
     let itself = is_itself(&is.targets);

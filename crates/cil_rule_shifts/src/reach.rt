@@ -1,8 +1,8 @@
 //! What a rule reaches.
 
-ghost use Rattle.std.specs.Prelude.{◌≡◌, ◌≤◌, ◌^◌, ℕ, false, true, MatchOption};
+ghost use Rattle.std.specs.Prelude.{◌≡◌, ℕ, false, true};
 ghost use Rattle.cil_rule_shifts.specs.Moves.{has_either};
-ghost use Rattle.cil_rule_shifts.specs.Reach.{has_source, is_present, IsMask, IsNext, IsNextWord, IsShort, NoneFrom, NoneFromWord};
+ghost use Rattle.cil_rule_shifts.specs.Reach.{has_source, IsFirst, IsFirstWord, IsMask, IsShort};
 
 use crate::targets::Targets;
 use crate::words::earlier;
@@ -12,8 +12,8 @@ use std::alloc::{Allocator, Global};
 // How many symbols a word has.
 const WORD: usize = 64;
 
-/// The sources of a rule, by symbols, as those whose counters in a line are above 0, and its targets. A policy without the rule has
-/// no source of it.
+/// The sources of a rule, by symbols, as those whose counters in a line are above 0, and its
+/// targets. A policy without the rule has no source of it.
 #[derive(Drop)]
 pub struct Reach<A: Allocator = Global> {
     pub sources: Line<A>,
@@ -44,7 +44,7 @@ fn mask<A: Allocator>(was: &Reach<A>, is: &Reach<A>, all: bool, word: usize) -> 
 
 /// The first word from one on with a source of either.
 fn next_word<A: Allocator>(was: &Reach<A>, is: &Reach<A>, from: usize) -> Option<usize>
-    ensures { MatchOption result (NoneFromWord (has_either true was.now is.now) from) (IsNextWord (has_either true was.now is.now) from) }
+    ensures { IsFirstWord (has_either true was.now is.now) from result }
 {
     earlier(
         was.sources.next_present_word(from),
@@ -61,7 +61,7 @@ fn next_turned_word<A: Allocator>(
 ) -> Option<usize>
     requires was { IsShort was.now }
     requires is { IsShort is.now }
-    ensures { MatchOption result (NoneFromWord (has_either all was.now is.now) from) (IsNextWord (has_either all was.now is.now) from) }
+    ensures { IsFirstWord (has_either all was.now is.now) from result }
 {
     let mut at = from;
     while let Some(word) = next_word(was, is, at) {
@@ -82,7 +82,7 @@ pub fn next_source<A: Allocator>(
 ) -> Option<usize>
     requires was { IsShort was.now }
     requires is { IsShort is.now }
-    ensures { MatchOption result (NoneFrom (has_either all was.now is.now) from) (IsNext (has_either all was.now is.now) from) }
+    ensures { IsFirst (has_either all was.now is.now) from result }
 {
     let bits = mask(was, is, all, from / WORD) >> (from % WORD);
     if bits != 0 {

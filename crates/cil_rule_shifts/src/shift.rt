@@ -1,10 +1,11 @@
 //! The counters of keyed lines, moved from what a rule gave to what it gives.
 
 ghost use Rattle.std.specs.List.Sorted.{IsStrictlyIncreasing};
-ghost use Rattle.std.specs.Prelude.{◌≡◌, ◌+◌, ◌≤◌, ◌<◌, ◌^◌, ◌/◌, ◌&&◌, ◌||◌, ◌==◌, ℕ, false, true, IfOk, OnOk};
-ghost use Rattle.cil_keyed_lines.specs.Keyed.{count_before, count_now, is_key, RiseAtMost, StaysBefore};
-ghost use Rattle.cil_rule_shifts.specs.Moves.{moves_for, moves_in, moves_of, moves_where, AreTurned, IsTurned};
-ghost use Rattle.cil_rule_shifts.specs.Reach.{gives, is_line, one_if, reaches, takes, AreShort, IsShort};
+ghost use Rattle.std.specs.Prelude.{◌≡◌, ◌≤◌, ℕ, false, true, IfOk, OnOk};
+ghost use Rattle.cil_keyed_lines.specs.Keyed.{count_now, RiseAtMost, StaysBefore};
+ghost use Rattle.cil_rule_shifts.specs.Amounts.{ones, AreMoved, CountAtLeast};
+ghost use Rattle.cil_rule_shifts.specs.Moves.{moves_for, moves_in, moves_of, moves_where, AreTurnedAt, IsTurned};
+ghost use Rattle.cil_rule_shifts.specs.Reach.{gives_at, gives_from, one_if, reaches, takes, takes_for, takes_in, AreShort, IsShort};
 ghost use Rattle.cil_sums.specs.Rises.{RisesBy};
 
 use crate::head::RuleHead;
@@ -14,23 +15,23 @@ use crate::turned::{TurnedReach, TurnedTargets, common_words, may_differ, turned
 use cil_keyed_lines::{KeyedLines, SymbolKey};
 use std::alloc::{AllocError, Allocator};
 
-/// Moves the counters of a line from the targets that its source had to those that it has, in the words in which they
-/// differ, and answers how many moved.
+/// Moves the counters of a line from the targets that its source had to those that it has, in the
+/// words in which they differ, and answers how many moved.
 fn shift_line<A: Allocator + Copy>(
     lines: &mut KeyedLines<A>,
     alloc: A,
     key: SymbolKey,
     turned: TurnedTargets<'_, A>,
 ) -> Result<u128, AllocError>
-    requires words { AreTurned (takes turned.was.now key.source) (takes turned.is.now key.source) turned.words.now }
-    requires counted { (t : ℕ) → one_if (takes turned.was.now key.source t) ≤ count_now lines.old key t }
-    ensures now { OnOk result ((k : SymbolKey) (t : ℕ) →
-        count_now lines.new k t + one_if (is_key key k && takes turned.entry.was.now key.source t)
-        ≡ count_now lines.old k t + one_if (is_key key k && takes turned.entry.is.now key.source t)) }
-    ensures bounded { RiseAtMost lines.old lines.new
-        (λ k t. one_if (is_key key k && takes turned.entry.is.now key.source t)) }
+    requires words { AreTurnedAt key.source turned }
+    requires counted { (t : ℕ)
+        → one_if (takes turned.was.now key.source t) ≤ count_now lines.old key t }
+    ensures now { OnOk result (AreMoved lines.old lines.new
+        (ones (takes_in key turned.entry.was.now)) (ones (takes_in key turned.entry.is.now))) }
+    ensures bounded { RiseAtMost lines.old lines.new (ones (takes_in key turned.entry.is.now)) }
     ensures before { StaysBefore lines.old lines.new }
-    ensures moved { IfOk result (RisesBy (moves_in key turned.entry.was.now turned.entry.is.now) 0) }
+    ensures moved { IfOk result
+        (RisesBy (moves_in key turned.entry.was.now turned.entry.is.now) 0) }
 {
     let mut moved: u128 = 0;
     for word in turned.words {
@@ -42,8 +43,9 @@ fn shift_line<A: Allocator + Copy>(
     Ok(moved)
 }
 
-/// Moves the counters of the lines of a source, of a kind, a class and its permissions, from the targets that it had to
-/// those that it has, in the words in which they differ, and answers how many moved.
+/// Moves the counters of the lines of a source, of a kind, a class and its permissions, from the
+/// targets that it had to those that it has, in the words in which they differ, and answers how
+/// many moved.
 fn shift_lines<A: Allocator + Copy>(
     lines: &mut KeyedLines<A>,
     alloc: A,
@@ -52,16 +54,16 @@ fn shift_lines<A: Allocator + Copy>(
     turned: TurnedTargets<'_, A>,
 ) -> Result<u128, AllocError>
     requires permissions { IsStrictlyIncreasing head.permissions.now }
-    requires words { AreTurned (takes turned.was.now source) (takes turned.is.now source) turned.words.now }
-    requires counted { (k : SymbolKey) (t : ℕ) →
-        one_if (is_line source head k && takes turned.was.now source t) ≤ count_now lines.old k t }
-    ensures now { OnOk result ((k : SymbolKey) (t : ℕ) →
-        count_now lines.new k t + one_if (is_line source head.entry k && takes turned.entry.was.now source t)
-        ≡ count_now lines.old k t + one_if (is_line source head.entry k && takes turned.entry.is.now source t)) }
+    requires words { AreTurnedAt source turned }
+    requires counted { CountAtLeast lines.old (ones (takes_for source head turned.was.now)) }
+    ensures now { OnOk result (AreMoved lines.old lines.new
+        (ones (takes_for source head.entry turned.entry.was.now))
+        (ones (takes_for source head.entry turned.entry.is.now))) }
     ensures bounded { RiseAtMost lines.old lines.new
-        (λ k t. one_if (is_line source head.entry k && takes turned.entry.is.now source t)) }
+        (ones (takes_for source head.entry turned.entry.is.now)) }
     ensures before { StaysBefore lines.old lines.new }
-    ensures moved { IfOk result (RisesBy (moves_for source head.entry turned.entry.was.now turned.entry.is.now) 0) }
+    ensures moved { IfOk result
+        (RisesBy (moves_for source head.entry turned.entry.was.now turned.entry.is.now) 0) }
 {
     let mut moved: u128 = 0;
     for permission in head.permissions {
@@ -95,9 +97,11 @@ fn targets_of<'r, A: Allocator>(
     }
 }
 
-/// Whether a source has the targets of a rule: where it is a source of it, or where the rule has no targets.
+/// Whether a source has the targets of a rule: where it is a source of it, or where the rule has no
+/// targets.
 fn has_targets<A: Allocator>(reach: &Reach<A>, source: usize) -> bool
-    ensures { result ≡ true → (t : ℕ) → reaches reach.now source t ≡ takes reach.now.targets source t }
+    ensures { result ≡ true → (t : ℕ)
+        → reaches reach.now source t ≡ takes reach.now.targets source t }
 {
     match reach.targets {
         Targets::Nothing => true,
@@ -105,8 +109,9 @@ fn has_targets<A: Allocator>(reach: &Reach<A>, source: usize) -> bool
     }
 }
 
-/// Moves the counters of the lines of a source from what a rule gave it to what it gives it, and answers how many
-/// moved. The words in which the targets of every source differ are told, if there are such.
+/// Moves the counters of the lines of a source from what a rule gave it to what it gives it, and
+/// answers how many moved. The words in which the targets of every source differ are told, if there
+/// are such.
 fn shift_source<A: Allocator + Copy>(
     lines: &mut KeyedLines<A>,
     alloc: A,
@@ -116,15 +121,15 @@ fn shift_source<A: Allocator + Copy>(
 ) -> Result<u128, AllocError>
     requires permissions { IsStrictlyIncreasing head.permissions.now }
     requires turned { IsTurned turned }
-    requires counted { (k : SymbolKey) (t : ℕ) →
-        one_if ((source == k.source) && gives turned.was.now head k t) ≤ count_now lines.old k t }
-    ensures now { OnOk result ((k : SymbolKey) (t : ℕ) →
-        count_now lines.new k t + one_if ((source == k.source) && gives turned.entry.was.now head.entry k t)
-        ≡ count_now lines.old k t + one_if ((source == k.source) && gives turned.entry.is.now head.entry k t)) }
+    requires counted { CountAtLeast lines.old (ones (gives_from source turned.was.now head)) }
+    ensures now { OnOk result (AreMoved lines.old lines.new
+        (ones (gives_from source turned.entry.was.now head.entry))
+        (ones (gives_from source turned.entry.is.now head.entry))) }
     ensures bounded { RiseAtMost lines.old lines.new
-        (λ k t. one_if ((source == k.source) && gives turned.entry.is.now head.entry k t)) }
+        (ones (gives_from source turned.entry.is.now head.entry)) }
     ensures before { StaysBefore lines.old lines.new }
-    ensures moved { IfOk result (RisesBy (moves_of source turned.entry.was.now turned.entry.is.now head.entry) 0) }
+    ensures moved { IfOk result
+        (RisesBy (moves_of source turned.entry.was.now turned.entry.is.now head.entry) 0) }
 {
     let none = Targets::Nothing;
     let was = targets_of(turned.was, &none, source);
@@ -146,9 +151,9 @@ fn shift_source<A: Allocator + Copy>(
     }
 }
 
-/// Moves the counters of what a rule gave by its kind, class and permissions to those of what it gives, source by
-/// source, and answers how many moved. The words in which the targets of every source differ are given, if there are
-/// such.
+/// Moves the counters of what a rule gave by its kind, class and permissions to those of what it
+/// gives, source by source, and answers how many moved. The words in which the targets of every
+/// source differ are given, if there are such.
 fn shift_sources<A: Allocator + Copy>(
     lines: &mut KeyedLines<A>,
     alloc: A,
@@ -157,13 +162,15 @@ fn shift_sources<A: Allocator + Copy>(
 ) -> Result<u128, AllocError>
     requires permissions { IsStrictlyIncreasing head.permissions.now }
     requires turned { IsTurned turned }
-    requires counted { (k : SymbolKey) (t : ℕ) → one_if (gives turned.was.now head k t) ≤ count_now lines.old k t }
-    ensures now { OnOk result ((k : SymbolKey) (t : ℕ) →
-        count_now lines.new k t + one_if (gives turned.entry.was.now head.entry k t)
-        ≡ count_now lines.old k t + one_if (gives turned.entry.is.now head.entry k t)) }
-    ensures bounded { RiseAtMost lines.old lines.new (λ k t. one_if (gives turned.entry.is.now head.entry k t)) }
+    requires counted { CountAtLeast lines.old (ones (gives_at turned.was.now head)) }
+    ensures now { OnOk result (AreMoved lines.old lines.new
+        (ones (gives_at turned.entry.was.now head.entry))
+        (ones (gives_at turned.entry.is.now head.entry))) }
+    ensures bounded { RiseAtMost lines.old lines.new
+        (ones (gives_at turned.entry.is.now head.entry)) }
     ensures before { StaysBefore lines.old lines.new }
-    ensures moved { IfOk result (RisesBy (moves_where turned.entry.was.now turned.entry.is.now head.entry) 0) }
+    ensures moved { IfOk result
+        (RisesBy (moves_where turned.entry.was.now turned.entry.is.now head.entry) 0) }
 {
     let all = may_differ(turned.common);
     let mut moved: u128 = 0;
@@ -176,10 +183,10 @@ fn shift_sources<A: Allocator + Copy>(
     Ok(moved)
 }
 
-/// Moves the counters of what a rule gave by its kind, class and permissions to those of what it gives, and answers how
-/// many moved, or the greatest `u128` where they are more. The permissions are symbols, each once and in their order.
-/// After an out of memory some counters may have moved; their steps are logged. No counter is more than 1 above what it
-/// was then, either.
+/// Moves the counters of what a rule gave by its kind, class and permissions to those of what it
+/// gives, and answers how many moved, or the greatest `u128` where they are more. The permissions
+/// are symbols, each once and in their order. After an out of memory some counters may have moved;
+/// their steps are logged. No counter is more than 1 above what it was then, either.
 pub fn shift_rule<A: Allocator + Copy>(
     lines: &mut KeyedLines<A>,
     alloc: A,
@@ -190,11 +197,11 @@ pub fn shift_rule<A: Allocator + Copy>(
     requires permissions { IsStrictlyIncreasing head.permissions.now }
     requires was { IsShort was.now }
     requires is { IsShort is.now }
-    requires counted { (k : SymbolKey) (t : ℕ) → one_if (gives was.now head k t) ≤ count_now lines.old k t }
-    ensures now { OnOk result ((k : SymbolKey) (t : ℕ) → count_now lines.new k t + one_if (gives was.now head.entry k t)
-        ≡ count_now lines.old k t + one_if (gives is.now head.entry k t)) }
-    ensures bounded { RiseAtMost lines.old lines.new (λ k t. one_if (gives is.now head.entry k t)) }
-    ensures before { (k : SymbolKey) (t : ℕ) → count_before lines.new k t ≡ count_before lines.old k t }
+    requires counted { CountAtLeast lines.old (ones (gives_at was.now head)) }
+    ensures now { OnOk result (AreMoved lines.old lines.new
+        (ones (gives_at was.now head.entry)) (ones (gives_at is.now head.entry))) }
+    ensures bounded { RiseAtMost lines.old lines.new (ones (gives_at is.now head.entry)) }
+    ensures before { StaysBefore lines.old lines.new }
     ensures moved { IfOk result (RisesBy (moves_where was.now is.now head.entry) 0) }
 {
     let common = common_words(alloc, &was.targets, &is.targets)?;

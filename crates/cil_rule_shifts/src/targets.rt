@@ -1,8 +1,8 @@
 //! The targets of a rule.
 
-ghost use Rattle.std.specs.Prelude.{◌≡◌, ◌/◌, ◌^◌, ◌==◌, ◌<◌, ◌&&◌, ℕ, MatchOption};
+ghost use Rattle.std.specs.Prelude.{◌≡◌, ◌/◌, ◌^◌, ◌==◌, ◌<◌, ◌&&◌, ℕ};
 ghost use Rattle.cil_lines.specs.Line.{hit};
-ghost use Rattle.cil_rule_shifts.specs.Reach.{one_if, takes, IsNextWord, NoneFromWord};
+ghost use Rattle.cil_rule_shifts.specs.Reach.{one_if, takes, IsFirstWord};
 
 use cil_lines::Line;
 use std::alloc::{Allocator, Global};
@@ -10,7 +10,8 @@ use std::alloc::{Allocator, Global};
 // How many targets a word has.
 const WORD: usize = 64;
 
-/// The targets of each source of a rule, by symbols: none, the source itself, or those whose counters in a line are above 0.
+/// The targets of each source of a rule, by symbols: none, the source itself, or those whose
+/// counters in a line are above 0.
 #[derive(Drop)]
 pub enum Targets<A: Allocator = Global> {
     Nothing,
@@ -22,7 +23,8 @@ impl<A: Allocator> Targets<A> {
     /// The targets of a word that a source has.
     pub fn word(&self, source: usize, word: usize) -> u64
         requires { word < 2 ^ 58 }
-        ensures { (t : ℕ) → hit word result t ≡ one_if ((t / 64 == word) && takes self.now source t) }
+        ensures { (t : ℕ)
+            → hit word result t ≡ one_if ((t / 64 == word) && takes self.now source t) }
     {
         match self {
             Targets::Nothing => 0,
@@ -33,7 +35,7 @@ impl<A: Allocator> Targets<A> {
 
     /// The first word from one on in which a source has a target.
     pub fn next_word(&self, source: usize, from: usize) -> Option<usize>
-        ensures { MatchOption result (NoneFromWord (takes self.now source) from) (IsNextWord (takes self.now source) from) }
+        ensures { IsFirstWord (takes self.now source) from result }
     {
         match self {
             Targets::Nothing => None,

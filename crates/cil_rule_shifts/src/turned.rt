@@ -17,7 +17,8 @@ pub struct TurnedTargets<'t, A: Allocator = Global> {
     pub is: &'t Targets<A>,
 }
 
-/// What a rule reached and reaches, and the words in which the targets of every source differ, if there are such.
+/// What a rule reached and reaches, and the words in which the targets of every source differ, if
+/// there are such.
 #[derive(Clone, Copy)]
 pub struct TurnedReach<'t, A: Allocator = Global> {
     pub common: &'t Option<Vec<usize, A>>,
@@ -34,7 +35,8 @@ pub fn turned_words<A: Allocator + Copy>(
 ) -> Result<Vec<usize, A>, AllocError>
     requires was { AreShort was.now }
     requires is { AreShort is.now }
-    ensures { IfOk result (λ words. AreTurned (takes was.now source) (takes is.now source) words.items) }
+    ensures { IfOk result
+        (λ words. AreTurned (takes was.now source) (takes is.now source) words.items) }
 {
     let mut words = Vec::new(alloc);
     let mut from = 0;
@@ -59,7 +61,8 @@ pub fn is_itself<A: Allocator>(targets: &Targets<A>) -> bool
     }
 }
 
-/// The words in which the targets of every source differ, or none where they may depend on the source.
+/// The words in which the targets of every source differ, or none where they may depend on the
+/// source.
 pub fn common_words<A: Allocator + Copy>(
     alloc: A,
     was: &Targets<A>,
@@ -67,7 +70,8 @@ pub fn common_words<A: Allocator + Copy>(
 ) -> Result<Option<Vec<usize, A>>, AllocError>
     requires was { AreShort was.now }
     requires is { AreShort is.now }
-    ensures { IfOk result (λ common. IfSome common (λ words. AreTurnedForAll was.now is.now words.items)) }
+    ensures { IfOk result
+        (λ common. IfSome common (λ words. AreTurnedForAll was.now is.now words.items)) }
 {
     match (is_itself(was), is_itself(is)) {
         (true, true) => Ok(Some(Vec::new(alloc))),

@@ -23,9 +23,10 @@ pub use Rattle.cil_sums.proofs.SumLemmas.{across-none, across-some, alone-none, 
 pub use Rattle.cil_sums.specs.Rises.{RisesBy, below}
 pub use Rattle.cil_sums.specs.Sums.{ArePlaces, across, alone, sum_below}
 pub use Rattle.cil_table_updates.specs.Adjusted.{AdjustsAtLeast, AdjustsAtMost, Counter, comes, gives_it, goes, replaces, shifts, swaps, turns}
+pub use Rattle.cil_table_updates.specs.Changed.{StaysRule}
 pub use Rattle.cil_table_updates.specs.Given.{gives_by}
 unfoldable pub use Rattle.cil_table_updates.specs.Given.{given}
-pub use Rattle.cil_table_updates.specs.Moves.{AreReplaced, HaveSameHead, IsReplaced, gives_as, lists}
+pub use Rattle.cil_table_updates.specs.Moves.{AreReplaced, HaveHeads, HaveSameHead, IsReplaced, gives_as, lists}
 pub use Rattle.cil_table_updates.specs.Policies.{AreApart, IsPolicy, count_named}
 pub use Rattle.cil_table_updates.specs.declared.policy.Policy.{Policy}
 pub use Rattle.std.proofs.Common.{Bool, Equal, Err, Less, List, None, Ok, OnOk, Option, Result, Some, [], add-one, add-zero, ap, arith, bytes_eq, cond, count_by, false, get_or, inl, inr, length, map, min, nat_lt, not, refl, slice_get, slice_index, slice_index_or, subst, suc, sym, take, take_all, true, true≢false, zero, zero-add, ℕ, ◌&&◌, ◌++◌, ◌+◌, ◌-◌, ◌<◌, ◌==◌, ◌^◌, ◌||◌, ◌↔◌, ◌∙◌, ◌∷◌, ◌≡◌, ◌≢◌, ◌≤◌, ◌⊎◌}

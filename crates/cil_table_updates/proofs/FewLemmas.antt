@@ -9,7 +9,7 @@ use Rattle.cil_specs.proofs.ReportLemmas.{atom_total}
 use Rattle.cil_delta_specs.specs.Work.{AdjustsFew}
 
 -- what ascends is apart
-atoms-apart : (atoms : List Atom) → IsStrictlySortedBy atom_cmp atoms → AllPairs (λ a b. a ≢ b) atoms
+pub atoms-apart : (atoms : List Atom) → IsStrictlySortedBy atom_cmp atoms → AllPairs (λ a b. a ≢ b) atoms
 atoms-apart atoms ordered i j d less within same =
     never (sym (Less-from_sorted atom_cmp atoms i j d ordered less within) ∙ ap (atom_cmp (get_or atoms i d)) (sym same) ∙ tied_itself atom_total (get_or atoms i d))
   where

@@ -15,6 +15,10 @@ passes-at p xs i x all is =
 pub read-at : {X : Type 0} (read xs : List X) (i : ℕ) (x : X) → read ≡ xs → i < length xs → x ≡ get_or read i x → slice_get xs i ≡ Some x
 read-at read xs i x same within is = slice_get_read xs (length xs) i x refl within (is ∙ ap (λ l. get_or l i x) same)
 
+-- where one does
+pub read-there : {X : Type 0} (read xs : List X) (i : ℕ) (x y : X) → read ≡ xs → slice_get xs i ≡ Some y → x ≡ get_or read i x → slice_get xs i ≡ Some x
+read-there read xs i x y same there is = read-at read xs i x same (slice_get_within xs i y there) is
+
 -- an answer of none, where each is told exactly
 pub never : (P : ℕ → Type 0) (result : Option ℕ) → ((j : ℕ) → (result ≡ Some j) ↔ P j) → result ≡ None → (j : ℕ) → P j → ⊥
 never P result tells none j holds = by (sym none ∙ (tells j).1 holds)

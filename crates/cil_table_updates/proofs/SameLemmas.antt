@@ -1,5 +1,5 @@
 -- The same rule of two policies, by symbols.
-use Rattle.cil_table_updates.proofs.Common.{◌≡◌, ℕ, ◌<◌, ◌==◌, ◌&&◌, ◌||◌, Bool, true, false, List, [], ◌∷◌, length, map, nat_lt, slice_index, slice_index_or, Some, refl, ap, ◌∙◌, list_all, list_any, eq-eqb, ltb-true, content_of, kind_index, is_kind, SymbolKey, is_element_below, is_rule_below, is_target_below, element_of, resolved_target_of, rule_of, NumberedRule, Resolved, aims_by, covers_by, has_by, is-below, symbol-named, HaveSameHead, AreApart}
+use Rattle.cil_table_updates.proofs.Common.{◌≡◌, ℕ, ◌<◌, ◌==◌, ◌&&◌, ◌||◌, true, List, [], ◌∷◌, length, map, nat_lt, slice_index, slice_index_or, Some, refl, ap, ◌∙◌, list_all, list_any, eq-eqb, ltb-true, content_of, kind_index, is_kind, SymbolKey, is_element_below, is_rule_below, is_target_below, element_of, resolved_target_of, rule_of, NumberedRule, Resolved, aims_by, covers_by, has_by, is-below, symbol-named, HaveSameHead, AreApart}
 use Rattle.cil_parse.specs.Lexicon.{AreNumbersOf}
 use Rattle.cil_expression.specs.declared.expression.Element.{Element}
 use Rattle.cil_expression.specs.declared.expression.Element.TheVariants.{«Type», Attribute}
@@ -7,6 +7,7 @@ use Rattle.cil_keyed_lines.proofs.KeyedLemmas.{one_kind}
 use Rattle.cil_resolve.specs.Sets.{name_in}
 use Rattle.cil_resolve.specs.declared.numbered.ResolvedTarget.{ResolvedTarget}
 use Rattle.cil_resolve.specs.declared.numbered.ResolvedTarget.TheVariants as targets
+use Rattle.cil_table_updates.proofs.GivenLemmas.{and-first, and-second}
 
 module _ {A B : Type 0} (old : Resolved A) (new : Resolved B) (names : List (List ℕ)) (apart : AreApart names) (old_symbols new_symbols : List ℕ)
     (old_numbers : AreNumbersOf names old_symbols old.names.items) (new_numbers : AreNumbersOf names new_symbols new.names.items) where
@@ -42,15 +43,6 @@ module _ {A B : Type 0} (old : Resolved A) (new : Resolved B) (names : List (Lis
       ap (λ s. (p == s) || list_any (λ q. p == slice_index old_symbols q) ps)
       (same-symbol m n (ltb-true m (length old.names.items) (and-first (nat_lt m (length old.names.items)) _ low)) (ltb-true n (length new.names.items) (and-first (nat_lt n (length new.names.items)) _ below)) (cc same))
       ∙ ap (λ b. (p == slice_index new_symbols n) || b) (same-permissions p ps qs (and-second (nat_lt m (length old.names.items)) _ low) (and-second (nat_lt n (length new.names.items)) _ below) (cc same))
-    where
-      and-first : (a b : Bool) → (a && b) ≡ true → a ≡ true
-      and-first true b e = refl
-      and-first false b e = e
-
-      and-second : (a b : Bool) → (a && b) ≡ true → b ≡ true
-      and-second true b e = e
-      and-second false true e = refl
-      and-second false false e = e
 
   module _ (rule : NumberedRule A) (other : NumberedRule B) (low : is_rule_below (length old.names.items) rule ≡ true) (below : is_rule_below (length new.names.items) other ≡ true)
       (same : content_of (rule_of old.modules.items old.names.items rule) ≡ content_of (rule_of new.modules.items new.names.items other)) where

@@ -5,9 +5,12 @@ use Rattle.cil_specs.specs.Meaning.{Meaning}
 use Rattle.cil_specs.specs.Rule.{Rule, Atom}
 use Rattle.cil_delta_specs.specs.Dirty.{AreDirtyGives}
 use Rattle.cil_delta_specs.specs.Work.{raised}
+use Rattle.cil_sums.specs.Rises.{RisesBy}
 use Rattle.cil_sums.specs.Sums.{across, alone}
 use Rattle.cil_keyed_lines.specs.declared.symbol_key.SymbolKey.{SymbolKey}
 use Rattle.cil_matching.specs.Matching.{Matched}
+use Rattle.cil_resolve.specs.Meter.{adjustments_in}
+use Rattle.cil_resolve.specs.declared.meter.Meter.{Meter}
 use Rattle.cil_resolve.specs.declared.numbered.NumberedRule.{NumberedRule}
 use Rattle.cil_rule_shifts.specs.Moves.{differs}
 use Rattle.cil_rule_shifts.specs.declared.reach.Reach.{Reach}
@@ -58,3 +61,7 @@ pub record AdjustsAtMost (old new : Meaning) (before after : ℕ) : Type 0 where
 abbrev pub AdjustsAtLeast : (SymbolKey → ℕ → ℕ) → (SymbolKey → ℕ → ℕ) → ℕ → ℕ → Type 0
 AdjustsAtLeast was is before after =
     (counters : List Counter) → All (λ c. was c.key c.target ≢ is c.key c.target) counters → AllPairs (λ c d. c ≢ d) counters → raised before (length counters) ≤ after
+
+-- the adjustments of a meter rise by the counters of which a test holds
+abbrev pub Adjusts : {X : Type 0} → (X → Bool) → (before after : Meter) → Type 0
+Adjusts test before after = RisesBy test (adjustments_in before) (adjustments_in after)

@@ -22,6 +22,10 @@ abbrev pub gives_as : {A B : Type 0} → List ℕ → NumberedRule A → Reach B
 gives_as symbols rule reach key t = is_kind rule.kind key.kind
     && (reaches reach key.source t && ((slice_index symbols rule.class == key.class) && lists symbols rule key.permission))
 
+-- the names of a rule of a policy have symbols
+abbrev pub IsRuleOf : {A : Type 0} → Policy A → NumberedRule A → Type 0
+IsRuleOf p rule = IsTrue (is_rule_below (length p.numbering.now.symbols) rule)
+
 -- No symbol behind those of all names is that of a name of the policy, or that of a member.
 pub record IsKnown {A : Type 0} (p : Policy A) : Type 0 where
   pub symbols : p.numbering.now.count ≤ p.members.symbols
@@ -37,6 +41,10 @@ pub record HaveSameHead {A B : Type 0} (old_symbols : List ℕ) (old : NumberedR
   pub kind : old.kind ≡ new.kind
   pub class : slice_index old_symbols old.class ≡ slice_index new_symbols new.class
   pub permissions : (p : ℕ) → lists old_symbols old p ≡ lists new_symbols new p
+
+-- rules of two policies have
+abbrev pub HaveHeads : {A : Type 0} → (old : Policy A) → NumberedRule A → (new : Policy A) → NumberedRule A → Type 0
+HaveHeads old old_rule new new_rule = HaveSameHead old.numbering.now.symbols old_rule new.numbering.now.symbols new_rule
 
 -- Rules of these numbers have the same head, and cover the same where they are asked by the same members. The members of the one are
 -- those before the steps, and those of the other the ones now.

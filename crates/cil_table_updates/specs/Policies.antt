@@ -1,11 +1,15 @@
 -- Two policies by symbols, and how many of their rules give an access.
-use Rattle.std.specs.Prelude.{◌≡◌, ◌≤◌, ℕ, List, cond, length, Some, slice_get}
+use Rattle.std.specs.Prelude.{◌≡◌, ◌≤◌, ℕ, IsTrue, List, cond, length, Some, slice_get}
+use Rattle.std.specs.List.{list_all}
 use Rattle.cil_specs.specs.Meaning.{Meaning, count_of}
+use Rattle.cil_keyed_lines.specs.Keyed.{Keyed, count_now}
+use Rattle.cil_resolve.specs.Below.{is_rule_below}
 use Rattle.cil_parse.specs.Lexicon.{AreNumbersOf}
 use Rattle.cil_keyed_lines.specs.declared.symbol_key.SymbolKey.{SymbolKey}
 use Rattle.cil_resolve.specs.Resolved.{meaning_in}
 use Rattle.cil_rule_reach.specs.Named.{atom_of, is_named, AreMembersOf}
 use Rattle.cil_rule_reach.specs.Reaches.{members_of}
+use Rattle.cil_table_updates.specs.declared.policy.Named.{Named}
 use Rattle.cil_table_updates.specs.declared.policy.Policy.{Policy}
 
 -- how many rules of a policy give the access whose names have these symbols; 0 where one of them is the symbol of no name
@@ -21,3 +25,16 @@ pub record IsPolicy {A : Type 0} (names : List (List ℕ)) (p : Policy A) : Type
   pub numbers : AreNumbersOf names p.numbering.now.symbols p.resolved.now.names.items
   pub members : AreMembersOf names (meaning_in p.resolved.now) (members_of p.members)
   pub symbols : length names ≤ p.members.symbols
+
+-- the counters of lines say how many rules of a policy give each access
+abbrev pub AreCountsOf : List (List ℕ) → Meaning → Keyed → Type 0
+AreCountsOf names meaning lines = (key : SymbolKey) (t : ℕ) → count_now lines key t ≡ count_named names meaning key t
+
+-- The names of a policy have these symbols.
+pub record HasSymbols {A : Type 0} (names : List (List ℕ)) (p : Named A) : Type 0 where
+  pub numbers : AreNumbersOf names p.numbering.now.symbols p.resolved.now.names.items
+  pub count : p.numbering.now.count ≤ length names
+
+-- the rules of a policy have names that it has
+abbrev pub AreRulesBelow : {A : Type 0} → Policy A → Type 0
+AreRulesBelow p = IsTrue (list_all (is_rule_below (length p.resolved.now.names.items)) p.resolved.now.rules.items)

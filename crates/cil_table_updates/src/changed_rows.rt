@@ -1,10 +1,8 @@
 //! The attributes whose members changed.
 
-ghost use Rattle.std.specs.Prelude.{◌≡◌, ◌<◌, ◌≤◌, ◌==◌, ◌||◌, ℕ, IsTrue, false, true, length, nat_lt, IfOk};
-ghost use Rattle.cil_table_updates.specs.Common.{is_element_below, is_rule_below, is_target_below, aims_by, covers_by, has_by};
-ghost use Rattle.cil_member_rows.specs.Rows.{count_before, count_now};
-ghost use Rattle.cil_keyed_lines.specs.declared.symbol_key.SymbolKey.{SymbolKey};
-ghost use Rattle.cil_table_updates.specs.Changed.{is_marked};
+ghost use Rattle.std.specs.Prelude.{◌≡◌, ◌<◌, ◌==◌, ◌||◌, ℕ, IsTrue, true, length, IfOk};
+ghost use Rattle.cil_resolve.specs.Below.{is_element_below, is_rule_below, is_target_below};
+ghost use Rattle.cil_table_updates.specs.Changed.{StaysElement, StaysRow, StaysRule, StaysTarget, is_marked};
 
 use cil_member_rows::MemberRows;
 use cil_resolve::{Element, NumberedRule, ResolvedTarget};
@@ -34,7 +32,8 @@ impl<'r, A: Allocator> Model for ChangedRows<'r, A> {
 /// Marks the row of a change.
 fn mark(marks: &mut [bool], row: usize)
     ensures len { length marks.new ≡ length marks.old }
-    ensures marked { (a : ℕ) → a < length marks.old → is_marked marks.new a ≡ (is_marked marks.old a || (row == a)) }
+    ensures marked { (a : ℕ) → a < length marks.old
+        → is_marked marks.new a ≡ (is_marked marks.old a || (row == a)) }
 {
     if row < marks.len() {
         marks[row] = true;
@@ -56,9 +55,10 @@ impl<'r, A: Allocator + Copy> ChangedRows<'r, A> {
 }
 
 impl<A: Allocator> ChangedRows<'_, A> {
-    /// Whether the attribute of a symbol has the same members as before the steps. No is the answer where it may have others.
+    /// Whether the attribute of a symbol has the same members as before the steps. No is the answer
+    /// where it may have others.
     pub fn stays(&self, symbol: usize) -> bool
-        ensures { result ≡ true → (t : ℕ) → nat_lt 0 (count_before self.now symbol t) ≡ nat_lt 0 (count_now self.now symbol t) }
+        ensures { result ≡ true → StaysRow self.now symbol }
     {
         match self.marks.get(symbol) {
             Some(marked) => !*marked,
@@ -69,7 +69,7 @@ impl<A: Allocator> ChangedRows<'_, A> {
     /// Whether an element of a policy holds the same types as before the steps.
     fn element_stays(&self, numbering: &Numbering<A>, element: Element) -> bool
         requires { IsTrue (is_element_below (length numbering.now.symbols) element) }
-        ensures { result ≡ true → (t : ℕ) → has_by (count_before self.now) numbering.now.symbols element t ≡ has_by (count_now self.now) numbering.now.symbols element t }
+        ensures { result ≡ true → StaysElement self.now numbering.now.symbols element }
     {
         match element {
             Element::Type(_) => true,
@@ -80,7 +80,7 @@ impl<A: Allocator> ChangedRows<'_, A> {
     /// Whether a target of a policy takes in the same types as before the steps.
     fn target_stays(&self, numbering: &Numbering<A>, target: ResolvedTarget) -> bool
         requires { IsTrue (is_target_below (length numbering.now.symbols) target) }
-        ensures { result ≡ true → (s t : ℕ) → aims_by (count_before self.now) numbering.now.symbols target s t ≡ aims_by (count_now self.now) numbering.now.symbols target s t }
+        ensures { result ≡ true → StaysTarget self.now numbering.now.symbols target }
     {
         match target {
             ResolvedTarget::Itself => true,
@@ -88,10 +88,11 @@ impl<A: Allocator> ChangedRows<'_, A> {
         }
     }
 
-    /// Whether a rule of a policy covers the same accesses as before the steps. No is the answer where it may cover others.
+    /// Whether a rule of a policy covers the same accesses as before the steps. No is the answer
+    /// where it may cover others.
     pub fn rule_stays(&self, numbering: &Numbering<A>, rule: &NumberedRule<A>) -> bool
         requires { IsTrue (is_rule_below (length numbering.now.symbols) rule.now) }
-        ensures { result ≡ true → (key : SymbolKey) (t : ℕ) → covers_by (count_before self.now) numbering.now.symbols rule.now key t ≡ covers_by (count_now self.now) numbering.now.symbols rule.now key t }
+        ensures { result ≡ true → StaysRule self.now numbering.now.symbols rule.now }
     {
         let source = self.element_stays(numbering, rule.source);
         let target = self.target_stays(numbering, rule.target);

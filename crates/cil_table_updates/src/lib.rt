@@ -9,5 +9,5 @@ mod policy;
 mod updating;
 
 pub use loading::load;
-pub use policy::Named;
+pub use policy::{Named, Policies, Shared};
 pub use updating::update;

@@ -1,8 +1,7 @@
 //! One of two policies, by symbols.
 
-ghost use Rattle.std.specs.Prelude.{◌≡◌, ◌≤◌, IsTrue, length};
-ghost use Rattle.cil_table_updates.specs.Common.{AreNumbersOf, is_rule_below, meaning_in, AreMembersOf, members_at, members_of, IsReady, AreApart, IsPolicy};
-ghost use Rattle.std.specs.List.{list_all};
+ghost use Rattle.std.specs.Prelude.{◌≡◌, IsTrue};
+ghost use Rattle.cil_table_updates.specs.Common.{meaning_in, AreMembersOf, members_at, members_of, IsReady, AreApart, AreRulesBelow, HasSymbols, IsPolicy};
 ghost use Rattle.cil_resolve.specs.Consistent.{is_consistent};
 
 use cil_member_rows::MemberRows;
@@ -18,7 +17,21 @@ pub struct Named<'p, A: Allocator = Global> {
     pub numbering: &'p Numbering<A>,
 }
 
-/// The same with the members of its attributes by symbols.
+/// An old policy and a new one.
+#[derive(Clone, Copy)]
+pub struct Policies<'p, A: Allocator = Global> {
+    pub old: Named<'p, A>,
+    pub new: Named<'p, A>,
+}
+
+/// The names of the symbols, and the rows that hold the members of attributes.
+#[derive(Clone, Copy)]
+pub struct Shared<'p, A: Allocator = Global> {
+    pub names: &'p Symbols<A>,
+    pub rows: &'p MemberRows<A>,
+}
+
+/// A policy with the symbols of its names and the members of its attributes by symbols.
 #[derive(Drop)]
 pub struct Policy<'p, A: Allocator = Global> {
     pub resolved: &'p Resolved<A>,
@@ -28,18 +41,18 @@ pub struct Policy<'p, A: Allocator = Global> {
 
 impl<'p, A: Allocator> Policy<'p, A> {
     /// A policy whose members rows hold before the steps or now.
-    pub fn of(named: Named<'p, A>, names: &Symbols<A>, rows: &'p MemberRows<A>, when: When) -> Self
-        requires numbers { AreNumbersOf names.now named.numbering.now.symbols named.resolved.now.names.items }
-        requires symbols { named.numbering.now.count ≤ length names.now }
-        requires members { AreMembersOf names.now (meaning_in named.resolved.now) (members_at when rows.now) }
+    pub fn of(named: Named<'p, A>, shared: Shared<'p, A>, when: When) -> Self
+        requires symbols { HasSymbols shared.names.now named }
+        requires members { AreMembersOf
+            shared.names.now (meaning_in named.resolved.now) (members_at when shared.rows.now) }
         ensures resolved { result.resolved.now ≡ named.entry.resolved.now }
         ensures numbering { result.numbering.now ≡ named.entry.numbering.now }
-        ensures members { members_of result.members ≡ members_at when rows.now }
-        ensures policy { IsPolicy names.now result }
+        ensures members { members_of result.members ≡ members_at when shared.entry.rows.now }
+        ensures policy { IsPolicy shared.entry.names.now result }
         ensures ready { IsReady result }
-        ensures below { IsTrue (list_all (is_rule_below (length result.resolved.now.names.items)) result.resolved.now.rules.items) }
+        ensures below { AreRulesBelow result }
         ensures consistent { IsTrue (is_consistent (meaning_in result.resolved.now)) }
-        ensures apart { AreApart names.now }
+        ensures apart { AreApart shared.entry.names.now }
     {
         resolved_is_consistent(named.resolved);
         named.resolved.rules();
@@ -47,9 +60,9 @@ impl<'p, A: Allocator> Policy<'p, A> {
             resolved: named.resolved,
             numbering: named.numbering,
             members: SymbolMembers {
-                rows,
+                rows: shared.rows,
                 when,
-                symbols: names.len(),
+                symbols: shared.names.len(),
             },
         }
     }

@@ -1,4 +1,4 @@
-use Rattle.cil_member_updates.proofs.Common.{refl, arith, none-some, on_ok_weaker, count_now, evaluations_in, meaning_in, old_in, set_at, alone-none, alone-some, within-none, within-weaker, Goes, IsHeld, IsKept, MayGo, nothing, AreMoved, gave_in, given}
+use Rattle.cil_member_updates.proofs.Common.{refl, arith, none-some, on_ok_weaker, count_now, evaluations_in, meaning_in, old_in, set_at, alone-none, alone-some, within-none, within-weaker, GoesIn, IsHeld, IsKept, MayGoIn, nothing, AreMoved, gave_in, given}
 use Rattle.cil_member_updates.proofs.MovedLemmas.{stays-first}
 use Rattle.cil_member_updates.proofs.passes.lower_gone_set.Goals as goal
 
@@ -29,7 +29,7 @@ returns-in-None-clause-now g c =
 pub returns-in-Some-clause-evaluations : goal.returns-in-Some-clause-evaluations
 returns-in-Some-clause-evaluations g c =
     let p = c.args.policies.now in
-    within-none (MayGo p.symbols.now (old_in p) p.matching.now c.args.i) (Goes p.symbols.now (old_in p) p.matching.now c.args.i) (evaluations_in c.args.meter.now)
+    within-none (MayGoIn p c.args.i) (GoesIn p c.args.i) (evaluations_in c.args.meter.now)
     (λ t goes. goes.0 c.in-Some.field-0 ((c.in-Some.ensures c.in-Some.field-0).0 refl))
 
 pub returns-in-None-clause-evaluations : goal.returns-in-None-clause-evaluations
@@ -37,6 +37,6 @@ returns-in-None-clause-evaluations g c =
     let p = c.args.policies.now in
     let r = old_in p in
     on_ok_weaker c.give_set.result
-    (within-weaker (IsKept p.symbols.now (meaning_in r)) (IsHeld p.symbols.now (meaning_in r) (set_at r c.args.i)) (MayGo p.symbols.now r p.matching.now c.args.i) (Goes p.symbols.now r p.matching.now c.args.i)
+    (within-weaker (IsKept p.symbols.now (meaning_in r)) (IsHeld p.symbols.now (meaning_in r) (set_at r c.args.i)) (MayGoIn p c.args.i) (GoesIn p c.args.i)
     (evaluations_in c.args.meter.now) (evaluations_in c.give_set.new.meter) (λ t kept. (λ j at. none-some j ((c.in-None.ensures j).1 at), kept)) (λ t goes. goes.1))
     c.give_set.ensures.evaluations

@@ -1,4 +1,4 @@
-use Rattle.cil_member_updates.proofs.Common.{refl, inl, inr, arith, none-some, on_ok_weaker, count_before, count_now, evaluations_in, meaning_in, new_in, old_in, sets_in, no_set, set_at, across-none, across-some, within-weaker, Comes, IsHeld, IsKept, IsMovedAt, IsUnsettled, MayTurn, nothing, AreMoved, gave_in, given}
+use Rattle.cil_member_updates.proofs.Common.{refl, inl, inr, arith, none-some, on_ok_weaker, count_before, count_now, evaluations_in, meaning_in, new_in, old_in, sets_in, no_set, set_at, across-none, across-some, within-weaker, ComesIn, IsHeld, IsKept, IsMovedAt, IsUnsettled, MayTurnIn, nothing, AreMoved, gave_in, given}
 use Rattle.cil_member_updates.proofs.ComesLemmas.{comes-held, comes-moved}
 use Rattle.cil_member_updates.proofs.RenewLemmas.{same-at, same-attribute}
 use Rattle.cil_member_updates.proofs.SideLemmas.{counts-members}
@@ -53,7 +53,7 @@ returns-in-Some-clause-evaluations g c =
     let i = c.in-Some.i in
     let place = (c.in-Some.ensures i).0 refl in
     on_ok_weaker c.move_set.result
-    (within-weaker (IsUnsettled p.symbols.now (meaning_in old) (meaning_in new) (set_at new c.args.j)) (IsMovedAt p.symbols.now (meaning_in old) (set_at old i) (meaning_in new) (set_at new c.args.j)) (MayTurn p.symbols.now old new p.matching.now c.args.j) (Comes p.symbols.now old new p.matching.now c.args.j)
+    (within-weaker (IsUnsettled p.symbols.now (meaning_in old) (meaning_in new) (set_at new c.args.j)) (IsMovedAt p.symbols.now (meaning_in old) (set_at old i) (meaning_in new) (set_at new c.args.j)) (MayTurnIn p c.args.j) (ComesIn p c.args.j)
     (evaluations_in c.args.meter.now) (evaluations_in c.move_set.new.meter) (λ t unsettled. inr (i, place, unsettled))
     (comes-moved p.symbols.now old new p.matching.now i c.args.j place (same-attribute (set_at old i) (set_at new c.args.j) (same-at (sets_in old) (sets_in new) no_set i c.args.j ((c.requires.policies.matched.back i c.args.j).0 place)).2)))
     c.move_set.ensures.evaluations
@@ -64,7 +64,7 @@ returns-in-None-clause-evaluations g c =
     let old = old_in p in
     let new = new_in p in
     on_ok_weaker c.give_set.result
-    (within-weaker (IsKept p.symbols.now (meaning_in new)) (IsHeld p.symbols.now (meaning_in new) (set_at new c.args.j)) (MayTurn p.symbols.now old new p.matching.now c.args.j) (Comes p.symbols.now old new p.matching.now c.args.j)
+    (within-weaker (IsKept p.symbols.now (meaning_in new)) (IsHeld p.symbols.now (meaning_in new) (set_at new c.args.j)) (MayTurnIn p c.args.j) (ComesIn p c.args.j)
     (evaluations_in c.args.meter.now) (evaluations_in c.give_set.new.meter) (λ t kept. inl (λ i at. none-some i ((c.in-None.ensures i).1 at), kept))
     (comes-held p.symbols.now old new p.matching.now c.args.j))
     c.give_set.ensures.evaluations

@@ -8,15 +8,15 @@ renew-requires-clause-before g c a t = c.in_ok-lower_gone.ensures.stays.counts a
 
 pub renew-requires-clause-now : goal.renew-requires-clause-now
 renew-requires-clause-now g c a t =
-    stayed-all c.args.symbols.now c.args.old.now.resolved.now c.args.new.now.resolved.now c.args.matching.now c.requires.matched a t (count_now c.lower_gone.new.rows a t) (c.in_ok-lower_gone.ensures.now a t)
+    stayed-all c.args.symbols.now c.args.sides.now.old.resolved.now c.args.sides.now.new.resolved.now c.args.sides.now.matching.now c.requires.matched a t (count_now c.lower_gone.new.rows a t) (c.in_ok-lower_gone.ensures.now a t)
 
 pub returns-clause-evaluations : goal.returns-clause-evaluations
 returns-clause-evaluations g c =
-    let p = c.args.old.now.resolved.now in
-    let q = c.args.new.now.resolved.now in
+    let p = c.args.sides.now.old.resolved.now in
+    let q = c.args.sides.now.new.resolved.now in
     on_ok_weaker c.renew.result
     (λ second.
-    evaluates-few c.args.symbols.now c.requires.old.distinct p q c.resolved_sets_are_in_order.ensures.the_same c.resolved_sets_are_in_order-2.ensures.the_same c.resolved_sets_are_apart.ensures.apart c.resolved_sets_are_apart-2.ensures.apart c.args.matching.now c.requires.matched
+    evaluates-few c.args.symbols.now c.requires.old.distinct p q c.resolved_sets_are_in_order.ensures.the_same c.resolved_sets_are_in_order-2.ensures.the_same c.resolved_sets_are_apart.ensures.apart c.resolved_sets_are_apart-2.ensures.apart c.args.sides.now.matching.now c.requires.matched
     (evaluations_in c.args.meter.now) (evaluations_in c.lower_gone.new.meter) (evaluations_in c.renew.new.meter) c.in_ok-lower_gone.ensures.evaluations second
-    c.resolved_is_sound.ensures c.resolved_is_sound-2.ensures c.args.new.now.numbering.now.symbols c.requires.new.numbers c.resolved_names_are_kept.ensures.types c.resolved_names_are_kept.ensures.attributes)
+    c.resolved_is_sound.ensures c.resolved_is_sound-2.ensures c.args.sides.now.new.numbering.now.symbols c.requires.new.numbers c.resolved_names_are_kept.ensures.types c.resolved_names_are_kept.ensures.attributes)
     c.renew.ensures.evaluations

@@ -1,4 +1,4 @@
-use Rattle.cil_member_updates.proofs.Common.{arith, count_now, evaluations_in, meaning_in, MayHold, MustHold, given_of, lowered, raised, set_of}
+use Rattle.cil_member_updates.proofs.Common.{arith, count_now, evaluations_in, meaning_in, MayHold, MustHold, given_of, lowered_by, raised_by, set_of}
 use Rattle.cil_member_updates.proofs.EvaluatedLemmas.{holds-within, words-all, words-first, words-next}
 use Rattle.cil_member_updates.proofs.MovedLemmas.{moved-all, moved-more, moved-none, none-given, stays-first, stays-next}
 use Rattle.cil_member_updates.proofs.SideLemmas.{given-past, reads-still}
@@ -18,7 +18,7 @@ pub loop-word-init : goal.loop-word-init
 loop-word-init g c =
     let r = c.args.reading.now in
     record {
-      moved = moved-none (lowered r.when (given_of r)) (raised r.when (given_of r)) (count_now c.args.rows.now);
+      moved = moved-none (lowered_by r) (raised_by r) (count_now c.args.rows.now);
       stays = stays-first c.args.rows.now c.args.meter.now;
       evaluations = words-first (MayHold r) (MustHold r) (evaluations_in c.args.meter.now);
     }
@@ -28,7 +28,7 @@ loop-word-preserved g c =
     let r = c.args.reading.now in
     let step = c.in_ok-give_word.ensures in
     record {
-      moved = moved-more (lowered r.when (given_of r)) (raised r.when (given_of r)) c.loop-word.word (count_now c.args.rows.now) (count_now c.loop-word.rows) (count_now c.give_word.new.rows) c.loop-word.invariant.moved step.now;
+      moved = moved-more (lowered_by r) (raised_by r) c.loop-word.word (count_now c.args.rows.now) (count_now c.loop-word.rows) (count_now c.give_word.new.rows) c.loop-word.invariant.moved step.now;
       stays = stays-next c.args.rows.now c.loop-word.rows c.give_word.new.rows c.args.meter.now c.loop-word.meter c.give_word.new.meter c.loop-word.invariant.stays step.stays;
       evaluations = words-next (MayHold r) (MustHold r) c.loop-word.word
           (evaluations_in c.args.meter.now) (evaluations_in c.loop-word.meter) (evaluations_in c.give_word.new.meter) c.loop-word.invariant.evaluations step.evaluations;
@@ -39,7 +39,7 @@ returns-clause-now g c =
     let r = c.args.reading.now in
     let end = c.loop-word-test.false in
     let len = c.len.ensures.len in
-    moved-all (lowered r.when (given_of r)) (raised r.when (given_of r)) c.loop-word.word (count_now c.args.rows.now) (count_now c.loop-word.rows) c.loop-word.invariant.moved
+    moved-all (lowered_by r) (raised_by r) c.loop-word.word (count_now c.args.rows.now) (count_now c.loop-word.rows) c.loop-word.invariant.moved
     (λ a t past. none-given r.when (given_of r) a t (given-past r.symbols.now r.side.now.resolved.now r.place a t (omega (arith, past, end, len))))
 
 pub returns-clause-evaluations : goal.returns-clause-evaluations

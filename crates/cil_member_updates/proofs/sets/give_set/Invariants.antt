@@ -1,4 +1,4 @@
-use Rattle.cil_member_updates.proofs.Common.{count_now, evaluations_in, MayHold, MustHold, RisesWithin, Stays, given_of, lowered, raised}
+use Rattle.cil_member_updates.proofs.Common.{count_now, evaluations_in, MayHold, MustHold, RisesWithin, Stays, lowered_by, raised_by}
 use Rattle.cil_member_updates.proofs.EvaluatedLemmas.{Beneath}
 use Rattle.cil_member_updates.proofs.MovedLemmas.{MovedBelow}
 use Rattle.cil_member_updates.proofs.sets.give_set.Given as goal
@@ -7,7 +7,7 @@ use Rattle.cil_member_updates.proofs.sets.give_set.Given as goal
 abbrev pub invariant-loop-word : goal.invariant-loop-word
 invariant-loop-word g l =
     record {
-      moved : MovedBelow l.word (lowered l.reading.when (given_of l.reading)) (raised l.reading.when (given_of l.reading)) (count_now l.fn.rows) (count_now l.rows);
+      moved : MovedBelow l.word (lowered_by l.reading) (raised_by l.reading) (count_now l.fn.rows) (count_now l.rows);
       stays : Stays l.fn.rows l.rows l.fn.meter l.meter;
       evaluations : RisesWithin (Beneath l.word (MayHold l.reading)) (Beneath l.word (MustHold l.reading)) (evaluations_in l.fn.meter) (evaluations_in l.meter);
     }

@@ -1,4 +1,4 @@
-use Rattle.cil_member_updates.proofs.Common.{◌≡◌, ◌/◌, ◌≤◌, ℕ, arith, slice_index, subst, sym, on_ok_weaker, count_now, evaluations_in, meaning_in, Cover, IsMoved, MayHold, given, given_of, held_by, keeps, lowered, raised, set_of}
+use Rattle.cil_member_updates.proofs.Common.{◌≡◌, ◌/◌, ◌≤◌, ℕ, arith, slice_index, subst, sym, on_ok_weaker, count_now, evaluations_in, meaning_in, Cover, IsMoved, MayHold, given, given_of, held_by, keeps, lowered, lowered_by, raised, raised_by, set_of}
 use Rattle.cil_lines.proofs.StepLemmas.{hit-none}
 use Rattle.cil_member_updates.specs.declared.when.When.{When}
 use Rattle.cil_member_updates.proofs.EvaluatedLemmas.{word-none, word-once}
@@ -43,7 +43,7 @@ unfolding given
 returns-then-visits-eq0-clause-now g c =
     let r = c.args.reading.now in
     let covers = subst (Cover (held_by r) c.args.word) c.if-visits-eq0.true c.reached-visits.ensures in
-    moved-still (lowered r.when (given_of r)) (raised r.when (given_of r)) c.args.word (count_now c.args.rows.now)
+    moved-still (lowered_by r) (raised_by r) c.args.word (count_now c.args.rows.now)
     (λ a t here. none-given r.when (given_of r) a t (gives-none r.symbols.now (meaning_in r.side.now.resolved.now) (set_of r) c.args.word covers a t here))
 
 pub returns-in-Before-clause-evaluations : goal.returns-in-Before-clause-evaluations

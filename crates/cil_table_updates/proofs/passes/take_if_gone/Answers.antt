@@ -6,15 +6,15 @@ use Rattle.cil_table_updates.proofs.passes.take_if_gone.Goals as goal
 
 pub returns-in-Some-clause-now : goal.returns-in-Some-clause-now
 returns-in-Some-clause-now g c key t =
-    ap (λ n. count_now c.args.lines.now key t + n) (alone-some (given c.args.old.now key t) c.args.matching.now.ahead c.args.i c.in-Some.field-0 ((c.new_place.ensures c.in-Some.field-0).0 c.in-Some.is))
+    ap (λ n. count_now c.args.lines.now key t + n) (alone-some (given c.args.update.now.old.now key t) c.args.update.now.matching.now.ahead c.args.i c.in-Some.field-0 ((c.new_place.ensures c.in-Some.field-0).0 c.in-Some.is))
     ∙ add-zero (count_now c.args.lines.now key t)
 
 pub take_rule-requires-clause-counted : goal.take_rule-requires-clause-counted
 take_rule-requires-clause-counted g c key t =
     subst (λ n. n ≤ count_now c.args.lines.now key t)
-    (gone-rule c.args.old.now key t c.args.matching.now.ahead c.args.i c.index-rules-i.result
-    (read-at c.rules.result.now c.args.old.now.resolved.now.rules.items c.args.i c.index-rules-i.result c.rules.ensures.rules c.requires.within c.index-rules-i.is)
-    (never (λ j. slice_get c.args.matching.now.ahead c.args.i ≡ Some (Some j)) c.new_place.result c.new_place.ensures c.in-None.is))
+    (gone-rule c.args.update.now.old.now key t c.args.update.now.matching.now.ahead c.args.i c.index-rules-i.result
+    (read-at c.rules.result.now c.args.update.now.old.now.resolved.now.rules.items c.args.i c.index-rules-i.result c.rules.ensures.rules c.requires.within c.index-rules-i.is)
+    (never (λ j. slice_get c.args.update.now.matching.now.ahead c.args.i ≡ Some (Some j)) c.new_place.result c.new_place.ensures c.in-None.is))
     (c.requires.counted key t)
 
 pub returns-in-None-clause-now : goal.returns-in-None-clause-now
@@ -22,25 +22,25 @@ returns-in-None-clause-now g c =
     on_ok_weaker c.take_rule.result
     (λ moved key t.
     ap (λ n. count_now c.take_rule.new.lines key t + n)
-    (gone-rule c.args.old.now key t c.args.matching.now.ahead c.args.i c.index-rules-i.result
-    (read-at c.rules.result.now c.args.old.now.resolved.now.rules.items c.args.i c.index-rules-i.result c.rules.ensures.rules c.requires.within c.index-rules-i.is)
-    (never (λ j. slice_get c.args.matching.now.ahead c.args.i ≡ Some (Some j)) c.new_place.result c.new_place.ensures c.in-None.is))
+    (gone-rule c.args.update.now.old.now key t c.args.update.now.matching.now.ahead c.args.i c.index-rules-i.result
+    (read-at c.rules.result.now c.args.update.now.old.now.resolved.now.rules.items c.args.i c.index-rules-i.result c.rules.ensures.rules c.requires.within c.index-rules-i.is)
+    (never (λ j. slice_get c.args.update.now.matching.now.ahead c.args.i ≡ Some (Some j)) c.new_place.result c.new_place.ensures c.in-None.is))
     ∙ moved key t)
     c.take_rule.ensures.now
 
 pub returns-in-Some-clause-adjustments : goal.returns-in-Some-clause-adjustments
 returns-in-Some-clause-adjustments g c =
-    rises-none (goes c.args.old.now c.args.matching.now c.args.i) (adjustments_in c.args.meter.now)
-    (λ x. ap (nat_lt 0) (alone-some (given c.args.old.now x.key x.target) c.args.matching.now.ahead c.args.i c.in-Some.field-0 ((c.new_place.ensures c.in-Some.field-0).0 c.in-Some.is)))
+    rises-none (goes c.args.update.now.old.now c.args.update.now.matching.now c.args.i) (adjustments_in c.args.meter.now)
+    (λ x. ap (nat_lt 0) (alone-some (given c.args.update.now.old.now x.key x.target) c.args.update.now.matching.now.ahead c.args.i c.in-Some.field-0 ((c.new_place.ensures c.in-Some.field-0).0 c.in-Some.is)))
 
 pub returns-in-None-clause-adjustments : goal.returns-in-None-clause-adjustments
 returns-in-None-clause-adjustments g c =
-    let old = c.args.old.now in
+    let old = c.args.update.now.old.now in
     let rule = c.index-rules-i.result in
     on_ok_weaker c.take_rule.result
-    (rises-same (gives_it old rule) (goes old c.args.matching.now c.args.i) (adjustments_in c.args.meter.now) (adjustments_in c.take_rule.new.meter)
+    (rises-same (gives_it old rule) (goes old c.args.update.now.matching.now c.args.i) (adjustments_in c.args.meter.now) (adjustments_in c.take_rule.new.meter)
     (λ x. counted-some (gives_it old rule x)
-    ∙ sym (ap (nat_lt 0) (gone-rule old x.key x.target c.args.matching.now.ahead c.args.i rule
+    ∙ sym (ap (nat_lt 0) (gone-rule old x.key x.target c.args.update.now.matching.now.ahead c.args.i rule
     (read-at c.rules.result.now old.resolved.now.rules.items c.args.i rule c.rules.ensures.rules c.requires.within c.index-rules-i.is)
-    (never (λ j. slice_get c.args.matching.now.ahead c.args.i ≡ Some (Some j)) c.new_place.result c.new_place.ensures c.in-None.is)))))
+    (never (λ j. slice_get c.args.update.now.matching.now.ahead c.args.i ≡ Some (Some j)) c.new_place.result c.new_place.ensures c.in-None.is)))))
     c.take_rule.ensures.adjustments

@@ -16,6 +16,9 @@ load-requires-clause-none g c key t =
     let meaning = meaning_in c.args.old.now in
     c.bring_members.ensures.accesses key t ∙ count-none c.bring_members.new.self.names meaning key t (none-of meaning.rules c.requires.rules)
 
+pub load-requires-clause-new_symbols : goal.load-requires-clause-new_symbols
+load-requires-clause-new_symbols g c = record { numbers = c.in_ok-next.ensures.symbols.numbers; count = c.in_ok-next.ensures.symbols.count }
+
 pub load-requires-clause-new_members : goal.load-requires-clause-new_members
 load-requires-clause-new_members g c =
     members-counted c.bring_members.new.self.names c.args.new.now c.resolved_is_sound.ensures c.resolved_sets_are_in_order.ensures.the_same (member_rows.count_now c.bring_members.new.self.rows) c.in_ok-next.ensures.members

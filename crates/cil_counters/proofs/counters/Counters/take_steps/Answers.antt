@@ -8,10 +8,16 @@ use Rattle.cil_counters.proofs.FoundLemmas.{found, tells}
 use Rattle.cil_counters.proofs.CountedLemmas.{counted-by-alike, members-counted}
 use Rattle.cil_counters.proofs.counters.Counters.take_steps.Goals as goal
 
+pub update-requires-clause-old_symbols : goal.update-requires-clause-old_symbols
+update-requires-clause-old_symbols g c = record { numbers = c.bring_members.ensures.before.symbols.numbers; count = c.bring_members.ensures.before.symbols.count }
+
 pub update-requires-clause-old_members : goal.update-requires-clause-old_members
 update-requires-clause-old_members g c =
     members-counted c.bring_members.new.self.names c.args.old.now c.resolved_is_sound.ensures c.resolved_sets_are_in_order.ensures.the_same (member_rows.count_before c.bring_members.new.self.rows)
     c.bring_members.ensures.before.counted.are_members
+
+pub update-requires-clause-new_symbols : goal.update-requires-clause-new_symbols
+update-requires-clause-new_symbols g c = record { numbers = c.in_ok-next.ensures.symbols.numbers; count = c.in_ok-next.ensures.symbols.count }
 
 pub update-requires-clause-new_members : goal.update-requires-clause-new_members
 update-requires-clause-new_members g c =
