@@ -3,6 +3,7 @@ pub mod Ordered
 pub mod Associations
 pub mod Image
 pub mod Kinds
+pub mod Clean
 pub mod Bound
 pub mod Groups
 pub mod Inherited
