@@ -22,3 +22,4 @@ pub mod CleanLemmas
 pub mod SetLemmas
 pub mod KnownLemmas
 pub mod SoundLemmas
+pub mod RecentLemmas

@@ -1,5 +1,5 @@
 -- Statements whose references are bound, and not to aliases without an actual type.
-use Rattle.cil_check.proofs.Common.{◌≡◌, ℕ, length, not, ◌&&◌, ◌||◌, Bool, true, false, List, [], ◌∷◌, ◌++◌, map, filter, cond, get_or, Option, Some, None, is_some, refl, sym, ap, ◌∙◌, subst, true≢false, append-nil, list_all, option_and_then, option_map, slice_get-map, same_Some, first_true, second_true, AllByRecursion, Word, Form, attribute_set, rule, itself, the_named, leaves, Placed, Table, types, classes, leads, references, is_alias, is_unfound, is_unset, element_words, kind_of, IsLead, HasFirsts, Actual, is_rule, rule_class, class_lead, first_at}
+use Rattle.cil_check.proofs.Common.{◌≡◌, ℕ, length, not, ◌&&◌, ◌||◌, Bool, true, false, List, [], ◌∷◌, ◌++◌, map, filter, cond, Option, Some, None, is_some, refl, sym, ap, ◌∙◌, subst, true≢false, append-nil, list_all, option_and_then, option_map, slice_get-map, same_Some, first_true, second_true, AllByRecursion, Word, Form, attribute_set, rule, itself, the_named, leaves, Placed, Table, types, classes, leads, references, is_alias, is_unfound, is_unset, element_words, kind_of, IsLead, HasFirsts, Actual, is_rule, rule_class, class_lead, first_at}
 use Rattle.std.proofs.Common.{◌-◌, slice_get}
 use Rattle.cil_specs.specs.Statements.{target_words}
 use Rattle.cil_parse.specs.declared.row.StatementKind.{StatementKind}
@@ -43,7 +43,7 @@ sound-all policy kinds actuals namespace [] (b ∷ bound) same has are all = abs
 sound-all policy kinds actuals namespace (r ∷ refs) [] same has are all = absurd are
 sound-all policy kinds actuals namespace (r ∷ refs) (b ∷ bound) same has are all = (
   sound-lead policy actuals namespace r b has are.0 (ap (λ l. is_sound l actuals b) (sym same) ∙ first_true (is_sound kinds actuals b) (list_all (is_sound kinds actuals) bound) all),
-  sound-all policy kinds actuals namespace refs bound same has are.1 (second_true (is_sound kinds actuals b) (list_all (is_sound kinds actuals) bound) all)
+  sound-all policy kinds actuals namespace refs bound same has are.1 (second_true (is_sound kinds actuals b) (list_all (is_sound kinds actuals) bound) all),
 )
 
 -- none of them is unfound

@@ -1,5 +1,5 @@
 -- What the references of statements without faults are bound to.
-use Rattle.std.specs.Prelude.{ℕ, Bool, true, false, not, ◌||◌, List, Option, Some, None, is_some, slice_get}
+use Rattle.std.specs.Prelude.{ℕ, Bool, false, not, ◌||◌, List, Option, Some, None, is_some, slice_get}
 use Rattle.cil_parse.specs.declared.row.StatementKind.{StatementKind}
 use Rattle.cil_check.specs.declared.kinds.Kind.TheVariants.{Alias}
 use Rattle.cil_check.specs.Associations.{first_at}

@@ -11,4 +11,5 @@ pub mod Few
 pub mod Missing
 pub mod Checker
 pub mod Permissions
+pub mod Recent
 pub mod AttributeGraph

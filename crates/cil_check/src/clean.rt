@@ -1,17 +1,18 @@
 //! Policies without faults of the kinds that are seen at one statement.
 
-ghost use Rattle.std.specs.Prelude.{◌≡◌, ◌<◌, [], List, Some, true, length, slice_get, IsTrue};
+ghost use Rattle.std.specs.Prelude.{◌≡◌, ◌<◌, [], List, Some, true, length, slice_get, Contains, IsTrue};
 ghost use Rattle.std.specs.List.{list_all};
-ghost use Rattle.cil_check.specs.Common.{Placed, AreNumbersOf, classes, kind_of, names_of, IsLead, IsSeen, IsNoted, class_lead, lacking_words, has_list, HasNoneBelow, IsCleanAt};
+ghost use Rattle.cil_check.specs.Common.{Placed, AreNumbersOf, classes, has_name, kind_of, names_of, permissions_of, word_at, IsFirstOf, IsLead, IsSeen, IsNoted, class_lead, lacking_words, HasNoneBelow, IsCleanAt};
 ghost use Rattle.cil_check.specs.Clean.{is_sound as is_sound_lead};
-ghost use Rattle.cil_bind.specs.KnownLists.{AreKnown};
+ghost use Rattle.cil_check.specs.Recent.{IsKnown};
 ghost use Rattle.cil_check.specs.Kinds.{is_rule as is_rule_kind, is_plain as is_plain_kind};
 ghost use Rattle.cil_parse.specs.declared.row.StatementKind.TheVariants.{TypeAttributeSet};
 
 use crate::bound::Seen;
 use crate::checker::{CHECKED, Checker};
 use crate::kinds::Kind;
-use cil_bind::{KnownLists, PermissionList};
+use crate::known::Known;
+use cil_bind::PermissionList;
 use cil_parse::StatementKind;
 use std::alloc::Allocator;
 
@@ -38,12 +39,15 @@ fn is_plain(kind: StatementKind) -> bool
 }
 
 impl<'p, 'm, A: Allocator + Copy> Checker<'p, 'm, A> {
-    /// Whether a statement has no fault of the kinds that are seen at one statement, by going over the kinds.
+    /// Whether a statement has no fault of the kinds that are seen at one statement, by going over
+    /// the kinds.
     fn is_clean_at(&self, place: usize, seen: &Seen<'p, 'm, A>) -> bool
-        requires { (policy : List Placed) × (s : Placed) × IsNoted self.now policy × IsSeen seen.now policy s
-            × (slice_get policy place ≡ Some s) }
-        ensures { IsTrue result → (policy : List Placed) (s : Placed) → IsNoted self.now policy → IsSeen seen.now policy s
-            → AreNumbersOf self.now.bound.policy.now.names seen.now.words.now (names_of seen.now.«module».now)
+        requires { (policy : List Placed) × (s : Placed) × IsNoted self.now policy
+            × IsSeen seen.now policy s × (slice_get policy place ≡ Some s) }
+        ensures { IsTrue result → (policy : List Placed) (s : Placed) → IsNoted self.now policy
+            → IsSeen seen.now policy s
+            → AreNumbersOf self.now.bound.policy.now.names seen.now.words.now
+            (names_of seen.now.«module».now)
             → slice_get policy place ≡ Some s → IsCleanAt policy place s }
     {
         for kind in CHECKED {
@@ -56,7 +60,8 @@ impl<'p, 'm, A: Allocator + Copy> Checker<'p, 'm, A> {
 
     /// Whether a reference is bound, and not to an alias without an actual type.
     fn is_sound(&self, found: Option<u32>) -> bool
-        ensures { result ≡ is_sound_lead self.now.bound.policy.now.kinds.items self.now.actuals found }
+        ensures { result
+            ≡ is_sound_lead self.now.bound.policy.now.kinds.items self.now.actuals found }
     {
         let Some(place) = found else {
             return false;
@@ -69,16 +74,19 @@ impl<'p, 'm, A: Allocator + Copy> Checker<'p, 'm, A> {
 
     /// Whether all of some references are bound, and none to an alias without an actual type.
     fn are_sound(&self, bound: &[Option<u32>]) -> bool
-        ensures { result ≡ list_all (is_sound_lead self.now.bound.policy.now.kinds.items self.now.actuals) bound.now }
+        ensures { result
+            ≡ list_all (is_sound_lead self.now.bound.policy.now.kinds.items self.now.actuals) bound.now }
     {
         bound.iter().all(|found| self.is_sound(*found))
     }
 
-    /// Whether a set statement leads to an attribute, and all its references are bound, to no alias without an actual type.
+    /// Whether a set statement leads to an attribute, and all its references are bound, to no
+    /// alias without an actual type.
     fn is_clean_set(&self, place: usize) -> bool
         requires { (policy : List Placed) × IsNoted self.now policy × (place < length policy) }
-        ensures { IsTrue result → (policy : List Placed) (s : Placed) → IsNoted self.now policy → slice_get policy place ≡ Some s
-            → kind_of s.form ≡ TypeAttributeSet → IsCleanAt policy place s }
+        ensures { IsTrue result → (policy : List Placed) (s : Placed) → IsNoted self.now policy
+            → slice_get policy place ≡ Some s → kind_of s.form ≡ TypeAttributeSet
+            → IsCleanAt policy place s }
     {
         let bound = self.bound.policy.bound.get(place);
         let Some(Some(first)) = bound.first() else {
@@ -87,48 +95,92 @@ impl<'p, 'm, A: Allocator + Copy> Checker<'p, 'm, A> {
         self.bound.is(*first, Kind::Attribute) && self.are_sound(bound)
     }
 
-    /// Whether the class of a rule lacks none of the permissions that the rule names. Those of a list that the class is known to have are
-    /// not gone over.
-    fn has_listed(
-        &self,
-        alloc: A,
-        place: usize,
-        class: u32,
-        known: &mut KnownLists<A>,
-    ) -> bool
-        requires { (policy : List Placed) × (s : Placed) × IsNoted self.now policy × (slice_get policy place ≡ Some s)
-            × IsLead classes policy (Some class) (class_lead policy s) }
-        ensures none { IsTrue result → (policy : List Placed) (s : Placed) → IsNoted self.now policy → slice_get policy place ≡ Some s
-            → IsLead classes policy (Some class) (class_lead policy s)
-            → AreKnown (has_list self.now.bound.joined.now.modules.items policy) known.old → lacking_words policy s ≡ [] }
-        ensures known { (policy : List Placed) (s : Placed) → IsNoted self.now policy → slice_get policy place ≡ Some s
-            → IsLead classes policy (Some class) (class_lead policy s)
-            → AreKnown (has_list self.now.bound.joined.now.modules.items policy) known.old
-            → AreKnown (has_list self.now.bound.joined.now.modules.items policy) known.new }
+    /// Whether the class of a place has a permission. One that it has is known then.
+    fn has_known(&self, class: u32, word: u32, known: &mut Known<A>) -> bool
+        ensures has { IsTrue result → (policy : List Placed) (s : Placed) → IsNoted self.now policy
+            → slice_get policy class ≡ Some s → IsFirstOf classes policy class
+            → word < length self.now.bound.policy.now.names → IsKnown self.now policy known.old
+            → has_name (permissions_of policy s) (word_at self.now.bound.policy.now.names word)
+            ≡ true }
+        ensures known { (policy : List Placed) (s : Placed) → IsNoted self.now policy
+            → slice_get policy class ≡ Some s → IsFirstOf classes policy class
+            → word < length self.now.bound.policy.now.names → IsKnown self.now policy known.old
+            → IsKnown self.now policy known.new }
     {
-        let list = PermissionList::of(self.bound.joined, &self.bound.policy.rows[place]);
-        if known.knows(list, class) {
+        if known.has(class, word) {
             return true;
         }
-        if let Some(_lacking) = self.lacking(&self.bound.seen(place)) {
+        if !self.has_permission(class, word) {
             return false;
         }
-        // What there is no memory for is asked again.
-        let _noted = known.note(alloc, list, class);
+        known.note(class, word);
         true
     }
 
-    /// Whether a rule has no missing word and no alias without an actual type. Other faults a rule can't have.
-    fn is_clean_rule(&self, alloc: A, place: usize, known: &mut KnownLists<A>) -> bool
-        requires { (policy : List Placed) × (s : Placed) × IsNoted self.now policy × (slice_get policy place ≡ Some s)
-            × (is_rule_kind (kind_of s.form) ≡ true) }
-        ensures clean { IsTrue result → (policy : List Placed) (s : Placed) → IsNoted self.now policy → slice_get policy place ≡ Some s
-            → is_rule_kind (kind_of s.form) ≡ true
-            → AreKnown (has_list self.now.bound.joined.now.modules.items policy) known.old → IsCleanAt policy place s }
-        ensures known { (policy : List Placed) (s : Placed) → IsNoted self.now policy → slice_get policy place ≡ Some s
-            → is_rule_kind (kind_of s.form) ≡ true
-            → AreKnown (has_list self.now.bound.joined.now.modules.items policy) known.old
-            → AreKnown (has_list self.now.bound.joined.now.modules.items policy) known.new }
+    /// Whether the class of a rule has all permissions that the rule names.
+    fn has_named(&self, class: u32, seen: &Seen<'p, 'm, A>, known: &mut Known<A>) -> bool
+        requires { (policy : List Placed) × (s : Placed) × IsNoted self.now policy
+            × IsSeen seen.now policy s }
+        ensures none { IsTrue result → (policy : List Placed) (s : Placed)
+            → IsNoted self.now policy → IsSeen seen.now policy s
+            → AreNumbersOf self.now.bound.policy.now.names seen.now.words.now
+            (names_of seen.now.«module».now)
+            → Contains policy s → IsLead classes policy (Some class) (class_lead policy s)
+            → IsKnown self.now policy known.old → lacking_words policy s ≡ [] }
+        ensures known { (policy : List Placed) (s : Placed) → IsNoted self.now policy
+            → IsSeen seen.now policy s
+            → AreNumbersOf self.now.bound.policy.now.names seen.now.words.now
+            (names_of seen.now.«module».now)
+            → Contains policy s → IsLead classes policy (Some class) (class_lead policy s)
+            → IsKnown self.now policy known.old → IsKnown self.now policy known.new }
+    {
+        for word in seen.view.permissions() {
+            if !self.has_known(class, seen.number(*word), known) {
+                return false;
+            }
+        }
+        true
+    }
+
+    /// Whether the class of a rule lacks none of the permissions that the rule names. Those of a
+    /// list that the class is known to have are not gone over.
+    fn has_listed(&self, alloc: A, place: usize, class: u32, known: &mut Known<A>) -> bool
+        requires { (policy : List Placed) × (s : Placed) × IsNoted self.now policy
+            × (slice_get policy place ≡ Some s)
+            × IsLead classes policy (Some class) (class_lead policy s) }
+        ensures none { IsTrue result → (policy : List Placed) (s : Placed)
+            → IsNoted self.now policy → slice_get policy place ≡ Some s
+            → IsLead classes policy (Some class) (class_lead policy s)
+            → IsKnown self.now policy known.old → lacking_words policy s ≡ [] }
+        ensures known { (policy : List Placed) (s : Placed) → IsNoted self.now policy
+            → slice_get policy place ≡ Some s
+            → IsLead classes policy (Some class) (class_lead policy s)
+            → IsKnown self.now policy known.old → IsKnown self.now policy known.new }
+    {
+        let list = PermissionList::of(self.bound.joined, &self.bound.policy.rows[place]);
+        if known.lists.knows(list, class) {
+            return true;
+        }
+        if !self.has_named(class, &self.bound.seen(place), known) {
+            return false;
+        }
+        // What there is no memory for is asked again.
+        let _noted = known.lists.note(alloc, list, class);
+        true
+    }
+
+    /// Whether a rule has no missing word and no alias without an actual type. Other faults a rule
+    /// can't have.
+    fn is_clean_rule(&self, alloc: A, place: usize, known: &mut Known<A>) -> bool
+        requires { (policy : List Placed) × (s : Placed) × IsNoted self.now policy
+            × (slice_get policy place ≡ Some s) × (is_rule_kind (kind_of s.form) ≡ true) }
+        ensures clean { IsTrue result → (policy : List Placed) (s : Placed)
+            → IsNoted self.now policy → slice_get policy place ≡ Some s
+            → is_rule_kind (kind_of s.form) ≡ true → IsKnown self.now policy known.old
+            → IsCleanAt policy place s }
+        ensures known { (policy : List Placed) (s : Placed) → IsNoted self.now policy
+            → slice_get policy place ≡ Some s → is_rule_kind (kind_of s.form) ≡ true
+            → IsKnown self.now policy known.old → IsKnown self.now policy known.new }
     {
         let bound = self.bound.policy.bound.get(place);
         let Some(Some(class)) = bound.last() else {
@@ -140,15 +192,16 @@ impl<'p, 'm, A: Allocator + Copy> Checker<'p, 'm, A> {
         self.has_listed(alloc, place, *class, known)
     }
 
-    /// Whether the statement of a place has no fault of the kinds that are seen at one statement. Its kind tells which it can have: those
-    /// of most are told by what its references are bound to, and only others are looked at whole.
-    fn is_clean_by(&self, alloc: A, place: usize, known: &mut KnownLists<A>) -> bool
+    /// Whether the statement of a place has no fault of the kinds that are seen at one statement.
+    /// Its kind tells which it can have: those of most are told by what its references are bound
+    /// to, and only others are looked at whole.
+    fn is_clean_by(&self, alloc: A, place: usize, known: &mut Known<A>) -> bool
         requires { (policy : List Placed) × IsNoted self.now policy × (place < length policy) }
-        ensures clean { IsTrue result → (policy : List Placed) (s : Placed) → IsNoted self.now policy → slice_get policy place ≡ Some s
-            → AreKnown (has_list self.now.bound.joined.now.modules.items policy) known.old → IsCleanAt policy place s }
+        ensures clean { IsTrue result → (policy : List Placed) (s : Placed)
+            → IsNoted self.now policy → slice_get policy place ≡ Some s
+            → IsKnown self.now policy known.old → IsCleanAt policy place s }
         ensures known { (policy : List Placed) → IsNoted self.now policy
-            → AreKnown (has_list self.now.bound.joined.now.modules.items policy) known.old
-            → AreKnown (has_list self.now.bound.joined.now.modules.items policy) known.new }
+            → IsKnown self.now policy known.old → IsKnown self.now policy known.new }
     {
         let kind = self.bound.kind(place);
         if is_plain(kind) {
@@ -163,12 +216,14 @@ impl<'p, 'm, A: Allocator + Copy> Checker<'p, 'm, A> {
         self.is_clean_at(place, &self.bound.seen(place))
     }
 
-    /// Whether no statement has a fault of the kinds 42 to 47: one pass over the policy for all of them.
+    /// Whether no statement has a fault of the kinds 42 to 47: one pass over the policy for all of
+    /// them.
     pub(crate) fn is_clean(&self, alloc: A) -> bool
         requires { (policy : List Placed) × IsNoted self.now policy }
-        ensures { IsTrue result → (policy : List Placed) → IsNoted self.now policy → HasNoneBelow 48 policy }
+        ensures { IsTrue result → (policy : List Placed) → IsNoted self.now policy
+            → HasNoneBelow 48 policy }
     {
-        let mut known = KnownLists::new(alloc);
+        let mut known = Known::new(alloc);
         for i in 0..self.bound.len() {
             if !self.is_clean_by(alloc, i, &mut known) {
                 return false;

@@ -1,4 +1,4 @@
-use Rattle.cil_check.proofs.Common.{◌<◌, Some, ap, arith, references, slice_get_within, subst, sym, ◌∙◌}
+use Rattle.cil_check.proofs.Common.{Some, ap, arith, references, slice_get_within, subst, sym, ◌∙◌}
 use Rattle.cil_bind.specs.Binding.{AreLeads}
 use Rattle.cil_check.proofs.KnownLemmas.{missing-neither, rule-clean}
 use Rattle.cil_check.proofs.SeenLemmas.{bound-at, bound-long}
