@@ -1,5 +1,5 @@
 -- Statements that are clean by their kinds, and permissions of lists that are known.
-use Rattle.cil_check.proofs.Common.{◌≡◌, ℕ, ◌≤◌, ◌<◌, ◌++◌, not, ◌&&◌, Bool, true, false, List, [], ◌∷◌, map, filter, cond, Some, None, take, get_or, refl, sym, ap, ◌∙◌, subst, true≢false, arith, list_all, option_to_list, none-some, same_Some, slice_get_within, Word, Form, block, optional, type_name, type_alias, alias_actual, type_attribute, attribute_set, common, class, class_common, class_order, rule, itself, the_named, Placed, classes, declared_in, holds_of, has_name, texts, permissions_of, references, named_permissions, PolicyFaultKind, twice, missing, wrong_kind, alias_twice, alias_unset, second_common, too_many_permissions, circular, code_of, is_unfound, is_lacking, missing_words, kinds_asked, is_of_another_kind, alias_words, has_earlier_actual, element_words, is_unset, alias_unset_words, common_words, has_earlier_common, has_too_many, faulty_words, kind_of, permissions_in, IsLead, AreFoundInside, IsOf, is_rule, is_plain, class_lead, lacking_words, has_list, IsCleanAt}
+use Rattle.cil_check.proofs.Common.{◌≡◌, ℕ, ◌≤◌, ◌<◌, ◌++◌, not, ◌&&◌, Bool, true, false, List, [], ◌∷◌, map, filter, cond, Some, None, take, get_or, refl, sym, ap, ◌∙◌, subst, true≢false, arith, list_all, option_to_list, none-some, same_Some, slice_get_within, Word, Form, block, optional, type_name, type_alias, alias_actual, type_attribute, attribute_set, common, class, class_common, class_order, rule, itself, the_named, Placed, classes, declared_in, holds_of, has_name, texts, permissions_of, references, named_permissions, PolicyFaultKind, twice, missing, wrong_kind, alias_twice, alias_unset, second_common, too_many_permissions, circular, code_of, is_unfound, is_lacking, missing_words, kinds_asked, is_of_another_kind, alias_words, has_earlier_actual, element_words, is_unset, alias_unset_words, wrong_kind_words, is_attribute, WordExpr, common_words, has_earlier_common, has_too_many, faulty_words, kind_of, permissions_in, IsLead, AreFoundInside, IsOf, is_rule, is_plain, class_lead, lacking_words, has_list, IsCleanAt}
 use Rattle.std.proofs.Common.{slice_get}
 use Rattle.cil_bind.specs.KnownLists.{texts_listed}
 use Rattle.cil_bind.specs.declared.joined.NamedModule.{NamedModule}
@@ -55,37 +55,50 @@ plain-silent (class_order the_classes) is = absurd (true≢false (sym is))
 plain-silent (rule kind source itself the_class permissions) is = absurd (true≢false (sym is))
 plain-silent (rule kind source (the_named word) the_class permissions) is = absurd (true≢false (sym is))
 
--- a quiet statement is clean where its names are found and no element of it is an alias without an actual type
-quiet-clean : (policy : List Placed) (place : ℕ) (s : Placed) → IsQuiet s.form → AreFoundInside policy → slice_get policy place ≡ Some s → missing_words policy s ≡ [] → alias_unset_words policy s ≡ [] → IsCleanAt policy place s
-quiet-clean policy place s quiet inside at found set = record { none = by }
-  where
-    by : (kind : PolicyFaultKind) → 42 ≤ code_of kind → code_of kind < 48 → faulty_words kind policy (take place policy) s ≡ []
-    by twice least less = absurd (omega (arith, least))
-    by missing least less = sym (missing-at policy (take place policy) place s inside at) ∙ found
-    by wrong_kind least less = ap (λ l. map (λ r. r.1) (filter (is_of_another_kind policy s.namespace) l)) quiet.kinds
-    by alias_twice least less = ap (filter (has_earlier_actual policy (take place policy) s.namespace)) quiet.aliases
-    by alias_unset least less = set
-    by second_common least less = ap (filter (has_earlier_common policy (take place policy) s.namespace)) quiet.commons
-    by too_many_permissions least less = ap (λ o. filter (λ id. has_too_many policy s) (option_to_list o)) quiet.class_names
-    by circular least less = absurd (omega (arith, less))
+-- A statement is clean where its names are found, and lead to things of the kinds that are asked, and no element of it is an alias without
+-- an actual type; it gives nothing and is no class.
+module _ (policy : List Placed) (place : ℕ) (s : Placed) (inside : AreFoundInside policy) (at : slice_get policy place ≡ Some s) (found : missing_words policy s ≡ []) (actual : alias_unset_words policy s ≡ []) where
+  calm-clean : wrong_kind_words policy s ≡ [] → alias_words s.form ≡ [] → common_words s.form ≡ [] → declared_in classes s.form ≡ None → IsCleanAt policy place s
+  calm-clean kinds aliases commons class_names = record { none = by }
+    where
+      by : (kind : PolicyFaultKind) → 42 ≤ code_of kind → code_of kind < 48 → faulty_words kind policy (take place policy) s ≡ []
+      by twice least less = absurd (omega (arith, least))
+      by missing least less = sym (missing-at policy (take place policy) place s inside at) ∙ found
+      by wrong_kind least less = kinds
+      by alias_twice least less = ap (filter (has_earlier_actual policy (take place policy) s.namespace)) aliases
+      by alias_unset least less = actual
+      by second_common least less = ap (filter (has_earlier_common policy (take place policy) s.namespace)) commons
+      by too_many_permissions least less = ap (λ o. filter (λ id. has_too_many policy s) (option_to_list o)) class_names
+      by circular least less = absurd (omega (arith, less))
+
+  quiet-clean : IsQuiet s.form → IsCleanAt policy place s
+  quiet-clean quiet = calm-clean (ap (λ l. map (λ r. r.1) (filter (is_of_another_kind policy s.namespace) l)) quiet.kinds) quiet.aliases quiet.commons quiet.class_names
+
+-- nothing is missing where all references are found and no permission is lacking
+pub missing-neither : (policy : List Placed) (s : Placed) → map (λ r. r.1) (filter (is_unfound policy s.namespace) (references s.form)) ≡ [] → lacking_words policy s ≡ [] → missing_words policy s ≡ []
+missing-neither policy s found none = ap (λ l. l ++ lacking_words policy s) found ∙ none
 
 pub rule-clean : (policy : List Placed) (place : ℕ) (s : Placed) → is_rule (kind_of s.form) ≡ true → AreFoundInside policy → slice_get policy place ≡ Some s → missing_words policy s ≡ [] → alias_unset_words policy s ≡ [] → IsCleanAt policy place s
-rule-clean policy place s is = quiet-clean policy place s (rule-quiet s.form is)
+rule-clean policy place s is inside at found actual = quiet-clean policy place s inside at found actual (rule-quiet s.form is)
+
+-- a set statement may lead to a thing of another kind
+pub set-clean : (policy : List Placed) (place : ℕ) (s : Placed) (attribute : Word) (expr : WordExpr) → s.form ≡ attribute_set attribute expr → AreFoundInside policy → slice_get policy place ≡ Some s
+    → map (λ r. r.1) (filter (is_unfound policy s.namespace) (references s.form)) ≡ [] → alias_unset_words policy s ≡ [] → is_of_another_kind policy s.namespace (is_attribute, attribute) ≡ false → IsCleanAt policy place s
+set-clean policy place s attribute expr form inside at found actual is =
+    calm-clean policy place s inside at (missing-neither policy s found (ap (λ f. map (λ p. p.1) (filter (is_lacking policy s.namespace) (named_permissions f))) form)) actual
+    (ap (λ f. map (λ r. r.1) (filter (is_of_another_kind policy s.namespace) (kinds_asked f))) form ∙ ap (λ b. map (λ (r : (Form → Bool) × Word). r.1) (cond b ((is_attribute, attribute) ∷ []) [])) is)
+    (ap alias_words form) (ap common_words form) (ap (declared_in classes) form)
 
 pub plain-clean : (policy : List Placed) (place : ℕ) (s : Placed) → is_plain (kind_of s.form) ≡ true → AreFoundInside policy → slice_get policy place ≡ Some s → IsCleanAt policy place s
 plain-clean policy place s is inside at =
-    quiet-clean policy place s silent.quiet inside at (missing-none policy s silent.refs (ap (λ l. map (λ p. p.1) (filter (is_lacking policy s.namespace) l)) silent.permissions))
-    (ap (filter (is_unset policy s.namespace)) silent.elements)
+    quiet-clean policy place s inside at (missing-none policy s silent.refs (ap (λ l. map (λ p. p.1) (filter (is_lacking policy s.namespace) l)) silent.permissions))
+    (ap (filter (is_unset policy s.namespace)) silent.elements) silent.quiet
   where
     silent : IsSilent s.form
     silent = plain-silent s.form is
 
     missing-none : (policy : List Placed) (s : Placed) → references s.form ≡ [] → lacking_words policy s ≡ [] → missing_words policy s ≡ []
     missing-none policy s refs none = ap (λ l. map (λ r. r.1) (filter (is_unfound policy s.namespace) l) ++ lacking_words policy s) refs ∙ none
-
--- nothing is missing where all references are found and no permission is lacking
-pub missing-neither : (policy : List Placed) (s : Placed) → map (λ r. r.1) (filter (is_unfound policy s.namespace) (references s.form)) ≡ [] → lacking_words policy s ≡ [] → missing_words policy s ≡ []
-missing-neither policy s found none = ap (λ l. l ++ lacking_words policy s) found ∙ none
 
 -- the row of a statement tells its module and its index
 pub from-there : {A : Type 0} (b : BoundPolicy A) (policy : List Placed) (i : ℕ) (row : Row) (s : Placed) → IsOf b policy → slice_get policy i ≡ Some s → row ≡ get_or b.policy.now.rows.items i row → IsFrom b.joined.now.modules.items row s

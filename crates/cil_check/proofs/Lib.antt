@@ -21,3 +21,5 @@ pub mod CircleFaults
 pub mod CleanLemmas
 pub mod SetLemmas
 pub mod KnownLemmas
+pub mod SoundLemmas
+pub mod RecentLemmas

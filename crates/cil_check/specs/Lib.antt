@@ -3,6 +3,7 @@ pub mod Ordered
 pub mod Associations
 pub mod Image
 pub mod Kinds
+pub mod Clean
 pub mod Bound
 pub mod Groups
 pub mod Inherited
@@ -10,4 +11,5 @@ pub mod Few
 pub mod Missing
 pub mod Checker
 pub mod Permissions
+pub mod Recent
 pub mod AttributeGraph

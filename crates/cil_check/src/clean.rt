@@ -1,14 +1,18 @@
 //! Policies without faults of the kinds that are seen at one statement.
 
-ghost use Rattle.std.specs.Prelude.{◌≡◌, [], List, Some, slice_get, IsTrue};
-ghost use Rattle.cil_check.specs.Common.{Placed, missing_words, alias_unset_words, AreNumbersOf, names_of, IsSeen, IsNoted, lacking_words, has_list, HasNoneBelow, IsCleanAt};
-ghost use Rattle.cil_bind.specs.KnownLists.{AreKnown};
+ghost use Rattle.std.specs.Prelude.{◌≡◌, ◌<◌, [], List, Some, true, length, slice_get, Contains, IsTrue};
+ghost use Rattle.std.specs.List.{list_all};
+ghost use Rattle.cil_check.specs.Common.{Placed, AreNumbersOf, classes, has_name, kind_of, names_of, permissions_of, word_at, IsFirstOf, IsLead, IsSeen, IsNoted, class_lead, lacking_words, HasNoneBelow, IsCleanAt};
+ghost use Rattle.cil_check.specs.Clean.{is_sound as is_sound_lead};
+ghost use Rattle.cil_check.specs.Recent.{IsKnown};
 ghost use Rattle.cil_check.specs.Kinds.{is_rule as is_rule_kind, is_plain as is_plain_kind};
+ghost use Rattle.cil_parse.specs.declared.row.StatementKind.TheVariants.{TypeAttributeSet};
 
 use crate::bound::Seen;
 use crate::checker::{CHECKED, Checker};
-use crate::missing::class_lead;
-use cil_bind::{KnownLists, PermissionList};
+use crate::kinds::Kind;
+use crate::known::Known;
+use cil_bind::PermissionList;
 use cil_parse::StatementKind;
 use std::alloc::Allocator;
 
@@ -35,12 +39,15 @@ fn is_plain(kind: StatementKind) -> bool
 }
 
 impl<'p, 'm, A: Allocator + Copy> Checker<'p, 'm, A> {
-    /// Whether a statement has no fault of the kinds that are seen at one statement, by going over the kinds.
+    /// Whether a statement has no fault of the kinds that are seen at one statement, by going over
+    /// the kinds.
     fn is_clean_at(&self, place: usize, seen: &Seen<'p, 'm, A>) -> bool
-        requires { (policy : List Placed) × (s : Placed) × IsNoted self.now policy × IsSeen seen.now policy s
-            × (slice_get policy place ≡ Some s) }
-        ensures { IsTrue result → (policy : List Placed) (s : Placed) → IsNoted self.now policy → IsSeen seen.now policy s
-            → AreNumbersOf self.now.bound.policy.now.names seen.now.words.now (names_of seen.now.«module».now)
+        requires { (policy : List Placed) × (s : Placed) × IsNoted self.now policy
+            × IsSeen seen.now policy s × (slice_get policy place ≡ Some s) }
+        ensures { IsTrue result → (policy : List Placed) (s : Placed) → IsNoted self.now policy
+            → IsSeen seen.now policy s
+            → AreNumbersOf self.now.bound.policy.now.names seen.now.words.now
+            (names_of seen.now.«module».now)
             → slice_get policy place ≡ Some s → IsCleanAt policy place s }
     {
         for kind in CHECKED {
@@ -51,105 +58,174 @@ impl<'p, 'm, A: Allocator + Copy> Checker<'p, 'm, A> {
         true
     }
 
-    /// Whether the class of a statement lacks none of the permissions that it names. Those of a list that the class is known to have are
-    /// not gone over.
-    fn has_listed(
-        &self,
-        alloc: A,
-        place: usize,
-        seen: &Seen<'p, 'm, A>,
-        known: &mut KnownLists<A>,
-    ) -> bool
-        requires { (policy : List Placed) × (s : Placed) × IsNoted self.now policy × IsSeen seen.now policy s
-            × (slice_get policy place ≡ Some s) }
-        ensures none { IsTrue result → (policy : List Placed) (s : Placed) → IsNoted self.now policy → IsSeen seen.now policy s
-            → AreNumbersOf self.now.bound.policy.now.names seen.now.words.now (names_of seen.now.«module».now)
-            → slice_get policy place ≡ Some s → AreKnown (has_list self.now.bound.joined.now.modules.items policy) known.old → lacking_words policy s ≡ [] }
-        ensures known { (policy : List Placed) (s : Placed) → IsNoted self.now policy → IsSeen seen.now policy s
-            → AreNumbersOf self.now.bound.policy.now.names seen.now.words.now (names_of seen.now.«module».now)
-            → slice_get policy place ≡ Some s → AreKnown (has_list self.now.bound.joined.now.modules.items policy) known.old
-            → AreKnown (has_list self.now.bound.joined.now.modules.items policy) known.new }
+    /// Whether a reference is bound, and not to an alias without an actual type.
+    fn is_sound(&self, found: Option<u32>) -> bool
+        ensures { result
+            ≡ is_sound_lead self.now.bound.policy.now.kinds.items self.now.actuals found }
     {
-        let Some(class) = class_lead(seen) else {
-            return true;
+        let Some(place) = found else {
+            return false;
         };
-        let list = PermissionList::of(self.bound.joined, &self.bound.policy.rows[place]);
-        if known.knows(list, class) {
+        match self.bound.policy.kinds.get(place as usize) {
+            Some(kind) => !Kind::Alias.is(*kind) || self.actuals.get(place).is_some(),
+            None => false,
+        }
+    }
+
+    /// Whether all of some references are bound, and none to an alias without an actual type.
+    fn are_sound(&self, bound: &[Option<u32>]) -> bool
+        ensures { result
+            ≡ list_all (is_sound_lead self.now.bound.policy.now.kinds.items self.now.actuals) bound.now }
+    {
+        bound.iter().all(|found| self.is_sound(*found))
+    }
+
+    /// Whether a set statement leads to an attribute, and all its references are bound, to no
+    /// alias without an actual type.
+    fn is_clean_set(&self, place: usize) -> bool
+        requires { (policy : List Placed) × IsNoted self.now policy × (place < length policy) }
+        ensures { IsTrue result → (policy : List Placed) (s : Placed) → IsNoted self.now policy
+            → slice_get policy place ≡ Some s → kind_of s.form ≡ TypeAttributeSet
+            → IsCleanAt policy place s }
+    {
+        let bound = self.bound.policy.bound.get(place);
+        let Some(Some(first)) = bound.first() else {
+            return false;
+        };
+        self.bound.is(*first, Kind::Attribute) && self.are_sound(bound)
+    }
+
+    /// Whether the class of a place has a permission. One that it has is known then.
+    fn has_known(&self, class: u32, word: u32, known: &mut Known<A>) -> bool
+        ensures has { IsTrue result → (policy : List Placed) (s : Placed) → IsNoted self.now policy
+            → slice_get policy class ≡ Some s → IsFirstOf classes policy class
+            → word < length self.now.bound.policy.now.names → IsKnown self.now policy known.old
+            → has_name (permissions_of policy s) (word_at self.now.bound.policy.now.names word)
+            ≡ true }
+        ensures known { (policy : List Placed) (s : Placed) → IsNoted self.now policy
+            → slice_get policy class ≡ Some s → IsFirstOf classes policy class
+            → word < length self.now.bound.policy.now.names → IsKnown self.now policy known.old
+            → IsKnown self.now policy known.new }
+    {
+        if known.has(class, word) {
             return true;
         }
-        if let Some(_lacking) = self.lacking(seen) {
+        if !self.has_permission(class, word) {
             return false;
         }
-        // What there is no memory for is asked again.
-        let _noted = known.note(alloc, list, class);
+        known.note(class, word);
         true
     }
 
-    /// Whether a statement has no missing word and no alias without an actual type. Other faults a rule can't have.
-    fn is_clean_rule(
-        &self,
-        alloc: A,
-        place: usize,
-        seen: &Seen<'p, 'm, A>,
-        known: &mut KnownLists<A>,
-    ) -> bool
-        requires { (policy : List Placed) × (s : Placed) × IsNoted self.now policy × IsSeen seen.now policy s
-            × (slice_get policy place ≡ Some s) }
-        ensures missing { IsTrue result → (policy : List Placed) (s : Placed) → IsNoted self.now policy → IsSeen seen.now policy s
-            → AreNumbersOf self.now.bound.policy.now.names seen.now.words.now (names_of seen.now.«module».now)
-            → slice_get policy place ≡ Some s → AreKnown (has_list self.now.bound.joined.now.modules.items policy) known.old → missing_words policy s ≡ [] }
-        ensures unset { IsTrue result → (policy : List Placed) (s : Placed) → IsNoted self.now policy → IsSeen seen.now policy s → alias_unset_words policy s ≡ [] }
-        ensures known { (policy : List Placed) (s : Placed) → IsNoted self.now policy → IsSeen seen.now policy s
-            → AreNumbersOf self.now.bound.policy.now.names seen.now.words.now (names_of seen.now.«module».now)
-            → slice_get policy place ≡ Some s → AreKnown (has_list self.now.bound.joined.now.modules.items policy) known.old
-            → AreKnown (has_list self.now.bound.joined.now.modules.items policy) known.new }
+    /// Whether the class of a rule has all permissions that the rule names.
+    fn has_named(&self, class: u32, seen: &Seen<'p, 'm, A>, known: &mut Known<A>) -> bool
+        requires { (policy : List Placed) × (s : Placed) × IsNoted self.now policy
+            × IsSeen seen.now policy s }
+        ensures none { IsTrue result → (policy : List Placed) (s : Placed)
+            → IsNoted self.now policy → IsSeen seen.now policy s
+            → AreNumbersOf self.now.bound.policy.now.names seen.now.words.now
+            (names_of seen.now.«module».now)
+            → Contains policy s → IsLead classes policy (Some class) (class_lead policy s)
+            → IsKnown self.now policy known.old → lacking_words policy s ≡ [] }
+        ensures known { (policy : List Placed) (s : Placed) → IsNoted self.now policy
+            → IsSeen seen.now policy s
+            → AreNumbersOf self.now.bound.policy.now.names seen.now.words.now
+            (names_of seen.now.«module».now)
+            → Contains policy s → IsLead classes policy (Some class) (class_lead policy s)
+            → IsKnown self.now policy known.old → IsKnown self.now policy known.new }
     {
-        if let Some(_unfound) = self.unfound(seen) {
-            return false;
+        for word in seen.view.permissions() {
+            if !self.has_known(class, seen.number(*word), known) {
+                return false;
+            }
         }
-        if let Some(_unset) = self.unset_word(seen) {
-            return false;
-        }
-        self.has_listed(alloc, place, seen, known)
+        true
     }
 
-    /// Whether a statement has no fault of the kinds that are seen at one statement. Its kind tells which it can have.
-    fn is_clean_by(
-        &self,
-        alloc: A,
-        place: usize,
-        seen: &Seen<'p, 'm, A>,
-        known: &mut KnownLists<A>,
-    ) -> bool
-        requires { (policy : List Placed) × (s : Placed) × IsNoted self.now policy × IsSeen seen.now policy s
-            × (slice_get policy place ≡ Some s) }
-        ensures clean { IsTrue result → (policy : List Placed) (s : Placed) → IsNoted self.now policy → IsSeen seen.now policy s
-            → AreNumbersOf self.now.bound.policy.now.names seen.now.words.now (names_of seen.now.«module».now)
-            → slice_get policy place ≡ Some s → AreKnown (has_list self.now.bound.joined.now.modules.items policy) known.old → IsCleanAt policy place s }
-        ensures known { (policy : List Placed) (s : Placed) → IsNoted self.now policy → IsSeen seen.now policy s
-            → AreNumbersOf self.now.bound.policy.now.names seen.now.words.now (names_of seen.now.«module».now)
-            → slice_get policy place ≡ Some s → AreKnown (has_list self.now.bound.joined.now.modules.items policy) known.old
-            → AreKnown (has_list self.now.bound.joined.now.modules.items policy) known.new }
+    /// Whether the class of a rule lacks none of the permissions that the rule names. Those of a
+    /// list that the class is known to have are not gone over.
+    fn has_listed(&self, alloc: A, place: usize, class: u32, known: &mut Known<A>) -> bool
+        requires { (policy : List Placed) × (s : Placed) × IsNoted self.now policy
+            × (slice_get policy place ≡ Some s)
+            × IsLead classes policy (Some class) (class_lead policy s) }
+        ensures none { IsTrue result → (policy : List Placed) (s : Placed)
+            → IsNoted self.now policy → slice_get policy place ≡ Some s
+            → IsLead classes policy (Some class) (class_lead policy s)
+            → IsKnown self.now policy known.old → lacking_words policy s ≡ [] }
+        ensures known { (policy : List Placed) (s : Placed) → IsNoted self.now policy
+            → slice_get policy place ≡ Some s
+            → IsLead classes policy (Some class) (class_lead policy s)
+            → IsKnown self.now policy known.old → IsKnown self.now policy known.new }
     {
-        let kind = seen.view.kind;
-        if is_rule(kind) {
-            return self.is_clean_rule(alloc, place, seen, known);
+        let list = PermissionList::of(self.bound.joined, &self.bound.policy.rows[place]);
+        if known.lists.knows(list, class) {
+            return true;
         }
+        if !self.has_named(class, &self.bound.seen(place), known) {
+            return false;
+        }
+        // What there is no memory for is asked again.
+        let _noted = known.lists.note(alloc, list, class);
+        true
+    }
+
+    /// Whether a rule has no missing word and no alias without an actual type. Other faults a rule
+    /// can't have.
+    fn is_clean_rule(&self, alloc: A, place: usize, known: &mut Known<A>) -> bool
+        requires { (policy : List Placed) × (s : Placed) × IsNoted self.now policy
+            × (slice_get policy place ≡ Some s) × (is_rule_kind (kind_of s.form) ≡ true) }
+        ensures clean { IsTrue result → (policy : List Placed) (s : Placed)
+            → IsNoted self.now policy → slice_get policy place ≡ Some s
+            → is_rule_kind (kind_of s.form) ≡ true → IsKnown self.now policy known.old
+            → IsCleanAt policy place s }
+        ensures known { (policy : List Placed) (s : Placed) → IsNoted self.now policy
+            → slice_get policy place ≡ Some s → is_rule_kind (kind_of s.form) ≡ true
+            → IsKnown self.now policy known.old → IsKnown self.now policy known.new }
+    {
+        let bound = self.bound.policy.bound.get(place);
+        let Some(Some(class)) = bound.last() else {
+            return false;
+        };
+        if !self.are_sound(bound) {
+            return false;
+        }
+        self.has_listed(alloc, place, *class, known)
+    }
+
+    /// Whether the statement of a place has no fault of the kinds that are seen at one statement.
+    /// Its kind tells which it can have: those of most are told by what its references are bound
+    /// to, and only others are looked at whole.
+    fn is_clean_by(&self, alloc: A, place: usize, known: &mut Known<A>) -> bool
+        requires { (policy : List Placed) × IsNoted self.now policy × (place < length policy) }
+        ensures clean { IsTrue result → (policy : List Placed) (s : Placed)
+            → IsNoted self.now policy → slice_get policy place ≡ Some s
+            → IsKnown self.now policy known.old → IsCleanAt policy place s }
+        ensures known { (policy : List Placed) → IsNoted self.now policy
+            → IsKnown self.now policy known.old → IsKnown self.now policy known.new }
+    {
+        let kind = self.bound.kind(place);
         if is_plain(kind) {
             return true;
         }
-        self.is_clean_at(place, seen)
+        if is_rule(kind) {
+            return self.is_clean_rule(alloc, place, known);
+        }
+        if let StatementKind::TypeAttributeSet = kind {
+            return self.is_clean_set(place);
+        }
+        self.is_clean_at(place, &self.bound.seen(place))
     }
 
-    /// Whether no statement has a fault of the kinds 42 to 47: one pass over the policy for all of them.
+    /// Whether no statement has a fault of the kinds 42 to 47: one pass over the policy for all of
+    /// them.
     pub(crate) fn is_clean(&self, alloc: A) -> bool
         requires { (policy : List Placed) × IsNoted self.now policy }
-        ensures { IsTrue result → (policy : List Placed) → IsNoted self.now policy → HasNoneBelow 48 policy }
+        ensures { IsTrue result → (policy : List Placed) → IsNoted self.now policy
+            → HasNoneBelow 48 policy }
     {
-        let mut known = KnownLists::new(alloc);
+        let mut known = Known::new(alloc);
         for i in 0..self.bound.len() {
-            let seen = self.bound.seen(i);
-            if !self.is_clean_by(alloc, i, &seen, &mut known) {
+            if !self.is_clean_by(alloc, i, &mut known) {
                 return false;
             }
         }

@@ -12,6 +12,7 @@ mod firsts;
 mod groups;
 mod inherited;
 mod kinds;
+mod known;
 mod missing;
 mod permissions;
 mod too_many;

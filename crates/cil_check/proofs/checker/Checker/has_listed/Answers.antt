@@ -1,44 +1,52 @@
-use Rattle.cil_check.proofs.Common.{◌<◌, length, sym, ◌∙◌, arith, rules, slice_get_within, get_or_from_slice_get, lacking_words, has_list}
-use Rattle.cil_check.proofs.AskedLemmas.{reads-nothing}
+use Rattle.cil_check.proofs.Common.{◌<◌, Contains, length, sym, ◌∙◌, arith, rules, slice_get_within, get_or_from_slice_get, has_list}
 use Rattle.cil_check.proofs.KnownLemmas.{from-there, known-lacks-none, lacks-none-known}
-use Rattle.cil_check.proofs.MissingLemmas.{lacks-none}
 use Rattle.cil_check.proofs.SeenLemmas.{is-long}
 use Rattle.cil_check.proofs.checker.Checker.has_listed.Goals as goal
-
-pub returns-in_default-clause-none : goal.returns-in_default-clause-none
-returns-in_default-clause-none g c = λ is policy s noted seen numbered at known. lacks-none policy s (c.in_default.ensures policy s seen)
 
 pub index-requires : goal.index-requires
 index-requires g c =
     let r = c.requires in
     let long = is-long c.args.self.now.bound r.0 r.2.is in
-    let less = slice_get_within r.0 c.args.place r.1 r.4 in
+    let less = slice_get_within r.0 c.args.place r.1 r.3 in
     let low : c.args.place < length c.args.self.now.bound.policy.now.rows.items = omega (arith, long, less) in
     search rules
 
 pub of-list-requires : goal.of-list-requires
 of-list-requires g c =
     let r = c.requires in
-    (r.1, from-there c.args.self.now.bound r.0 c.args.place c.index.result.now r.1 r.2.is r.4 c.index.ensures)
+    (r.1, from-there c.args.self.now.bound r.0 c.args.place c.index.result.now r.1 r.2.is r.3 c.index.ensures)
 
 pub returns-then-knows-clause-none : goal.returns-then-knows-clause-none
-returns-then-knows-clause-none g c = λ is policy s noted seen numbered at known.
+returns-then-knows-clause-none g c = λ is policy s noted at led known.
     let b = c.args.self.now.bound in
     let list = c.of-list.result in
-    known-lacks-none b.joined.now.modules.items policy s list.«module» list.list c.in-Some.class (c.in-Some.ensures policy s seen)
+    known-lacks-none b.joined.now.modules.items policy s list.«module» list.list c.args.class led
     (c.of-list.ensures s (from-there b policy c.args.place c.index.result.now s noted.is at c.index.ensures))
-    (known list.«module» list.list c.in-Some.class (sym c.knows.ensures ∙ c.if-knows.true))
+    (known.lists list.«module» list.list c.args.class (sym c.knows.ensures ∙ c.if-knows.true))
+
+pub seen-requires : goal.seen-requires
+seen-requires g c = let r = c.requires in record { is = (r.0, r.2.is, slice_get_within r.0 c.args.place r.1 r.3) }
+
+pub returns-then-not-has_named-clause-known : goal.returns-then-not-has_named-clause-known
+returns-then-not-has_named-clause-known g c = λ policy s noted at led known.
+    c.has_named.ensures.known policy s noted (c.seen.ensures.seen policy s noted.is at) (c.seen.ensures.worded policy noted.is)
+    (c.args.place, slice_get_within policy c.args.place s at, get_or_from_slice_get policy c.args.place s s at) led known
 
 pub returns-clause-none : goal.returns-clause-none
-returns-clause-none g c = λ is policy s noted seen numbered at known.
-    reads-nothing c.args.seen.now (lacking_words policy s) (c.in_default-lacking.ensures policy s noted seen numbered (c.args.place, slice_get_within policy c.args.place s at, get_or_from_slice_get policy c.args.place s s at))
+returns-clause-none g c = λ is policy s noted at led known.
+    c.has_named.ensures.none c.if-not-has_named.false policy s noted (c.seen.ensures.seen policy s noted.is at) (c.seen.ensures.worded policy noted.is)
+    (c.args.place, slice_get_within policy c.args.place s at, get_or_from_slice_get policy c.args.place s s at) led known
 
 pub returns-clause-known : goal.returns-clause-known
-returns-clause-known g c = λ policy s noted seen numbered at known.
+returns-clause-known g c = λ policy s noted at led known.
     let b = c.args.self.now.bound in
     let list = c.of-list.result in
-    let none = reads-nothing c.args.seen.now (lacking_words policy s) (c.in_default-lacking.ensures policy s noted seen numbered (c.args.place, slice_get_within policy c.args.place s at, get_or_from_slice_get policy c.args.place s s at)) in
-    c.note-noted.ensures (has_list b.joined.now.modules.items policy)
-    (lacks-none-known b.joined.now.modules.items policy s list.«module» list.list c.in-Some.class (c.in-Some.ensures policy s seen)
-    (c.of-list.ensures s (from-there b policy c.args.place c.index.result.now s noted.is at c.index.ensures)) none)
-    known
+    let seen = c.seen.ensures.seen policy s noted.is at in
+    let worded = c.seen.ensures.worded policy noted.is in
+    let contained : Contains policy s = (c.args.place, slice_get_within policy c.args.place s at, get_or_from_slice_get policy c.args.place s s at) in
+    let none = c.has_named.ensures.none c.if-not-has_named.false policy s noted seen worded contained led known in
+    let after = c.has_named.ensures.known policy s noted seen worded contained led known in record {
+      lists = c.note-noted.ensures (has_list b.joined.now.modules.items policy)
+          (lacks-none-known b.joined.now.modules.items policy s list.«module» list.list c.args.class led (c.of-list.ensures s (from-there b policy c.args.place c.index.result.now s noted.is at c.index.ensures)) none) after.lists;
+      recent = after.recent;
+    }

@@ -1,4 +1,5 @@
 use Rattle.std.proofs.Common.{◌≤◌, ◌<◌, length, sym, ◌∙◌, true≢false, arith}
+use Rattle.cil_check.specs.Recent.{has_permission}
 use Rattle.cil_check.proofs.CleanLemmas.{clean-first, clean-next, clean-end}
 use Rattle.cil_check.proofs.SeenLemmas.{there-at}
 use Rattle.cil_check.proofs.checker.Checker.is_clean.Goals as goal
@@ -6,21 +7,13 @@ use Rattle.cil_check.proofs.checker.Checker.is_clean.Goals as goal
 pub loop-i-init : goal.loop-i-init
 loop-i-init g c = record {
   clean = λ policy noted. clean-first policy;
-  known = λ policy noted number list place is. absurd (true≢false (sym is ∙ c.new-known.ensures number list place));
+  known = λ policy noted. record { lists = λ number list place is. absurd (true≢false (sym is ∙ c.new-known.ensures.lists number list place)); recent = c.new-known.ensures.recent (has_permission c.args.self.now.bound.policy.now.names policy) };
 }
-
-pub seen-seen-requires : goal.seen-seen-requires
-seen-seen-requires g c =
-    let count = c.len-i-end.ensures c.requires.0 c.requires.1.is in
-    record { is = (c.requires.0, c.requires.1.is, omega (arith, count)) }
 
 pub is_clean_by-requires : goal.is_clean_by-requires
 is_clean_by-requires g c =
-    let (policy, noted) = c.requires in
-    let count = c.len-i-end.ensures policy noted.is in
-    let less : c.loop-i.i < length policy = omega (arith, count) in
-    let (s, at) = there-at policy c.loop-i.i less in
-    (policy, s, noted, c.seen-seen.ensures.seen policy s noted.is at, at)
+    let count = c.len-i-end.ensures c.requires.0 c.requires.1.is in
+    (c.requires.0, c.requires.1, omega (arith, count))
 
 pub loop-i-preserved : goal.loop-i-preserved
 loop-i-preserved g c = record {
@@ -28,16 +21,8 @@ loop-i-preserved g c = record {
       let count = c.len-i-end.ensures policy noted.is in
       let less : c.loop-i.i < length policy = omega (arith, count) in
       let (s, at) = there-at policy c.loop-i.i less in
-      let seen = c.seen-seen.ensures.seen policy s noted.is at in
-      clean-next policy c.loop-i.i s at
-      (c.is_clean_by.ensures.clean c.if-not-is_clean_by.false policy s noted seen (c.seen-seen.ensures.worded policy noted.is) at (c.loop-i.invariant.known policy noted))
-      (c.loop-i.invariant.clean policy noted);
-  known = λ policy noted.
-      let count = c.len-i-end.ensures policy noted.is in
-      let less : c.loop-i.i < length policy = omega (arith, count) in
-      let (s, at) = there-at policy c.loop-i.i less in
-      let seen = c.seen-seen.ensures.seen policy s noted.is at in
-      c.is_clean_by.ensures.known policy s noted seen (c.seen-seen.ensures.worded policy noted.is) at (c.loop-i.invariant.known policy noted);
+      clean-next policy c.loop-i.i s at (c.is_clean_by.ensures.clean c.if-not-is_clean_by.false policy s noted at (c.loop-i.invariant.known policy noted)) (c.loop-i.invariant.clean policy noted);
+  known = λ policy noted. c.is_clean_by.ensures.known policy noted (c.loop-i.invariant.known policy noted);
 }
 
 pub returns : goal.returns

@@ -1,5 +1,5 @@
-use Rattle.cil_check.proofs.Common.{List, Placed, IsNoted, has_list}
-use Rattle.cil_bind.specs.KnownLists.{AreKnown}
+use Rattle.cil_check.proofs.Common.{List, Placed, IsNoted}
+use Rattle.cil_check.specs.Recent.{IsKnown}
 use Rattle.cil_check.proofs.CleanLemmas.{AreCleanBelow}
 use Rattle.cil_check.proofs.checker.Checker.is_clean.Given as goal
 
@@ -7,5 +7,5 @@ use Rattle.cil_check.proofs.checker.Checker.is_clean.Given as goal
 abbrev pub invariant-loop-i : goal.invariant-loop-i
 invariant-loop-i g l = record {
   clean : (policy : List Placed) → IsNoted l.self policy → AreCleanBelow policy l.i;
-  known : (policy : List Placed) → IsNoted l.self policy → AreKnown (has_list l.self.bound.joined.now.modules.items policy) l.known;
+  known : (policy : List Placed) → IsNoted l.self policy → IsKnown l.self policy l.known;
 }

@@ -1,14 +1,29 @@
-use Rattle.std.proofs.Common.{sym, ap, ◌∙◌}
-use Rattle.cil_check.specs.Kinds.{is_rule, is_plain}
-use Rattle.cil_check.proofs.KnownLemmas.{rule-clean, plain-clean}
-use Rattle.cil_check.proofs.SeenLemmas.{seen-kind}
+use Rattle.cil_check.proofs.Common.{◌<◌, ap, arith, is_plain, is_rule, length, sym, ◌∙◌}
+use Rattle.cil_check.proofs.KnownLemmas.{plain-clean}
+use Rattle.cil_check.proofs.SeenLemmas.{is-long, there-at}
 use Rattle.cil_check.proofs.checker.Checker.is_clean_by.Goals as goal
 
-pub returns-then-is_rule-clause-clean : goal.returns-then-is_rule-clause-clean
-returns-then-is_rule-clause-clean g c = λ is policy s noted seen numbered at known.
-    rule-clean policy c.args.place s (sym (c.is_rule.ensures ∙ ap is_rule (seen-kind c.args.seen.now policy s seen)) ∙ c.if-is_rule.true) noted.is.inside at
-    (c.is_clean_rule.ensures.missing is policy s noted seen numbered at known) (c.is_clean_rule.ensures.unset is policy s noted seen)
-
 pub returns-then-is_plain-clause-clean : goal.returns-then-is_plain-clause-clean
-returns-then-is_plain-clause-clean g c = λ is policy s noted seen numbered at known.
-    plain-clean policy c.args.place s (sym (c.is_plain.ensures ∙ ap is_plain (seen-kind c.args.seen.now policy s seen)) ∙ c.if-is_plain.true) noted.is.inside at
+returns-then-is_plain-clause-clean g c = λ is policy s noted at known.
+    plain-clean policy c.args.place s (sym (c.is_plain.ensures ∙ ap is_plain (c.kind-kind.ensures policy s noted.is at)) ∙ c.if-is_plain.true) noted.is.inside at
+
+pub is_clean_rule-requires : goal.is_clean_rule-requires
+is_clean_rule-requires g c =
+    let (policy, noted, less) = c.requires in
+    let (s, at) = there-at policy c.args.place less in
+    (policy, s, noted, at, sym (c.is_rule.ensures ∙ ap is_rule (c.kind-kind.ensures policy s noted.is at)) ∙ c.if-is_rule.true)
+
+pub returns-then-is_rule-clause-known : goal.returns-then-is_rule-clause-known
+returns-then-is_rule-clause-known g c = λ policy noted known.
+    let long = is-long c.args.self.now.bound policy noted.is in
+    let other = is-long c.args.self.now.bound c.requires.0 c.requires.1.is in
+    let within = c.requires.2 in
+    let less : c.args.place < length policy = omega (arith, long, other, within) in
+    let (s, at) = there-at policy c.args.place less in
+    c.is_clean_rule.ensures.known policy s noted at (sym (c.is_rule.ensures ∙ ap is_rule (c.kind-kind.ensures policy s noted.is at)) ∙ c.if-is_rule.true) known
+
+pub is_clean_at-requires : goal.is_clean_at-requires
+is_clean_at-requires g c =
+    let (policy, noted, less) = c.requires in
+    let (s, at) = there-at policy c.args.place less in
+    (policy, s, noted, c.seen.ensures.seen policy s noted.is at, at)

@@ -1,0 +1,88 @@
+-- Statements whose references are bound, and not to aliases without an actual type.
+use Rattle.cil_check.proofs.Common.{◌≡◌, ℕ, length, not, ◌&&◌, ◌||◌, Bool, true, false, List, [], ◌∷◌, ◌++◌, map, filter, cond, Option, Some, None, is_some, refl, sym, ap, ◌∙◌, subst, true≢false, append-nil, list_all, option_and_then, option_map, slice_get-map, same_Some, first_true, second_true, AllByRecursion, Word, Form, attribute_set, rule, itself, the_named, leaves, Placed, Table, types, classes, leads, references, is_alias, is_unfound, is_unset, element_words, kind_of, IsLead, HasFirsts, Actual, is_rule, rule_class, class_lead, first_at}
+use Rattle.std.proofs.Common.{◌-◌, slice_get}
+use Rattle.cil_specs.specs.Statements.{target_words}
+use Rattle.cil_parse.specs.declared.row.StatementKind.{StatementKind}
+use Rattle.cil_bind.specs.Binding.{AreLeads, kinds_of}
+use Rattle.cil_check.specs.Clean.{is_sound, is_sound_at}
+use Rattle.cil_check.specs.declared.kinds.Kind.TheVariants.{Alias}
+use Rattle.cil_check.proofs.SeenLemmas.{kind-form}
+use Rattle.cil_check.proofs.WordLemmas.{Led, led-at, unset-noted}
+
+-- a reference leads somewhere, and not to an alias without an actual type
+pub record IsSound (policy : List Placed) (namespace : List (List ℕ)) (r : Table × Word) : Type 0 where
+  pub found : is_unfound policy namespace r ≡ false
+  pub actual : r.0 ≡ types → is_unset policy namespace r.1 ≡ false
+
+either-not : (a b : Bool) → (not a || b) ≡ true → (a && not b) ≡ false
+either-not true true is = refl
+either-not true false is = absurd (true≢false (sym is))
+either-not false b is = refl
+
+-- a reference that is bound to a sound place
+sound-lead : (policy : List Placed) (actuals : List (ℕ × ℕ)) (namespace : List (List ℕ)) (r : Table × Word) (found : Option ℕ) → HasFirsts Actual policy actuals
+    → IsLead r.0 policy found (leads policy r.0 namespace r.1.text) → is_sound (kinds_of policy) actuals found ≡ true → IsSound policy namespace r
+sound-lead policy actuals namespace r None has led is = absurd (true≢false (sym is))
+sound-lead policy actuals namespace r (Some place) has led is = record {
+  found = ap (λ l. not (is_some l)) (led-at r.0 policy place (leads policy r.0 namespace r.1.text) led).is;
+  actual = λ same. set-lead (led-at types policy place (leads policy types namespace r.1.text) (subst (λ t. IsLead t policy (Some place) (leads policy t namespace r.1.text)) same led));
+}
+  where
+    set-lead : Led types policy place (leads policy types namespace r.1.text) → is_unset policy namespace r.1 ≡ false
+    set-lead lead =
+        unset-noted policy namespace r.1 actuals place lead has
+        ∙ either-not (is_alias lead.s.form) (is_some (first_at actuals place))
+        (ap (λ a. not a || is_some (first_at actuals place)) (sym (kind-form Alias lead.s.form))
+        ∙ ap (is_sound_at actuals place) (sym (slice_get-map (λ s. kind_of s.form) policy place ∙ ap (option_map (λ s. kind_of s.form)) lead.at)) ∙ is)
+
+-- so are all references of a statement
+pub sound-all : (policy : List Placed) (kinds : List StatementKind) (actuals : List (ℕ × ℕ)) (namespace : List (List ℕ)) (refs : List (Table × Word)) (bound : List (Option ℕ)) → kinds ≡ kinds_of policy → HasFirsts Actual policy actuals
+    → AreLeads policy namespace refs bound → list_all (is_sound kinds actuals) bound ≡ true → AllByRecursion (IsSound policy namespace) refs
+sound-all policy kinds actuals namespace [] [] same has are all = tt
+sound-all policy kinds actuals namespace [] (b ∷ bound) same has are all = absurd are
+sound-all policy kinds actuals namespace (r ∷ refs) [] same has are all = absurd are
+sound-all policy kinds actuals namespace (r ∷ refs) (b ∷ bound) same has are all = (
+  sound-lead policy actuals namespace r b has are.0 (ap (λ l. is_sound l actuals b) (sym same) ∙ first_true (is_sound kinds actuals b) (list_all (is_sound kinds actuals) bound) all),
+  sound-all policy kinds actuals namespace refs bound same has are.1 (second_true (is_sound kinds actuals b) (list_all (is_sound kinds actuals) bound) all),
+)
+
+-- none of them is unfound
+pub none-unfound : (policy : List Placed) (namespace : List (List ℕ)) (refs : List (Table × Word)) → AllByRecursion (IsSound policy namespace) refs → map (λ r. r.1) (filter (is_unfound policy namespace) refs) ≡ []
+none-unfound policy namespace [] all = refl
+none-unfound policy namespace (r ∷ refs) all =
+    ap (λ b. map (λ (r : Table × Word). r.1) (cond b (r ∷ filter (is_unfound policy namespace) refs) (filter (is_unfound policy namespace) refs))) all.0.found ∙ none-unfound policy namespace refs all.1
+
+-- and no element is an alias without an actual type
+none-unset : (policy : List Placed) (namespace : List (List ℕ)) (words : List Word) (more : List (Table × Word)) → AllByRecursion (IsSound policy namespace) (map (λ w. (types, w)) words ++ more) → filter (is_unset policy namespace) words ≡ []
+none-unset policy namespace [] more all = refl
+none-unset policy namespace (w ∷ words) more all =
+    ap (λ b. cond b (w ∷ filter (is_unset policy namespace) words) (filter (is_unset policy namespace) words)) (all.0.actual refl) ∙ none-unset policy namespace words more all.1
+
+pub none-unset-of : (policy : List Placed) (namespace : List (List ℕ)) (form : Form) → AllByRecursion (IsSound policy namespace) (references form) → filter (is_unset policy namespace) (element_words form) ≡ []
+none-unset-of policy namespace (rule kind source target the_class permissions) all = none-unset policy namespace (source ∷ target_words target) ((classes, the_class) ∷ []) all
+none-unset-of policy namespace (attribute_set attribute expr) all =
+    none-unset policy namespace (leaves expr) [] (subst (AllByRecursion (IsSound policy namespace)) (sym (append-nil (map (λ w. (types, w)) (leaves expr)))) all.1)
+none-unset-of policy namespace _ all = refl
+
+-- the last reference of a rule is its class
+pub class-last : (policy : List Placed) (s : Placed) (bound : List (Option ℕ)) (place : ℕ) → is_rule (kind_of s.form) ≡ true → AreLeads policy s.namespace (references s.form) bound → slice_get bound (length bound - 1) ≡ Some (Some place)
+    → IsLead classes policy (Some place) (class_lead policy s)
+class-last policy s bound place is are at = by s.form is bound are at
+  where
+    lead : Form → Option Placed
+    lead form = option_and_then (λ w. leads policy classes s.namespace w.text) (rule_class form)
+
+    at-last : (form : Form) (found : Option ℕ) → Some found ≡ Some (Some place) → IsLead classes policy found (lead form) → IsLead classes policy (Some place) (lead form)
+    at-last form found same = subst (λ o. IsLead classes policy o (lead form)) (same_Some found (Some place) same)
+
+    by : (form : Form) → is_rule (kind_of form) ≡ true → (bound : List (Option ℕ)) → AreLeads policy s.namespace (references form) bound → slice_get bound (length bound - 1) ≡ Some (Some place) → IsLead classes policy (Some place) (lead form)
+    by (rule kind source itself the_class permissions) is (a ∷ b ∷ []) are at = at-last (rule kind source itself the_class permissions) b at are.1.0
+    by (rule kind source itself the_class permissions) is [] are at = absurd are
+    by (rule kind source itself the_class permissions) is (a ∷ []) are at = absurd are.1
+    by (rule kind source itself the_class permissions) is (a ∷ b ∷ c ∷ more) are at = absurd are.1.1
+    by (rule kind source (the_named word) the_class permissions) is (a ∷ b ∷ c ∷ []) are at = at-last (rule kind source (the_named word) the_class permissions) c at are.1.1.0
+    by (rule kind source (the_named word) the_class permissions) is [] are at = absurd are
+    by (rule kind source (the_named word) the_class permissions) is (a ∷ []) are at = absurd are.1
+    by (rule kind source (the_named word) the_class permissions) is (a ∷ b ∷ []) are at = absurd are.1.1
+    by (rule kind source (the_named word) the_class permissions) is (a ∷ b ∷ c ∷ d ∷ more) are at = absurd are.1.1.1
+    by _ is bound are at = absurd (true≢false (sym is))

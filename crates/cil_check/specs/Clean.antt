@@ -1,0 +1,16 @@
+-- What the references of statements without faults are bound to.
+use Rattle.std.specs.Prelude.{ℕ, Bool, false, not, ◌||◌, List, Option, Some, None, is_some, slice_get}
+use Rattle.cil_parse.specs.declared.row.StatementKind.{StatementKind}
+use Rattle.cil_check.specs.declared.kinds.Kind.TheVariants.{Alias}
+use Rattle.cil_check.specs.Associations.{first_at}
+use Rattle.cil_check.specs.Kinds.{is_kind}
+
+-- whether the statement of a place is no alias, or is one that has an actual type
+abbrev pub is_sound_at : List (ℕ × ℕ) → ℕ → Option StatementKind → Bool
+is_sound_at actuals place None = false
+is_sound_at actuals place (Some kind) = not (is_kind Alias kind) || is_some (first_at actuals place)
+
+-- whether a reference is bound, and not to an alias without an actual type, by the kinds of the statements
+abbrev pub is_sound : List StatementKind → List (ℕ × ℕ) → Option ℕ → Bool
+is_sound kinds actuals None = false
+is_sound kinds actuals (Some place) = is_sound_at actuals place (slice_get kinds place)
