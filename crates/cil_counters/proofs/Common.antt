@@ -2,7 +2,7 @@
 pub use Rattle.cil_bind.proofs.PositionLemmas.{any-position}
 pub use Rattle.cil_counters.specs.ChangedMembers.{AreChangedMembers, AreHit, AreNamed, has_turned, pair_of, pairs_of}
 pub use Rattle.cil_counters.specs.Counted.{AreSettled, AreSymbolsOf, AreTakenBack, IsCounted, IsCountedBy, IsNow, WasBefore, atom_with, count_at, had_named, has_at, has_named, symbols_now}
-pub use Rattle.cil_counters.specs.SymbolRanks.{ArePut, AreRanks, IsPut}
+pub use Rattle.cil_counters.specs.SymbolRanks.{ArePut, AreRanks}
 pub use Rattle.cil_keyed_lines.specs.declared.symbol_key.SymbolKey.{SymbolKey}
 pub use Rattle.cil_member_rows.specs.Rows.{count_before, count_now}
 pub use Rattle.cil_member_updates.proofs.SymbolLemmas.{numbers-long, symbol-name, symbol-of, symbol-some}
@@ -13,7 +13,6 @@ pub use Rattle.cil_resolve.specs.Resolved.{meaning_in}
 pub use Rattle.cil_resolve.specs.Sets.{name_in, sets_in}
 pub use Rattle.cil_resolve.specs.declared.resolved.Resolved.{Resolved}
 pub use Rattle.cil_rule_reach.specs.Named.{AreMembersOf, atom_of, is_named, name_at}
-pub use Rattle.cil_rules.specs.Ranks.{ArePlaces, IsMerged}
 pub use Rattle.cil_specs.proofs.ReportLemmasMembers.{AnyByRecursion, all_from_contains, all_weaker, any-map, any_from, any_from_map, any_to, contains_from, contains_to}
 pub use Rattle.cil_specs.specs.Dependence.{AreTheSame}
 pub use Rattle.cil_specs.specs.Lookup.{has_name}
