@@ -1,5 +1,5 @@
 -- The changes between two policies by full names, told by their counters.
-use Rattle.cil_counters.proofs.Common.{◌≡◌, ◌↔◌, ℕ, ◌<◌, ◌&&◌, Bool, true, false, not, cond, List, [], length, map, get_or, nat_lt, slice_get, slice_index, Some, refl, sym, ap, subst, ◌∙◌, inl, inr, arith, IsTrue, IsStrictlySortedBy, and_from, and_parts, both_ways, cases_Bool, cases_lt, lt-ltb, ltb-true, not-true, get_or_from_slice_get, slice_get-get_or, slice_get_within, count_of, is_in_table, AreAtoms, AreChanges, all_from_contains, any-map, any_from, any_from_map, any_to, contains_from, contains_to, SymbolKey, meaning_in, Resolved, symbol-name, symbol-some, atom_of, is_named, name_at, and-first, and-second, IsCounted, AreRanks}
+use Rattle.cil_counters.proofs.Common.{◌≡◌, ◌↔◌, ℕ, ◌<◌, ◌&&◌, Bool, true, false, not, cond, List, [], length, map, get_or, nat_lt, slice_get, slice_index, Some, refl, sym, ap, subst, ◌∙◌, inl, inr, arith, IsTrue, IsStrictlySortedBy, and_from, and_parts, both_ways, cases_Bool, cases_lt, lt-ltb, ltb-true, not-true, get_or_from_slice_get, slice_get-get_or, slice_get_within, count_of, is_in_table, AreAtoms, all_from_contains, any-map, any_from, any_from_map, any_to, contains_from, contains_to, SymbolKey, meaning_in, Resolved, symbol-name, symbol-some, atom_of, is_named, name_at, and-first, and-second, IsCounted, AreRanks}
 use Rattle.std.proofs.Common.{Contains}
 use Rattle.cil_specs.specs.Rule as spec
 use Rattle.cil_accesses.specs.declared.access.AccessNumbers.{AccessNumbers}

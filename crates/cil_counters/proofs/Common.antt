@@ -18,7 +18,7 @@ pub use Rattle.cil_specs.specs.Dependence.{AreTheSame}
 pub use Rattle.cil_specs.specs.Lookup.{has_name}
 pub use Rattle.cil_specs.specs.Meaning.{Meaning, aims, count_of, is_in, is_in_table, keeps_type}
 pub use Rattle.cil_specs.specs.Members.{HasSoundSets, is_member, keeps_attribute}
-pub use Rattle.cil_specs.specs.Report.{AreAtoms, AreChanges, atom_cmp, is_listed, names_rise}
+pub use Rattle.cil_specs.specs.Report.{AreAtoms, AreChanges, atom_cmp, is_listed}
 pub use Rattle.cil_specs.specs.Rule.{Atom, SetStatement, at_element, at_itself, kind_index}
 pub use Rattle.cil_specs.specs.Sets.{differ, holds_with}
 pub use Rattle.cil_symbols.proofs.NameLemmas.{found-name}
@@ -30,7 +30,7 @@ pub use Rattle.cil_text.specs.declared.statement.RuleKind.{RuleKind}
 pub use Rattle.cil_text.specs.declared.statement.RuleKind.TheVariants.{Allow, AuditAllow, DontAudit, NeverAllow}
 pub use Rattle.std.proofs.Common.{Bool, Equal, Greater, Less, List, None, Option, Some, [], ap, arith, bytes_eq, cond, count_by, false, get_or, inl, inr, is_some, length, map, max, min, nat_lt, not, position, refl, set, slice_get, slice_index, slice_index_or, subst, suc, sym, take, take_all, true, true≢false, zero, zero-add, ℕ, ◌%◌, ◌&&◌, ◌*◌, ◌++◌, ◌+◌, ◌-◌, ◌/◌, ◌<◌, ◌==◌, ◌^◌, ◌||◌, ◌↔◌, ◌∙◌, ◌∷◌, ◌≡◌, ◌≢◌, ◌≤◌, ◌⊎◌}
 pub use Rattle.std.proofs.lemmas.Bool.{and_from, and_parts, both_ways, cases_Bool, cases_eq, cases_lt, le-ltb, lt-ltb, ltb-true, not-true}
-pub use Rattle.std.proofs.lemmas.List.{get_or-set_other, get_or-set_same, get_or_append_left, length-map, length-set, map-append}
+pub use Rattle.std.proofs.lemmas.List.{get_or-set_other, get_or-set_same, length-map, length-set, map-append}
 pub use Rattle.std.proofs.lemmas.List.Folds.{list_any_at}
 pub use Rattle.std.proofs.lemmas.List.Sums.{sum_by-cons, sum_by_more, sum_by_more_le}
 pub use Rattle.std.proofs.lemmas.Option.{get_or_from_slice_get, none-some, same_Some, slice_get-get_or, slice_get_past, slice_get_within}

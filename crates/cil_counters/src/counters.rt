@@ -284,8 +284,9 @@ impl<A: Allocator + Copy> Counters<A> {
         Violations::of(alloc, new, &next.numbering, &self.rows)
     }
 
-    /// The changes from an old policy, whose counters stand before the steps, to a new one, whose counters stand now. What appeared
-    /// has the names of the new policy, which it shares, and what went those of the old one.
+    /// The changes from an old policy, whose counters stand before the steps, to a new one, whose
+    /// counters stand now. What appeared has the names of the new policy, which it shares, and what
+    /// went those of the old one.
     fn changes(
         &self,
         alloc: A,
@@ -397,8 +398,9 @@ impl<A: Allocator + Copy> Counters<A> {
     /// Brings the counters from those of an old policy, which they hold, to those of a new one, in steps, and answers the changes from
     /// the access table of the old policy to that of the new one. The meter counts as an adjustment each counter of an access that it
     /// moves, and as an evaluation each look whether a set statement holds a type. Also after an out of memory `undo` leads back to
-    /// the old policy, and no counter of an access is above the number of rules of both policies that give it. The changes share the
-    /// policies, whose names they have. Out of memory stands also where no more owners of these can be counted.
+    /// the old policy, and no counter of an access is above the number of rules of both policies that give it.
+    /// The changes share the policies, whose names they have. Out of memory stands also where no more
+    /// owners of these can be counted.
     pub fn update(
         &mut self,
         alloc: A,
@@ -424,7 +426,7 @@ impl<A: Allocator + Copy> Counters<A> {
         self.changes(alloc, old, new)
     }
 
-    /// `update`, which answers how many changes there are and none of them: no access is put together, ranked or put in order.
+    /// `update`, which answers how many changes there are and none of them: no access is put together or put in order.
     pub fn update_counted(
         &mut self,
         alloc: A,

@@ -1,4 +1,5 @@
 pub mod Common
 pub mod Atoms
+pub mod NameList
 pub mod NumberedRows
 pub mod Rows

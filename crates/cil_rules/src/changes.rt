@@ -25,7 +25,7 @@ impl<A: Allocator> Model for Changes<A> {
 }
 
 impl<A: Allocator> Changes<A> {
-    /// The changes that are these accesses, of which each table shares the policy whose names they have.
+    /// The changes that are these accesses. Each table shares the policy whose names they have.
     pub fn of(added: Table<A>, removed: Table<A>) -> Self
         ensures { result ≡ record { added = added; removed = removed } }
     {

@@ -8,8 +8,8 @@ use std::alloc::{AllocError, Allocator, Global};
 use std::marker::Model;
 use std::rc::Rc;
 
-/// The names that accesses are numbered by: those of a policy, which it shares with others and doesn't copy, or none. Contracts see it
-/// as the list of the names.
+/// The names that accesses are numbered by: those of a policy, which it shares with others and
+/// doesn't copy, or none. Contracts see it as the list of the names.
 #[derive(Drop)]
 pub struct NameList<A: Allocator = Global> {
     policy: Option<Rc<Resolved<A>, A>>,
@@ -21,7 +21,9 @@ impl<A: Allocator> Model for NameList<A> {
 
     ghost Value = { List (List ℕ) };
 
-    ghost view = { λ l. unwrap_or (option_map (λ policy. (rc_value policy).names.items) l.policy) [] };
+    ghost use Rattle.cil_rules.specs.NameList.{names_of};
+
+    ghost view = { λ l. unwrap_or (option_map (λ p. names_of (rc_value p)) l.policy) [] };
 }
 
 impl<A: Allocator> NameList<A> {

@@ -1,5 +1,5 @@
 -- The accesses of the targets that appeared or went, change by change.
-use Rattle.cil_symbol_changes.proofs.Common.{◌≡◌, ◌↔◌, ℕ, ◌+◌, ◌-◌, ◌++◌, ◌<◌, ◌≤◌, suc, List, [], ◌∷◌, Option, None, Some, MatchOption, length, map, min, position, slice_get, refl, sym, ap, subst, ◌∙◌, inl, inr, arith, sum_by, take, take_all, take_more, cases_eq, cases_lt, get_or_past, sum_by-cons, sum_by_more_le, same_Some, slice_get_within, AccessNumbers, Chunk, Keyed, IsLineOf, IsNoLine, NoneCounted, before_at, is_key, now_at, count_before, count_now, SymbolKey, hit, hit_at, Change, hit_in, hit_nothing, hit_off, AreGained, AreKnown, AreKnownIn, IsIn, IsTo, access_by, ArePresentNumbered, IsNew, AreAppeared, HasAppeared, IsAmong, LinePlace}
+use Rattle.cil_symbol_changes.proofs.Common.{◌≡◌, ◌↔◌, ℕ, ◌+◌, ◌-◌, ◌++◌, ◌<◌, ◌≤◌, suc, List, [], ◌∷◌, Option, None, Some, MatchOption, length, map, min, position, slice_get, refl, sym, ap, subst, ◌∙◌, inl, inr, arith, sum_by, take, take_all, take_more, cases_eq, cases_lt, get_or_past, sum_by-cons, sum_by_more_le, same_Some, slice_get_within, AccessNumbers, Chunk, Keyed, IsLineOf, IsNoLine, NoneCounted, is_key, count_before, count_now, SymbolKey, hit, hit_at, Change, hit_in, hit_nothing, hit_off, AreGained, AreKnown, AreKnownIn, IsIn, IsTo, access_by, ArePresentNumbered, IsNew, AreAppeared, HasAppeared, IsAmong, LinePlace}
 use Rattle.std.proofs.Common.{set}
 use Rattle.std.proofs.lemmas.List.{get_or-set_other, length-set, map_push, take_more_set}
 use Rattle.cil_keyed_lines.proofs.KeyedLemmas.{line_of_key}
@@ -145,19 +145,18 @@ module _ (numbers : List ℕ) (lines : Keyed) where
             record { place = l; key = told.key; line = line; target = told.target; among = omega (arith, one, absent, present); same = told.same }
 
 -- a key with a counter above 0 has a line
-pub line-now : (lines : Keyed) (key : SymbolKey) (t : ℕ) → 0 < count_now lines key t → (l : ℕ) × IsLineOf lines l key
-line-now lines key t some = by (position (is_key key) lines.keys) (line_of_key lines key (position (is_key key) lines.keys) refl)
+has-line : (lines : Keyed) (key : SymbolKey) → (NoneCounted lines key → ⊥) → (l : ℕ) × IsLineOf lines l key
+has-line lines key some = by (position (is_key key) lines.keys) (line_of_key lines key (position (is_key key) lines.keys) refl)
   where
     by : (o : Option ℕ) → MatchOption o (NoneCounted lines key) (λ l. IsLineOf lines l key) → (l : ℕ) × IsLineOf lines l key
-    by None none = let zero = (none t).0 in absurd (omega (arith, some, zero))
+    by None none = absurd (some none)
     by (Some l) line = (l, line)
 
+pub line-now : (lines : Keyed) (key : SymbolKey) (t : ℕ) → 0 < count_now lines key t → (l : ℕ) × IsLineOf lines l key
+line-now lines key t some = has-line lines key (λ none. let zero = (none t).0 in omega (arith, some, zero))
+
 pub line-before : (lines : Keyed) (key : SymbolKey) (t : ℕ) → 0 < count_before lines key t → (l : ℕ) × IsLineOf lines l key
-line-before lines key t some = by (position (is_key key) lines.keys) (line_of_key lines key (position (is_key key) lines.keys) refl)
-  where
-    by : (o : Option ℕ) → MatchOption o (NoneCounted lines key) (λ l. IsLineOf lines l key) → (l : ℕ) × IsLineOf lines l key
-    by None none = let zero = (none t).1 in absurd (omega (arith, some, zero))
-    by (Some l) line = (l, line)
+line-before lines key t some = has-line lines key (λ none. let zero = (none t).1 in omega (arith, some, zero))
 
 -- ---- changes turned round
 
@@ -183,15 +182,15 @@ pub turned-none : (old : List Change) → AreTurned old 0 old
 turned-none old = record { len = refl; front = refl; rest = λ k behind. refl }
 
 module _ (old : List Change) (n : ℕ) (new : List Change) (turned : AreTurned old n new) where
-  pub turned-more : (d : Change) → n < length new → d ≡ change_of new n → AreTurned old (n + 1) (set new n (round d))
-  turned-more d within is = record {
-    len = length-set new n (round d) ∙ turned.len;
+  pub turned-more : n < length new → AreTurned old (n + 1) (set new n (round (change_of new n)))
+  turned-more within = record {
+    len = length-set new n (round (change_of new n)) ∙ turned.len;
     front =
-        take_more_set new n (round d) within
-        ∙ (λ i. turned.front i ++ round ((is ∙ turned.rest n (omega arith)) i) ∷ [])
+        take_more_set new n (round (change_of new n)) within
+        ∙ (λ i. turned.front i ++ round (turned.rest n (omega arith) i) ∷ [])
         ∙ sym (map_push round (take n old) (change_of old n))
         ∙ ap (map round) (sym (take_more old n no_change (let len = turned.len in omega (arith, within, len))));
-    rest = λ k behind. get_or-set_other new n k (round d) no_change (omega (arith, behind)) ∙ turned.rest k (omega (arith, behind));
+    rest = λ k behind. get_or-set_other new n k (round (change_of new n)) no_change (omega (arith, behind)) ∙ turned.rest k (omega (arith, behind));
   }
 
   pub turned-all : length new ≤ n → new ≡ map round old

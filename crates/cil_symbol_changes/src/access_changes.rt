@@ -15,10 +15,11 @@ pub struct AccessChanges<A: Allocator = Global> {
     pub removed: Accesses<A>,
 }
 
-/// Which accesses appeared in lines since the last settling and which went: those that some rule gives now and none gave before,
-/// and those that some rule gave and none gives now. The symbols of the names of the ones have numbers in one list, and those of the
-/// others in another one, each at the place of the symbol; where two symbols had one number, their accesses couldn't be told apart. It
-/// takes time by the steps since then and by what changed, and looks at no other line.
+/// Which accesses appeared in lines since the last settling and which went: those that some rule
+/// gives now and none gave before, and those that some rule gave and none gives now. The symbols of
+/// the names of the ones have numbers in one list, and those of the others in another one, each at
+/// the place of the symbol; where two symbols had one number, their accesses couldn't be told apart.
+/// It takes time by the steps since then and by what changed, and looks at no other line.
 pub fn changes<A: Allocator + Copy>(
     alloc: A,
     lines: &KeyedLines<A>,

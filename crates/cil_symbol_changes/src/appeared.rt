@@ -54,8 +54,8 @@ fn push_place<A: Allocator>(
     }
 }
 
-/// Appends the accesses of the changes of some places, and puts them in order: a few at a time, where
-/// these changes are of one kind and source.
+/// Appends the accesses of the changes of some places, and puts them in order: a few at a time,
+/// where these changes are of one kind and source.
 fn push_source<A: Allocator>(
     growing: &mut GrowingChunks<A>,
     lines: &KeyedLines<A>,

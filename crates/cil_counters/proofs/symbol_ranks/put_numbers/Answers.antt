@@ -1,4 +1,4 @@
-use Rattle.cil_counters.proofs.Common.{◌∙◌, ◌+◌, Some, arith, sym, subst, none-some, same_Some, ArePut}
+use Rattle.cil_counters.proofs.Common.{◌∙◌, ◌+◌, arith, sym, subst, none-some, same_Some, ArePut}
 use Rattle.cil_counters.proofs.SymbolRankLemmas.{put-next, put-past}
 use Rattle.cil_counters.proofs.symbol_ranks.put_numbers.Goals as goal
 use Rattle.cil_counters.proofs.symbol_ranks.put_numbers.Goals.{in-Some+then-symbol-len, in-Some+else-symbol-len, in_default}

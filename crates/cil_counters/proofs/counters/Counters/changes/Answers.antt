@@ -1,7 +1,7 @@
-use Rattle.cil_counters.proofs.Common.{◌∙◌, subst, sym, rc_value, AreNumbersOf, meaning_in, is_in_table, AreAtoms, AreChanges, AreRanks}
+use Rattle.cil_counters.proofs.Common.{subst, sym, rc_value, AreNumbersOf, meaning_in, is_in_table, AreAtoms, AreChanges, AreRanks}
 use Rattle.cil_member_rows.specs.Rows as member_rows
 use Rattle.cil_keyed_lines.specs.Keyed as access_tables
-use Rattle.cil_counters.proofs.ChangedLemmas.{come-atoms, come-numbered, has_come, present-numbered}
+use Rattle.cil_counters.proofs.ChangedLemmas.{come-atoms, come-numbered, present-numbered}
 use Rattle.cil_counters.proofs.counters.Counters.changes.Goals as goal
 
 pub ranks_of-requires-now : goal.ranks_of-requires-now
