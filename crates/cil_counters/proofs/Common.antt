@@ -1,7 +1,7 @@
 -- The names from elsewhere that this crate's proofs cite most, passed on from one place.
 pub use Rattle.cil_bind.proofs.PositionLemmas.{any-position}
 pub use Rattle.cil_counters.specs.ChangedMembers.{AreChangedMembers, AreHit, AreNamed, has_turned, pair_of, pairs_of}
-pub use Rattle.cil_counters.specs.Counted.{AreSettled, AreSymbolsOf, AreTakenBack, IsCounted, IsCountedBy, IsNow, WasBefore, atom_with, count_at, had_named, has_at, has_named, symbols_now}
+pub use Rattle.cil_counters.specs.Counted.{AreReset, AreSettled, AreSymbolsOf, AreTakenBack, IsCounted, IsCountedBy, IsNow, WasBefore, atom_with, count_at, had_named, has_at, has_named, symbols_now}
 pub use Rattle.cil_counters.specs.SymbolRanks.{ArePut, AreRanks}
 pub use Rattle.cil_keyed_lines.specs.declared.symbol_key.SymbolKey.{SymbolKey}
 pub use Rattle.cil_member_rows.specs.Rows.{count_before, count_now}

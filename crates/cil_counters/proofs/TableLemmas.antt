@@ -39,6 +39,6 @@ listed-told symbols r members counts is_counted = record {
       let (is, in_table) = and_parts (is_listed (rule_kind_of key.kind)) (is_in_table (meaning_in r) (atom_of symbols key t)) there in (
         refl,
         some-listed counts key t is
-        (subst (λ c. 0 < c) (sym (counted-atom symbols r members counts is_counted key t known)) (ltb-true 0 (count_of (meaning_in r) (atom_of symbols key t)) in_table)),
+            (subst (λ c. 0 < c) (sym (counted-atom symbols r members counts is_counted key t known)) (ltb-true 0 (count_of (meaning_in r) (atom_of symbols key t)) in_table)),
       );
 }

@@ -4,8 +4,8 @@ use Rattle.cil_keyed_lines.specs.Keyed as access_tables
 use Rattle.cil_counters.proofs.ChangedLemmas.{come-atoms, come-numbered, present-numbered}
 use Rattle.cil_counters.proofs.counters.Counters.changes.Goals as goal
 
-pub ranks_of-requires-now : goal.ranks_of-requires-now
-ranks_of-requires-now g c =
+pub ranks_of-requires-2 : goal.ranks_of-requires-2
+ranks_of-requires-2 g c =
     subst (λ n. AreNumbersOf c.args.self.now.names n.symbols (rc_value c.args.new.now).names.items)
     (sym c.numbering_now.ensures) c.requires.now.symbols.numbers
 
@@ -23,8 +23,8 @@ changes-requires-clause-before g c =
     present-numbered symbols c.deref-2.result.now r (subst (AreRanks symbols r.names.items) (sym c.deref-2.ensures.value) c.in_ok-old_numbers.ensures)
     (member_rows.count_before c.args.self.now.rows) (access_tables.count_before c.args.self.now.tables) c.requires.before.counted
 
-pub numbered-requires-added : goal.numbered-requires-added
-numbered-requires-added g c =
+pub numbered-requires : goal.numbered-requires
+numbered-requires g c =
     let old = rc_value c.args.old.now in
     let new = rc_value c.args.new.now in
     let symbols = c.args.self.now.names in
@@ -32,8 +32,8 @@ numbered-requires-added g c =
     c.requires.before.counted c.requires.now.counted c.deref.result.now (subst (AreRanks symbols new.names.items) (sym c.deref.ensures.value) c.in_ok-new_numbers.ensures) c.in_ok-found.found.added
     c.in_ok-found.ensures.added_order c.in_ok-found.ensures.added
 
-pub numbered-requires-removed : goal.numbered-requires-removed
-numbered-requires-removed g c =
+pub numbered-requires-2 : goal.numbered-requires-2
+numbered-requires-2 g c =
     let old = rc_value c.args.old.now in
     let new = rc_value c.args.new.now in
     let symbols = c.args.self.now.names in
