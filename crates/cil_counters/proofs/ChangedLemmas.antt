@@ -1,5 +1,5 @@
 -- The changes between two policies by full names, told by their counters.
-use Rattle.cil_counters.proofs.Common.{◌≡◌, ◌↔◌, ℕ, ◌<◌, ◌&&◌, Bool, true, false, not, cond, List, [], length, map, get_or, nat_lt, slice_get, slice_index, Some, refl, sym, ap, subst, ◌∙◌, inl, inr, arith, IsTrue, IsStrictlySortedBy, and_from, and_parts, both_ways, cases_Bool, cases_lt, lt-ltb, ltb-true, not-true, get_or_from_slice_get, slice_get-get_or, slice_get_within, count_of, is_in_table, AreAtoms, all_from_contains, any-map, any_from, any_from_map, any_to, contains_from, contains_to, SymbolKey, meaning_in, Resolved, symbol-name, symbol-some, atom_of, is_named, name_at, and-first, and-second, IsCounted, AreRanks}
+use Rattle.cil_counters.proofs.Common.{◌≡◌, ◌↔◌, ℕ, ◌<◌, ◌&&◌, Bool, true, not, cond, List, [], length, map, get_or, nat_lt, slice_get, slice_index, Some, refl, sym, ap, subst, ◌∙◌, inl, inr, arith, IsTrue, IsStrictlySortedBy, and_from, and_parts, both_ways, cases_Bool, cases_lt, lt-ltb, ltb-true, not-true, get_or_from_slice_get, slice_get-get_or, slice_get_within, count_of, is_in_table, AreAtoms, all_from_contains, any-map, any_from, any_from_map, any_to, contains_from, contains_to, SymbolKey, meaning_in, Resolved, symbol-name, symbol-some, atom_of, is_named, name_at, and-first, and-second, IsCounted, AreRanks}
 use Rattle.std.proofs.Common.{Contains}
 use Rattle.cil_specs.specs.Rule as spec
 use Rattle.cil_accesses.specs.declared.access.AccessNumbers.{AccessNumbers}
@@ -8,6 +8,7 @@ use Rattle.cil_accesses.specs.Renumbered.{IsWithin}
 use Rattle.cil_rules.specs.Atoms.{atom_at, AreNumbered}
 use Rattle.cil_rules.proofs.AtomLemmas.{atoms-ordered}
 use Rattle.cil_rules.proofs.TableLemmas.{table-numbered, IsNamed}
+use Rattle.cil_symbol_changes.specs.Counts.{has_risen}
 use Rattle.cil_symbol_changes.specs.Numbered.{access_by, ArePresentNumbered, IsNew, IsNumbered}
 use Rattle.cil_counters.proofs.ToldLemmas.{all-named}
 
@@ -61,6 +62,25 @@ module _ {A : Type 0} (symbols : List (List ℕ)) (r : Resolved A) (members : �
         same = (λ i. record { kind = (atom_at r.names.items n).kind; source = source_is i; target = target_is i; the_class = class_is i; permission = permission_is i }) ∙ same;
       }
 
+-- the symbols of an access stand for names
+pub record AreLow (symbols : List (List ℕ)) (key : SymbolKey) (t : ℕ) : Type 0 where
+  pub source : key.source < length symbols
+  pub target : t < length symbols
+  pub the_class : key.class < length symbols
+  pub permission : key.permission < length symbols
+
+pub are-low : (symbols : List (List ℕ)) (key : SymbolKey) (t : ℕ) → is_named symbols key t ≡ true → AreLow symbols key t
+are-low symbols key t named =
+    let n = length symbols in
+    let ends = and-first (nat_lt key.source n && nat_lt t n) (nat_lt key.class n && nat_lt key.permission n) named in
+    let others = and-second (nat_lt key.source n && nat_lt t n) (nat_lt key.class n && nat_lt key.permission n) named in
+    record {
+      source = ltb-true key.source n (and-first (nat_lt key.source n) (nat_lt t n) ends);
+      target = ltb-true t n (and-second (nat_lt key.source n) (nat_lt t n) ends);
+      the_class = ltb-true key.class n (and-first (nat_lt key.class n) (nat_lt key.permission n) others);
+      permission = ltb-true key.permission n (and-second (nat_lt key.class n) (nat_lt key.permission n) others);
+    }
+
 module _ {A : Type 0} (symbols : List (List ℕ)) (numbers : List ℕ) (r : Resolved A) (ranks : AreRanks symbols r.names.items numbers) where
   abbrev names : List (List ℕ)
   names = r.names.items
@@ -90,13 +110,12 @@ module _ {A : Type 0} (symbols : List (List ℕ)) (numbers : List ℕ) (r : Reso
   -- so has one of the table
   pub table-known : (key : SymbolKey) (t : ℕ) → is_named symbols key t ≡ true → is_in_table (meaning_in r) (atom_of symbols key t) ≡ true → IsKnown key t
   table-known key t listed there =
-      let (n, low, same) = table-numbered r (atom_of symbols key t) there in
-      let ends = and-first (nat_lt key.source (length symbols) && nat_lt t (length symbols)) (nat_lt key.class (length symbols) && nat_lt key.permission (length symbols)) listed in
-      let others = and-second (nat_lt key.source (length symbols) && nat_lt t (length symbols)) (nat_lt key.class (length symbols) && nat_lt key.permission (length symbols)) listed in
-      let source = ranked-symbol key.source (ltb-true key.source (length symbols) (and-first (nat_lt key.source (length symbols)) (nat_lt t (length symbols)) ends)) (n.source, low.source, ap (λ a. a.source) same) in
-      let target = ranked-symbol t (ltb-true t (length symbols) (and-second (nat_lt key.source (length symbols)) (nat_lt t (length symbols)) ends)) (n.target, low.target, ap (λ a. a.target) same) in
-      let class = ranked-symbol key.class (ltb-true key.class (length symbols) (and-first (nat_lt key.class (length symbols)) (nat_lt key.permission (length symbols)) others)) (n.class, low.the_class, ap (λ a. a.the_class) same) in
-      let permission = ranked-symbol key.permission (ltb-true key.permission (length symbols) (and-second (nat_lt key.class (length symbols)) (nat_lt key.permission (length symbols)) others)) (n.permission, low.permission, ap (λ a. a.permission) same) in
+      let (n, places, same) = table-numbered r (atom_of symbols key t) there in
+      let low = are-low symbols key t listed in
+      let source = ranked-symbol key.source low.source (n.source, places.source, ap (λ a. a.source) same) in
+      let target = ranked-symbol t low.target (n.target, places.target, ap (λ a. a.target) same) in
+      let class = ranked-symbol key.class low.the_class (n.class, places.the_class, ap (λ a. a.the_class) same) in
+      let permission = ranked-symbol key.permission low.permission (n.permission, places.permission, ap (λ a. a.permission) same) in
       record {
         numbered = record { source = source.has_number; among = target.has_number; the_class = class.has_number; permission = permission.has_number };
         within = record { source = source.within; target = target.within; the_class = class.within; permission = permission.within };
@@ -109,12 +128,19 @@ module _ {A : Type 0} (symbols : List (List ℕ)) (numbers : List ℕ) (r : Reso
       let listed = counted-listed symbols r members counts is key t some in
       table-known key t listed (lt-ltb 0 (count_of (meaning_in r) (atom_of symbols key t)) (subst (λ n. 0 < n) (counted-atom symbols r members counts is key t listed) some))
 
--- What is new by counters is, by the names of the accesses, what passes a test. It is counted, and of a table.
+-- The counters that rose from 0 are those of the accesses that pass a test. These are counted, and of a table.
 pub record AreTold (symbols : List (List ℕ)) (table test : spec.Atom → Bool) (counts was now : SymbolKey → ℕ → ℕ) : Type 0 where
   pub counted : (key : SymbolKey) (t : ℕ) → 0 < now key t → 0 < counts key t
   pub within : (a : spec.Atom) → IsTrue (test a) → IsTrue (table a)
-  pub new : (key : SymbolKey) (t : ℕ) → is_named symbols key t ≡ true → was key t ≡ 0 → 0 < now key t → IsTrue (test (atom_of symbols key t))
-  pub passed : (key : SymbolKey) (t : ℕ) → is_named symbols key t ≡ true → IsTrue (test (atom_of symbols key t)) → (was key t ≡ 0) × (0 < now key t)
+  pub risen : (key : SymbolKey) (t : ℕ) → is_named symbols key t ≡ true → has_risen (was key t) (now key t) ≡ test (atom_of symbols key t)
+
+risen-from : (was now : ℕ) → was ≡ 0 → 0 < now → has_risen was now ≡ true
+risen-from was now absent present = and_from (nat_lt 0 now) (not (nat_lt 0 was)) (lt-ltb 0 now present) (ap (λ n. not (nat_lt 0 n)) absent)
+
+risen-parts : (was now : ℕ) → has_risen was now ≡ true → (was ≡ 0) × (0 < now)
+risen-parts was now risen =
+    let (is, isnt) = and_parts (nat_lt 0 now) (not (nat_lt 0 was)) risen in
+    (elim (cases_lt 0 was) [ inl some ↦ absurd (both_ways (nat_lt 0 was) (not-true (nat_lt 0 was) isnt) (lt-ltb 0 was some)) | inr past ↦ omega (arith, past) ], ltb-true 0 now is)
 
 module _ {A : Type 0} (symbols : List (List ℕ)) (numbers : List ℕ) (r : Resolved A) (ranks : AreRanks symbols r.names.items numbers) (members : ℕ → ℕ → ℕ) (counts : SymbolKey → ℕ → ℕ) (is_counted : IsCounted symbols r members counts) where
   known : (key : SymbolKey) (t : ℕ) → 0 < counts key t → IsKnown symbols numbers r ranks key t
@@ -141,12 +167,13 @@ module _ {A : Type 0} (symbols : List (List ℕ)) (numbers : List ℕ) (r : Reso
         let one = (exact n).0 (k, low, at) in
         let some = told.counted one.key one.target one.present in
         let atom : atom_of symbols one.key one.target ≡ a = sym (known one.key one.target some).named ∙ ap (atom_at r.names.items) (sym one.same) ∙ same in
-        subst (λ x. IsTrue (test x)) atom (told.new one.key one.target (counted-listed symbols r members counts is_counted one.key one.target some) one.absent one.present)
+        let listed = counted-listed symbols r members counts is_counted one.key one.target some in
+        subst (λ x. IsTrue (test x)) atom (sym (told.risen one.key one.target listed) ∙ risen-from (was one.key one.target) (now one.key one.target) one.absent one.present)
 
     from-test : (a : spec.Atom) → IsTrue (test a) → Contains (map (atom_at r.names.items) found) a
     from-test a passes =
         let by = table-key symbols r members counts is_counted a (told.within a passes) in
-        let (absent, present) = told.passed by.key by.target by.listed (subst (λ x. IsTrue (test x)) (sym by.same) passes) in
+        let (absent, present) = risen-parts (was by.key by.target) (now by.key by.target) (told.risen by.key by.target by.listed ∙ ap test by.same ∙ passes) in
         let n : AccessNumbers = access_by numbers by.key by.target in
         let one : IsNew numbers was now n = record { key = by.key; target = by.target; absent = absent; present = present; same = refl } in
         let stands = (exact n).1 one in
@@ -157,40 +184,26 @@ module _ {A : Type 0} (symbols : List (List ℕ)) (numbers : List ℕ) (r : Reso
     pub found-atoms : AreAtoms test (map (atom_at r.names.items) found)
     found-atoms = record { ordered = atoms-ordered r.names.items found found-numbered; exact = λ a. (to-test a, from-test a) }
 
--- from an old policy to a new one
+-- ---- from an old policy to a new one
+
+-- what came to the table
+abbrev pub comes : {A : Type 0} → (old new : Resolved A) → spec.Atom → Bool
+comes old new a = is_in_table (meaning_in new) a && not (is_in_table (meaning_in old) a)
+
 module _ {A : Type 0} (symbols : List (List ℕ)) (old new : Resolved A) (old_members new_members : ℕ → ℕ → ℕ) (was now : SymbolKey → ℕ → ℕ) (old_counted : IsCounted symbols old old_members was) (new_counted : IsCounted symbols new new_members now) where
-  abbrev pub has_come : spec.Atom → Bool
-  has_come a = is_in_table (meaning_in new) a && not (is_in_table (meaning_in old) a)
+  -- a counter rose from 0 where the access of its names came to the table
+  pub come-risen : (key : SymbolKey) (t : ℕ) → is_named symbols key t ≡ true → has_risen (was key t) (now key t) ≡ comes old new (atom_of symbols key t)
+  come-risen key t named =
+      ap (λ n. has_risen n (now key t)) (counted-atom symbols old old_members was old_counted key t named)
+      ∙ ap (has_risen (count_of (meaning_in old) (atom_of symbols key t))) (counted-atom symbols new new_members now new_counted key t named)
 
-  -- the counters tell what came to the table
-  pub come-told : AreTold symbols (is_in_table (meaning_in new)) has_come now was now
-  come-told = record { counted = λ key t some. some; within = λ a come. (parts a come).0; new = come; passed = passed }
-    where
-      parts : (a : spec.Atom) → IsTrue (has_come a) → IsTrue (is_in_table (meaning_in new) a) × IsTrue (not (is_in_table (meaning_in old) a))
-      parts a = and_parts (is_in_table (meaning_in new) a) (not (is_in_table (meaning_in old) a))
+  come-told : AreTold symbols (is_in_table (meaning_in new)) (comes old new) now was now
+  come-told = record { counted = λ key t some. some; within = λ a come. (and_parts (is_in_table (meaning_in new) a) (not (is_in_table (meaning_in old) a)) come).0; risen = come-risen }
 
-      come : (key : SymbolKey) (t : ℕ) → is_named symbols key t ≡ true → was key t ≡ 0 → 0 < now key t → IsTrue (has_come (atom_of symbols key t))
-      come key t listed absent present =
-          let a : spec.Atom = atom_of symbols key t in
-          and_from (is_in_table (meaning_in new) a) (not (is_in_table (meaning_in old) a))
-          (lt-ltb 0 (count_of (meaning_in new) a) (subst (λ c. 0 < c) (counted-atom symbols new new_members now new_counted key t listed) present))
-          (ap (λ c. not (nat_lt 0 c)) (sym (counted-atom symbols old old_members was old_counted key t listed) ∙ absent))
-
-      passed : (key : SymbolKey) (t : ℕ) → is_named symbols key t ≡ true → IsTrue (has_come (atom_of symbols key t)) → (was key t ≡ 0) × (0 < now key t)
-      passed key t listed there =
-          let a : spec.Atom = atom_of symbols key t in
-          let both = parts a there in (
-            counted-atom symbols old old_members was old_counted key t listed ∙ none (count_of (meaning_in old) a) (not-true (is_in_table (meaning_in old) a) both.1),
-            subst (λ c. 0 < c) (sym (counted-atom symbols new new_members now new_counted key t listed)) (ltb-true 0 (count_of (meaning_in new) a) both.0),
-          )
-        where
-          none : (count : ℕ) → nat_lt 0 count ≡ false → count ≡ 0
-          none count isnt = elim (cases_lt 0 count) [ inl some ↦ absurd (both_ways (nat_lt 0 count) isnt (lt-ltb 0 count some)) | inr past ↦ omega (arith, past) ]
-
-  -- by the numbers of the new policy's names
+  -- what is found by the counters came to the table
   module _ (numbers : List ℕ) (ranks : AreRanks symbols new.names.items numbers) (found : List AccessNumbers) (ordered : IsStrictlySortedBy numbers_cmp found) (exact : (n : AccessNumbers) → Contains found n ↔ IsNew numbers was now n) where
     pub come-numbered : AreNumbered new.names.items found
-    come-numbered = found-numbered symbols numbers new ranks new_members now new_counted was now has_come come-told found ordered exact
+    come-numbered = found-numbered symbols numbers new ranks new_members now new_counted was now (comes old new) come-told found ordered exact
 
-    pub come-atoms : AreAtoms has_come (map (atom_at new.names.items) found)
-    come-atoms = found-atoms symbols numbers new ranks new_members now new_counted was now has_come come-told found ordered exact
+    pub come-atoms : AreAtoms (comes old new) (map (atom_at new.names.items) found)
+    come-atoms = found-atoms symbols numbers new ranks new_members now new_counted was now (comes old new) come-told found ordered exact
