@@ -1,5 +1,5 @@
 -- How many accesses came to a table, told by the counters.
-use Rattle.cil_counters.proofs.Common.{◌≡◌, ◌≢◌, ◌⊎◌, ℕ, ◌<◌, ◌&&◌, Bool, true, not, List, [], ◌∷◌, length, map, nat_lt, Some, Less, Equal, Greater, true≢false, refl, sym, ap, subst, ◌∙◌, inl, inr, arith, IsTrue, AllByRecursion, AllPairs, IsStrictlySortedBy, ltb-true, length-map, slice_get-get_or, count_of, is_in_table, atom_cmp, AreAtoms, AreChanges, Atom, AnyByRecursion, all_weaker, contains_from, contains_to, rule_kind_of, RuleKind, Allow, AuditAllow, DontAudit, NeverAllow, SymbolKey, meaning_in, Resolved, atom_of, is_named, name_at, AreApart, and-first, and-second, IsCounted}
+use Rattle.cil_counters.proofs.Common.{◌≡◌, ◌≢◌, ◌⊎◌, ℕ, ◌<◌, true, not, List, [], ◌∷◌, length, map, get_or, nat_lt, Some, Less, Equal, Greater, true≢false, refl, sym, ap, subst, ◌∙◌, inl, inr, arith, IsTrue, AllByRecursion, AllPairs, IsStrictlySortedBy, ltb-true, length-map, slice_get-get_or, is_in_table, atom_cmp, AreAtoms, AreChanges, Atom, AnyByRecursion, all_weaker, contains_from, contains_to, rule_kind_of, RuleKind, Allow, AuditAllow, DontAudit, NeverAllow, SymbolKey, meaning_in, Resolved, atom_of, is_named, name_at, AreApart, IsCounted}
 use Rattle.std.proofs.Common.{Contains}
 use Rattle.std.specs.Ordering.{ordering_reverse}
 use Rattle.std.specs.declared.cmp.Ordering.{Ordering}
@@ -7,12 +7,12 @@ use Rattle.cil_sums.proofs.PairLemmas.{at-most-all, from-mapped, mapped, pairs-m
 use Rattle.cil_specs.specs.Statements as spec
 use Rattle.cil_specs.specs.Statements.{allow, auditallow, dontaudit, neverallow}
 use Rattle.cil_specs.proofs.ReportLemmas.{atom_exact, atom_total}
-use Rattle.cil_symbol_changes.specs.Counts.{has_come, has_risen, AreSoMany}
+use Rattle.cil_symbol_changes.specs.Counts.{has_come, AreSoMany}
 use Rattle.cil_symbol_changes.specs.declared.counted_changes.ChangeCounts.{ChangeCounts}
 use Rattle.cil_symbol_changes.proofs.CountLemmas.{both-hold}
 use Rattle.cil_counters.specs.ChangeCounts.{CountsSome}
 use Rattle.cil_table_updates.proofs.FewLemmas.{atoms-apart}
-use Rattle.cil_counters.proofs.ChangedLemmas.{counted-atom, counted-listed, table-key}
+use Rattle.cil_counters.proofs.ChangedLemmas.{are-low, come-risen, comes, counted-listed, table-key, AreLow}
 
 -- ---- accesses put in order
 
@@ -112,25 +112,6 @@ kind-back AuditAllow = refl
 kind-back DontAudit = refl
 kind-back NeverAllow = refl
 
--- the symbols of an access stand for names
-record AreLow (symbols : List (List ℕ)) (key : SymbolKey) (t : ℕ) : Type 0 where
-  source : key.source < length symbols
-  target : t < length symbols
-  the_class : key.class < length symbols
-  permission : key.permission < length symbols
-
-are-low : (symbols : List (List ℕ)) (key : SymbolKey) (t : ℕ) → is_named symbols key t ≡ true → AreLow symbols key t
-are-low symbols key t named =
-    let n = length symbols in
-    let ends = and-first (nat_lt key.source n && nat_lt t n) (nat_lt key.class n && nat_lt key.permission n) named in
-    let others = and-second (nat_lt key.source n && nat_lt t n) (nat_lt key.class n && nat_lt key.permission n) named in
-    record {
-      source = ltb-true key.source n (and-first (nat_lt key.source n) (nat_lt t n) ends);
-      target = ltb-true t n (and-second (nat_lt key.source n) (nat_lt t n) ends);
-      the_class = ltb-true key.class n (and-first (nat_lt key.class n) (nat_lt key.permission n) others);
-      permission = ltb-true key.permission n (and-second (nat_lt key.class n) (nat_lt key.permission n) others);
-    }
-
 module _ (symbols : List (List ℕ)) (apart : AreApart symbols) where
   abbrev pub by_names : SymbolKey × ℕ → Atom
   by_names a = atom_of symbols a.0 a.1
@@ -152,14 +133,8 @@ module _ (symbols : List (List ℕ)) (apart : AreApart symbols) where
 
 module _ {A : Type 0} (symbols : List (List ℕ)) (apart : AreApart symbols) (old new : Resolved A) (old_members new_members : ℕ → ℕ → ℕ) (was now : SymbolKey → ℕ → ℕ) (old_counted : IsCounted symbols old old_members was)
     (new_counted : IsCounted symbols new new_members now) (count : ℕ) (many : AreSoMany (has_come was now) count) where
-  abbrev comes : Atom → Bool
-  comes a = is_in_table (meaning_in new) a && not (is_in_table (meaning_in old) a)
-
-  -- a counter rose from 0 where the access of its names came to the table
-  risen : (a : SymbolKey × ℕ) → is_named symbols a.0 a.1 ≡ true → has_come was now a ≡ comes (by_names symbols apart a)
-  risen a named =
-      ap (λ n. has_risen n (now a.0 a.1)) (counted-atom symbols old old_members was old_counted a.0 a.1 named)
-      ∙ ap (has_risen (count_of (meaning_in old) (by_names symbols apart a))) (counted-atom symbols new new_members now new_counted a.0 a.1 named)
+  risen : (key : SymbolKey) (t : ℕ) → is_named symbols key t ≡ true → has_come was now (key, t) ≡ comes old new (atom_of symbols key t)
+  risen = come-risen symbols old new old_members new_members was now old_counted new_counted
 
   come-named : (a : SymbolKey × ℕ) → has_come was now a ≡ true → is_named symbols a.0 a.1 ≡ true
   come-named a come =
@@ -173,21 +148,21 @@ module _ {A : Type 0} (symbols : List (List ℕ)) (apart : AreApart symbols) (ol
   once = pairs-map (by_names symbols apart) (λ a b. a ≢ b) many.those many.once (λ a b one other different same.
       different (one-access symbols apart a b (are-low symbols a.0 a.1 (come-named a ((many.exact a).0 one))) (are-low symbols b.0 b.1 (come-named b ((many.exact b).0 other))) same))
 
-  to-come : (a : Atom) → Contains atoms a → IsTrue (comes a)
+  to-come : (a : Atom) → Contains atoms a → IsTrue (comes old new a)
   to-come a at =
       let (x, there, same) = from-mapped (by_names symbols apart) many.those a at in
       let come = (many.exact x).0 there in
-      subst (λ b. comes b ≡ true) same (sym (risen x (come-named x come)) ∙ come)
+      subst (λ b. comes old new b ≡ true) same (sym (risen x.0 x.1 (come-named x come)) ∙ come)
 
-  from-come : (a : Atom) → IsTrue (comes a) → Contains atoms a
+  from-come : (a : Atom) → IsTrue (comes old new a) → Contains atoms a
   from-come a come =
       let by = table-key symbols new new_members now new_counted a (both-hold (is_in_table (meaning_in new) a) (not (is_in_table (meaning_in old) a)) come).0 in
       let x : SymbolKey × ℕ = (by.key, by.target) in
-      let there = (many.exact x).1 (risen x by.listed ∙ ap comes by.same ∙ come) in
+      let there = (many.exact x).1 (risen x.0 x.1 by.listed ∙ ap (comes old new) by.same ∙ come) in
       subst (Contains atoms) by.same (mapped (by_names symbols apart) many.those x there)
 
   -- The accesses that came, in order, are so many.
-  pub come-listed : (list : List Atom) × AreAtoms comes list × (count ≡ length list)
+  pub come-listed : (list : List Atom) × AreAtoms (comes old new) list × (count ≡ length list)
   come-listed =
       let put = in-order atoms in
       let to : (a : Atom) → Contains put.ordered a → Contains atoms a = λ a at. contains_from atoms a (put.only a (contains_to put.ordered a at)) in

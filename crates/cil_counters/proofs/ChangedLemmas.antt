@@ -1,5 +1,5 @@
 -- The changes between two policies by full names, told by their counters.
-use Rattle.cil_counters.proofs.Common.{◌≡◌, ◌↔◌, ℕ, ◌<◌, ◌&&◌, Bool, true, false, not, cond, List, [], length, map, get_or, nat_lt, slice_get, slice_index, Some, refl, sym, ap, subst, ◌∙◌, inl, inr, arith, IsTrue, IsStrictlySortedBy, and_from, and_parts, both_ways, cases_Bool, cases_lt, lt-ltb, ltb-true, not-true, get_or_from_slice_get, slice_get-get_or, slice_get_within, count_of, is_in_table, AreAtoms, AreChanges, names_rise, all_from_contains, any-map, any_from, any_from_map, any_to, contains_from, contains_to, SymbolKey, meaning_in, Resolved, symbol-name, symbol-some, atom_of, is_named, name_at, IsMerged, and-first, and-second, IsCounted, AreRanks}
+use Rattle.cil_counters.proofs.Common.{◌≡◌, ◌↔◌, ℕ, ◌<◌, ◌&&◌, Bool, true, not, cond, List, [], length, map, get_or, nat_lt, slice_get, slice_index, Some, refl, sym, ap, subst, ◌∙◌, inl, inr, arith, IsTrue, IsStrictlySortedBy, and_from, and_parts, both_ways, cases_Bool, cases_lt, lt-ltb, ltb-true, not-true, get_or_from_slice_get, slice_get-get_or, slice_get_within, count_of, is_in_table, AreAtoms, all_from_contains, any-map, any_from, any_from_map, any_to, contains_from, contains_to, SymbolKey, meaning_in, Resolved, symbol-name, symbol-some, atom_of, is_named, name_at, and-first, and-second, IsCounted, AreRanks}
 use Rattle.std.proofs.Common.{Contains}
 use Rattle.cil_specs.specs.Rule as spec
 use Rattle.cil_accesses.specs.declared.access.AccessNumbers.{AccessNumbers}
@@ -8,7 +8,8 @@ use Rattle.cil_accesses.specs.Renumbered.{IsWithin}
 use Rattle.cil_rules.specs.Atoms.{atom_at, AreNumbered}
 use Rattle.cil_rules.proofs.AtomLemmas.{atoms-ordered}
 use Rattle.cil_rules.proofs.TableLemmas.{table-numbered, IsNamed}
-use Rattle.cil_symbol_changes.specs.Numbered.{access_by, IsNew, IsNumbered}
+use Rattle.cil_symbol_changes.specs.Counts.{has_risen}
+use Rattle.cil_symbol_changes.specs.Numbered.{access_by, ArePresentNumbered, IsNew, IsNumbered}
 use Rattle.cil_counters.proofs.ToldLemmas.{all-named}
 
 -- an access has symbols
@@ -61,21 +62,43 @@ module _ {A : Type 0} (symbols : List (List ℕ)) (r : Resolved A) (members : �
         same = (λ i. record { kind = (atom_at r.names.items n).kind; source = source_is i; target = target_is i; the_class = class_is i; permission = permission_is i }) ∙ same;
       }
 
-module _ {A : Type 0} (symbols names : List (List ℕ)) (numbers : List ℕ) (r : Resolved A) (ranks : AreRanks names symbols r.names.items numbers) where
+-- the symbols of an access stand for names
+pub record AreLow (symbols : List (List ℕ)) (key : SymbolKey) (t : ℕ) : Type 0 where
+  pub source : key.source < length symbols
+  pub target : t < length symbols
+  pub the_class : key.class < length symbols
+  pub permission : key.permission < length symbols
+
+pub are-low : (symbols : List (List ℕ)) (key : SymbolKey) (t : ℕ) → is_named symbols key t ≡ true → AreLow symbols key t
+are-low symbols key t named =
+    let n = length symbols in
+    let ends = and-first (nat_lt key.source n && nat_lt t n) (nat_lt key.class n && nat_lt key.permission n) named in
+    let others = and-second (nat_lt key.source n && nat_lt t n) (nat_lt key.class n && nat_lt key.permission n) named in
+    record {
+      source = ltb-true key.source n (and-first (nat_lt key.source n) (nat_lt t n) ends);
+      target = ltb-true t n (and-second (nat_lt key.source n) (nat_lt t n) ends);
+      the_class = ltb-true key.class n (and-first (nat_lt key.class n) (nat_lt key.permission n) others);
+      permission = ltb-true key.permission n (and-second (nat_lt key.class n) (nat_lt key.permission n) others);
+    }
+
+module _ {A : Type 0} (symbols : List (List ℕ)) (numbers : List ℕ) (r : Resolved A) (ranks : AreRanks symbols r.names.items numbers) where
+  abbrev names : List (List ℕ)
+  names = r.names.items
+
   -- the number at a symbol is a place of its name
   record IsRanked (s : ℕ) : Type 0 where
     has_number : s < length numbers
     within : slice_index numbers s < length names
     named : name_at names (slice_index numbers s) ≡ name_at symbols s
 
-  ranked-symbol : (s : ℕ) → s < length symbols → IsNamed r.names.items (name_at symbols s) → IsRanked s
+  ranked-symbol : (s : ℕ) → s < length symbols → IsNamed names (name_at symbols s) → IsRanked s
   ranked-symbol s low named =
       let (k, within, is) = named in
-      let there = ranks.places k s (name_at symbols s) (slice_get-get_or r.names.items k [] within ∙ ap Some is) (slice_get-get_or symbols s [] low) in
+      let there = ranks.places k s (name_at symbols s) (slice_get-get_or names k [] within ∙ ap Some is) (slice_get-get_or symbols s [] low) in
       record {
         has_number = let long = ranks.long in omega (arith, long, low);
-        within = slice_get_within names (slice_index numbers s) (name_at symbols s) there;
-        named = get_or_from_slice_get names (slice_index numbers s) (name_at symbols s) [] there;
+        within = omega (arith, there, within);
+        named = ap (name_at names) there ∙ is;
       }
 
   -- an access by symbols has the same names by their numbers
@@ -87,13 +110,12 @@ module _ {A : Type 0} (symbols names : List (List ℕ)) (numbers : List ℕ) (r 
   -- so has one of the table
   pub table-known : (key : SymbolKey) (t : ℕ) → is_named symbols key t ≡ true → is_in_table (meaning_in r) (atom_of symbols key t) ≡ true → IsKnown key t
   table-known key t listed there =
-      let (n, low, same) = table-numbered r (atom_of symbols key t) there in
-      let ends = and-first (nat_lt key.source (length symbols) && nat_lt t (length symbols)) (nat_lt key.class (length symbols) && nat_lt key.permission (length symbols)) listed in
-      let others = and-second (nat_lt key.source (length symbols) && nat_lt t (length symbols)) (nat_lt key.class (length symbols) && nat_lt key.permission (length symbols)) listed in
-      let source = ranked-symbol key.source (ltb-true key.source (length symbols) (and-first (nat_lt key.source (length symbols)) (nat_lt t (length symbols)) ends)) (n.source, low.source, ap (λ a. a.source) same) in
-      let target = ranked-symbol t (ltb-true t (length symbols) (and-second (nat_lt key.source (length symbols)) (nat_lt t (length symbols)) ends)) (n.target, low.target, ap (λ a. a.target) same) in
-      let class = ranked-symbol key.class (ltb-true key.class (length symbols) (and-first (nat_lt key.class (length symbols)) (nat_lt key.permission (length symbols)) others)) (n.class, low.the_class, ap (λ a. a.the_class) same) in
-      let permission = ranked-symbol key.permission (ltb-true key.permission (length symbols) (and-second (nat_lt key.class (length symbols)) (nat_lt key.permission (length symbols)) others)) (n.permission, low.permission, ap (λ a. a.permission) same) in
+      let (n, places, same) = table-numbered r (atom_of symbols key t) there in
+      let low = are-low symbols key t listed in
+      let source = ranked-symbol key.source low.source (n.source, places.source, ap (λ a. a.source) same) in
+      let target = ranked-symbol t low.target (n.target, places.target, ap (λ a. a.target) same) in
+      let class = ranked-symbol key.class low.the_class (n.class, places.the_class, ap (λ a. a.the_class) same) in
+      let permission = ranked-symbol key.permission low.permission (n.permission, places.permission, ap (λ a. a.permission) same) in
       record {
         numbered = record { source = source.has_number; among = target.has_number; the_class = class.has_number; permission = permission.has_number };
         within = record { source = source.within; target = target.within; the_class = class.within; permission = permission.within };
@@ -106,77 +128,82 @@ module _ {A : Type 0} (symbols names : List (List ℕ)) (numbers : List ℕ) (r 
       let listed = counted-listed symbols r members counts is key t some in
       table-known key t listed (lt-ltb 0 (count_of (meaning_in r) (atom_of symbols key t)) (subst (λ n. 0 < n) (counted-atom symbols r members counts is key t listed) some))
 
--- from an old policy to a new one
-module _ {A : Type 0} (symbols names : List (List ℕ)) (numbers : List ℕ) (rise : IsTrue (names_rise names)) (old new : Resolved A) (ranks : AreRanks names symbols new.names.items numbers) (old_members new_members : ℕ → ℕ → ℕ)
-    (was now : SymbolKey → ℕ → ℕ) (old_counted : IsCounted symbols old old_members was) (new_counted : IsCounted symbols new new_members now) (found : List AccessNumbers) (ordered : IsStrictlySortedBy numbers_cmp found)
-    (exact : (n : AccessNumbers) → Contains found n ↔ IsNew numbers was now n) where
-  known : (n : AccessNumbers) (is_new : IsNew numbers was now n) → IsKnown symbols names numbers new ranks is_new.key is_new.target
-  known n is_new = counted-known symbols names numbers new ranks new_members now new_counted is_new.key is_new.target is_new.present
+-- The counters that rose from 0 are those of the accesses that pass a test. These are counted, and of a table.
+pub record AreTold (symbols : List (List ℕ)) (table test : spec.Atom → Bool) (counts was now : SymbolKey → ℕ → ℕ) : Type 0 where
+  pub counted : (key : SymbolKey) (t : ℕ) → 0 < now key t → 0 < counts key t
+  pub within : (a : spec.Atom) → IsTrue (test a) → IsTrue (table a)
+  pub risen : (key : SymbolKey) (t : ℕ) → is_named symbols key t ≡ true → has_risen (was key t) (now key t) ≡ test (atom_of symbols key t)
 
-  pub changed-numbered : AreNumbered names found
-  changed-numbered = record {
-    names_ordered = rise;
-    ordered = ordered;
-    within = all_from_contains (IsWithin (length names)) found (λ n h. let is_new = (exact n).0 h in subst (IsWithin (length names)) (sym is_new.same) (known n is_new).within);
-  }
+risen-from : (was now : ℕ) → was ≡ 0 → 0 < now → has_risen was now ≡ true
+risen-from was now absent present = and_from (nat_lt 0 now) (not (nat_lt 0 was)) (lt-ltb 0 now present) (ap (λ n. not (nat_lt 0 n)) absent)
 
-  abbrev has_come : spec.Atom → Bool
-  has_come a = is_in_table (meaning_in new) a && not (is_in_table (meaning_in old) a)
+risen-parts : (was now : ℕ) → has_risen was now ≡ true → (was ≡ 0) × (0 < now)
+risen-parts was now risen =
+    let (is, isnt) = and_parts (nat_lt 0 now) (not (nat_lt 0 was)) risen in
+    (elim (cases_lt 0 was) [ inl some ↦ absurd (both_ways (nat_lt 0 was) (not-true (nat_lt 0 was) isnt) (lt-ltb 0 was some)) | inr past ↦ omega (arith, past) ], ltb-true 0 now is)
 
-  to-come : (a : spec.Atom) → Contains (map (atom_at names) found) a → IsTrue (has_come a)
-  to-come a h =
-      let (k, n, low, at, same) = any_from (λ n. atom_at names n ≡ a) found (any_from_map (atom_at names) (λ b. b ≡ a) found (contains_to (map (atom_at names) found) a h)) in
-      let is_new = (exact n).0 (k, low, at) in
-      let key : SymbolKey = is_new.key in
-      let t : ℕ = is_new.target in
-      let atom : atom_of symbols key t ≡ a = sym (known n is_new).named ∙ ap (atom_at names) (sym is_new.same) ∙ same in
-      let listed = counted-listed symbols new new_members now new_counted key t is_new.present in
-      let after : now key t ≡ count_of (meaning_in new) a = counted-atom symbols new new_members now new_counted key t listed ∙ ap (count_of (meaning_in new)) atom in
-      let before : was key t ≡ count_of (meaning_in old) a = counted-atom symbols old old_members was old_counted key t listed ∙ ap (count_of (meaning_in old)) atom in
-      and_from (is_in_table (meaning_in new) a) (not (is_in_table (meaning_in old) a)) (lt-ltb 0 (count_of (meaning_in new) a) (subst (λ c. 0 < c) after is_new.present))
-      (ap (λ c. not (nat_lt 0 c)) (sym before ∙ is_new.absent))
+module _ {A : Type 0} (symbols : List (List ℕ)) (numbers : List ℕ) (r : Resolved A) (ranks : AreRanks symbols r.names.items numbers) (members : ℕ → ℕ → ℕ) (counts : SymbolKey → ℕ → ℕ) (is_counted : IsCounted symbols r members counts) where
+  known : (key : SymbolKey) (t : ℕ) → 0 < counts key t → IsKnown symbols numbers r ranks key t
+  known = counted-known symbols numbers r ranks members counts is_counted
 
-  from-come : (a : spec.Atom) → IsTrue (has_come a) → Contains (map (atom_at names) found) a
-  from-come a come =
-      let parts = and_parts (is_in_table (meaning_in new) a) (not (is_in_table (meaning_in old) a)) come in
-      let by = table-key symbols new new_members now new_counted a parts.0 in
-      let after : now by.key by.target ≡ count_of (meaning_in new) a = counted-atom symbols new new_members now new_counted by.key by.target by.listed ∙ ap (count_of (meaning_in new)) by.same in
-      let before : was by.key by.target ≡ count_of (meaning_in old) a = counted-atom symbols old old_members was old_counted by.key by.target by.listed ∙ ap (count_of (meaning_in old)) by.same in
-      let some = ltb-true 0 (count_of (meaning_in new) a) parts.0 in
-      let n : AccessNumbers = access_by numbers by.key by.target in
-      let is_new : IsNew numbers was now n =
-      record { key = by.key; target = by.target; absent = before ∙ none (count_of (meaning_in old) a) (not-true (is_in_table (meaning_in old) a) parts.1); present = subst (λ c. 0 < c) (sym after) some; same = refl } in
-      let there = (exact n).1 is_new in
-      let same : atom_at names n ≡ a = (known n is_new).named ∙ by.same in
-      contains_from (map (atom_at names) found) a (any-map (atom_at names) (λ b. b ≡ a) found (any_to (λ m. atom_at names m ≡ a) found (there.0, n, there.1, there.2, same)))
-    where
-      none : (count : ℕ) → nat_lt 0 count ≡ false → count ≡ 0
-      none count isnt = elim (cases_lt 0 count) [ inl some ↦ absurd (both_ways (nat_lt 0 count) isnt (lt-ltb 0 count some)) | inr past ↦ omega (arith, past) ]
-
-  -- what is found by the counters is what came to the table
-  pub changed-atoms : AreAtoms has_come (map (atom_at names) found)
-  changed-atoms = record { ordered = atoms-ordered names found changed-numbered; exact = λ a. (to-come a, from-come a) }
-
--- the changes between two policies, by the names of both
-module _ {A : Type 0} (symbols names : List (List ℕ)) (numbers first second : List ℕ) (old new : Resolved A) (merged : IsMerged names first second old.names.items new.names.items) (old_ranks : AreRanks names symbols old.names.items numbers)
-    (new_ranks : AreRanks names symbols new.names.items numbers) (old_members new_members : ℕ → ℕ → ℕ) (was now : SymbolKey → ℕ → ℕ) (old_counted : IsCounted symbols old old_members was) (new_counted : IsCounted symbols new new_members now) where
   -- what is counted has numbers
-  pub numbered-before : (key : SymbolKey) (t : ℕ) → 0 < was key t → IsNumbered numbers key t
-  numbered-before key t some = (counted-known symbols names numbers old old_ranks old_members was old_counted key t some).numbered
+  pub present-numbered : ArePresentNumbered numbers counts
+  present-numbered key t some = (known key t some).numbered
 
-  pub numbered-now : (key : SymbolKey) (t : ℕ) → 0 < now key t → IsNumbered numbers key t
-  numbered-now key t some = (counted-known symbols names numbers new new_ranks new_members now new_counted key t some).numbered
+  module _ (was now : SymbolKey → ℕ → ℕ) (test : spec.Atom → Bool) (told : AreTold symbols (is_in_table (meaning_in r)) test counts was now)
+      (found : List AccessNumbers) (ordered : IsStrictlySortedBy numbers_cmp found) (exact : (n : AccessNumbers) → Contains found n ↔ IsNew numbers was now n) where
+    pub found-numbered : AreNumbered r.names.items found
+    found-numbered = record {
+      names_ordered = r.ordered;
+      ordered = ordered;
+      within = all_from_contains (IsWithin (length r.names.items)) found (λ n h.
+          let one = (exact n).0 h in
+          subst (IsWithin (length r.names.items)) (sym one.same) (known one.key one.target (told.counted one.key one.target one.present)).within);
+    }
 
-  pub added-numbered : (added : List AccessNumbers) → IsStrictlySortedBy numbers_cmp added → ((n : AccessNumbers) → Contains added n ↔ IsNew numbers was now n) → AreNumbered names added
-  added-numbered = changed-numbered symbols names numbers merged.ordered old new new_ranks old_members new_members was now old_counted new_counted
+    to-test : (a : spec.Atom) → Contains (map (atom_at r.names.items) found) a → IsTrue (test a)
+    to-test a h =
+        let (k, n, low, at, same) = any_from (λ n. atom_at r.names.items n ≡ a) found (any_from_map (atom_at r.names.items) (λ b. b ≡ a) found (contains_to (map (atom_at r.names.items) found) a h)) in
+        let one = (exact n).0 (k, low, at) in
+        let some = told.counted one.key one.target one.present in
+        let atom : atom_of symbols one.key one.target ≡ a = sym (known one.key one.target some).named ∙ ap (atom_at r.names.items) (sym one.same) ∙ same in
+        let listed = counted-listed symbols r members counts is_counted one.key one.target some in
+        subst (λ x. IsTrue (test x)) atom (sym (told.risen one.key one.target listed) ∙ risen-from (was one.key one.target) (now one.key one.target) one.absent one.present)
 
-  pub removed-numbered : (removed : List AccessNumbers) → IsStrictlySortedBy numbers_cmp removed → ((n : AccessNumbers) → Contains removed n ↔ IsNew numbers now was n) → AreNumbered names removed
-  removed-numbered = changed-numbered symbols names numbers merged.ordered new old old_ranks new_members old_members now was new_counted old_counted
+    from-test : (a : spec.Atom) → IsTrue (test a) → Contains (map (atom_at r.names.items) found) a
+    from-test a passes =
+        let by = table-key symbols r members counts is_counted a (told.within a passes) in
+        let (absent, present) = risen-parts (was by.key by.target) (now by.key by.target) (told.risen by.key by.target by.listed ∙ ap test by.same ∙ passes) in
+        let n : AccessNumbers = access_by numbers by.key by.target in
+        let one : IsNew numbers was now n = record { key = by.key; target = by.target; absent = absent; present = present; same = refl } in
+        let stands = (exact n).1 one in
+        let same : atom_at r.names.items n ≡ a = (known by.key by.target (told.counted by.key by.target present)).named ∙ by.same in
+        contains_from (map (atom_at r.names.items) found) a (any-map (atom_at r.names.items) (λ b. b ≡ a) found (any_to (λ m. atom_at r.names.items m ≡ a) found (stands.0, n, stands.1, stands.2, same)))
 
-  pub are-changes : (added removed : List AccessNumbers) → IsStrictlySortedBy numbers_cmp added → ((n : AccessNumbers) → Contains added n ↔ IsNew numbers was now n)
-      → IsStrictlySortedBy numbers_cmp removed → ((n : AccessNumbers) → Contains removed n ↔ IsNew numbers now was n)
-      → AreChanges (is_in_table (meaning_in old)) (is_in_table (meaning_in new)) (record { added = map (atom_at names) added; removed = map (atom_at names) removed })
-  are-changes added removed added_order came removed_order went = record {
-    added = changed-atoms symbols names numbers merged.ordered old new new_ranks old_members new_members was now old_counted new_counted added added_order came;
-    removed = changed-atoms symbols names numbers merged.ordered new old old_ranks new_members old_members now was new_counted old_counted removed removed_order went;
-  }
+    -- what is found by the counters is what passes the test
+    pub found-atoms : AreAtoms test (map (atom_at r.names.items) found)
+    found-atoms = record { ordered = atoms-ordered r.names.items found found-numbered; exact = λ a. (to-test a, from-test a) }
+
+-- ---- from an old policy to a new one
+
+-- what came to the table
+abbrev pub comes : {A : Type 0} → (old new : Resolved A) → spec.Atom → Bool
+comes old new a = is_in_table (meaning_in new) a && not (is_in_table (meaning_in old) a)
+
+module _ {A : Type 0} (symbols : List (List ℕ)) (old new : Resolved A) (old_members new_members : ℕ → ℕ → ℕ) (was now : SymbolKey → ℕ → ℕ) (old_counted : IsCounted symbols old old_members was) (new_counted : IsCounted symbols new new_members now) where
+  -- a counter rose from 0 where the access of its names came to the table
+  pub come-risen : (key : SymbolKey) (t : ℕ) → is_named symbols key t ≡ true → has_risen (was key t) (now key t) ≡ comes old new (atom_of symbols key t)
+  come-risen key t named =
+      ap (λ n. has_risen n (now key t)) (counted-atom symbols old old_members was old_counted key t named)
+      ∙ ap (has_risen (count_of (meaning_in old) (atom_of symbols key t))) (counted-atom symbols new new_members now new_counted key t named)
+
+  come-told : AreTold symbols (is_in_table (meaning_in new)) (comes old new) now was now
+  come-told = record { counted = λ key t some. some; within = λ a come. (and_parts (is_in_table (meaning_in new) a) (not (is_in_table (meaning_in old) a)) come).0; risen = come-risen }
+
+  -- what is found by the counters came to the table
+  module _ (numbers : List ℕ) (ranks : AreRanks symbols new.names.items numbers) (found : List AccessNumbers) (ordered : IsStrictlySortedBy numbers_cmp found) (exact : (n : AccessNumbers) → Contains found n ↔ IsNew numbers was now n) where
+    pub come-numbered : AreNumbered new.names.items found
+    come-numbered = found-numbered symbols numbers new ranks new_members now new_counted was now (comes old new) come-told found ordered exact
+
+    pub come-atoms : AreAtoms (comes old new) (map (atom_at new.names.items) found)
+    come-atoms = found-atoms symbols numbers new ranks new_members now new_counted was now (comes old new) come-told found ordered exact

@@ -1,5 +1,5 @@
 -- The counters of a policy, when names come and when nothing has a name.
-use Rattle.cil_counters.proofs.Common.{◌≡◌, ◌↔◌, ◌||◌, inl, inr, true≢false, ℕ, ◌+◌, ◌<◌, ◌≤◌, ◌&&◌, Bool, true, false, List, [], ◌∷◌, length, cond, count_by, bytes_eq, nat_lt, slice_get, refl, sym, ap, ◌∙◌, subst, arith, zero-add, IsTrue, cases_lt, sum_by-cons, slice_get-get_or, slice_get_past, AreTheSame, HasSoundSets, SetStatement, AreNumbersOf, SymbolKey, meaning_in, sets_in, Resolved, AreCounts, atom_of, is_named, name_at, AreMembersOf, count_named, symbols_now, AreSettled, AreSymbolsOf, AreTakenBack, IsCounted, IsCountedBy, IsNow, WasBefore}
+use Rattle.cil_counters.proofs.Common.{◌≡◌, ◌↔◌, ◌||◌, inl, inr, true≢false, ℕ, ◌+◌, ◌<◌, ◌≤◌, ◌&&◌, Bool, true, false, List, [], ◌∷◌, length, cond, count_by, bytes_eq, nat_lt, slice_get, refl, sym, ap, ◌∙◌, subst, arith, zero-add, IsTrue, cases_lt, sum_by-cons, slice_get-get_or, slice_get_past, AreTheSame, HasSoundSets, SetStatement, AreNumbersOf, SymbolKey, meaning_in, sets_in, Resolved, AreCounts, atom_of, is_named, name_at, AreMembersOf, count_named, symbols_now, AreReset, AreSettled, AreSymbolsOf, AreTakenBack, IsCounted, IsCountedBy, IsNow, WasBefore}
 use Rattle.std.proofs.Math.Bool.{and-false}
 use Rattle.cil_specs.specs.Meaning.{Meaning, is_in, keeps_type, gives as rule_gives}
 use Rattle.cil_member_updates.specs.Counts.{gives_member}
@@ -75,55 +75,43 @@ either-steps false b m n one other = (
   ],
 )
 
--- what is counted stays where the names and the counters do
-pub counted-alike : {A : Type 0} (r : Resolved A) (names others : List (List ℕ)) (members new_members : ℕ → ℕ → ℕ) (counts new_counts : SymbolKey → ℕ → ℕ) → IsCounted names r members counts → others ≡ names
-    → ((a t : ℕ) → new_members a t ≡ members a t) → ((key : SymbolKey) (t : ℕ) → new_counts key t ≡ counts key t) → IsCounted others r new_members new_counts
-counted-alike r names others members new_members counts new_counts is same same_members same_counts = subst (λ l. IsCounted l r new_members new_counts) (sym same) (record {
-  symbols = is.symbols;
-  numbers = is.numbers;
-  are_members = λ a t. same_members a t ∙ is.are_members a t;
-  are_counts = λ key t. same_counts key t ∙ is.are_counts key t;
-})
+-- what is counted of a policy stays where the names, its symbols and the counters do
+pub counted-by-alike : {A B : Type 0} (r : Resolved A) (names others : List (List ℕ)) (s t : PolicySymbols B) (members new_members : ℕ → ℕ → ℕ) (counts new_counts : SymbolKey → ℕ → ℕ) → IsCountedBy names r s members counts → others ≡ names → t ≡ s
+    → ((a n : ℕ) → new_members a n ≡ members a n) → ((key : SymbolKey) (n : ℕ) → new_counts key n ≡ counts key n) → IsCountedBy others r t new_members new_counts
+counted-by-alike r names others s t members new_members counts new_counts is same_names same_symbols same_members same_counts =
+    subst (λ l. IsCountedBy l r t new_members new_counts) (sym same_names) (record {
+      symbols = subst (AreSymbolsOf names r) (sym same_symbols) is.symbols;
+      counted = record {
+        symbols = is.counted.symbols;
+        numbers = is.counted.numbers;
+        are_members = λ a n. same_members a n ∙ is.counted.are_members a n;
+        are_counts = λ key n. same_counts key n ∙ is.counted.are_counts key n;
+      };
+    })
 
--- so do the symbols of a policy
-pub symbols-alike : {A B : Type 0} (r : Resolved A) (names others : List (List ℕ)) (s t : PolicySymbols B) → AreSymbolsOf names r s → others ≡ names → t ≡ s → AreSymbolsOf others r t
-symbols-alike r names others s t are same is = subst (λ l. AreSymbolsOf l r t) (sym same) (subst (AreSymbolsOf names r) (sym is) are)
+-- counters without steps are those of a policy now, and were before
+module _ {A B : Type 0} (r : Resolved A) (names : List (List ℕ)) (s : PolicySymbols B) (members : ℕ → ℕ → ℕ) (counts : SymbolKey → ℕ → ℕ) (c : Counters B) (is : IsCountedBy names r s members counts) (reset : AreReset names s members counts c) where
+  reset-now : IsNow r c
+  reset-now =
+      counted-by-alike r names c.names s (symbols_now c) members (member_rows.count_now c.rows) counts (access_tables.count_now c.tables) is reset.names
+      (ap (λ n. unwrap_or n c.policy) reset.next ∙ reset.policy) reset.members reset.accesses
 
--- and so does what is counted by those before the steps
-pub counted-by-alike : {A B : Type 0} (r : Resolved A) (old new : Counters B) (members new_members : ℕ → ℕ → ℕ) (counts new_counts : SymbolKey → ℕ → ℕ) → IsCountedBy old.names r old.policy members counts → new.names ≡ old.names
-    → new.policy ≡ old.policy → ((a t : ℕ) → new_members a t ≡ members a t) → ((key : SymbolKey) (t : ℕ) → new_counts key t ≡ counts key t) → IsCountedBy new.names r new.policy new_members new_counts
-counted-by-alike r old new members new_members counts new_counts is names policy same_members same_counts = record {
-  symbols = symbols-alike r old.names new.names old.policy new.policy is.symbols names policy;
-  counted = counted-alike r old.names new.names members new_members counts new_counts is.counted names same_members same_counts;
-}
+  reset-before : WasBefore r c
+  reset-before =
+      counted-by-alike r names c.names s c.policy members (member_rows.count_before c.rows) counts (access_tables.count_before c.tables) is reset.names reset.policy reset.members_before
+      reset.accesses_before
 
 module _ {A B : Type 0} (r : Resolved A) (old new : Counters B) where
-  -- counters that were taken back are those of the policy before the steps
+  -- so those that were taken back are those of the policy before the steps
   pub back-now : WasBefore r old → AreTakenBack old new → IsNow r new
-  back-now was back = record {
-    symbols = symbols-alike r old.names new.names old.policy (symbols_now new) was.symbols back.names (ap (λ n. unwrap_or n new.policy) back.next ∙ back.policy);
-    counted = counted-alike r old.names new.names (member_rows.count_before old.rows) (member_rows.count_now new.rows) (access_tables.count_before old.tables) (access_tables.count_now new.tables) was.counted back.names back.members back.accesses;
-  }
+  back-now = reset-now r old.names old.policy (member_rows.count_before old.rows) (access_tables.count_before old.tables) new
 
   pub back-before : WasBefore r old → AreTakenBack old new → WasBefore r new
-  back-before was back = record {
-    symbols = symbols-alike r old.names new.names old.policy new.policy was.symbols back.names back.policy;
-    counted =
-        counted-alike r old.names new.names (member_rows.count_before old.rows) (member_rows.count_before new.rows) (access_tables.count_before old.tables) (access_tables.count_before new.tables) was.counted back.names
-        back.members_before back.accesses_before;
-  }
+  back-before = reset-before r old.names old.policy (member_rows.count_before old.rows) (access_tables.count_before old.tables) new
 
-  -- counters that are kept are those of the policy now
+  -- and those that are kept are those of the policy now
   pub settled-now : IsNow r old → AreSettled old new → IsNow r new
-  settled-now is kept = record {
-    symbols = symbols-alike r old.names new.names (symbols_now old) (symbols_now new) is.symbols kept.names (ap (λ n. unwrap_or n new.policy) kept.next ∙ kept.policy);
-    counted = counted-alike r old.names new.names (member_rows.count_now old.rows) (member_rows.count_now new.rows) (access_tables.count_now old.tables) (access_tables.count_now new.tables) is.counted kept.names kept.members kept.accesses;
-  }
+  settled-now = reset-now r old.names (symbols_now old) (member_rows.count_now old.rows) (access_tables.count_now old.tables) new
 
   pub settled-before : IsNow r old → AreSettled old new → WasBefore r new
-  settled-before is kept = record {
-    symbols = symbols-alike r old.names new.names (symbols_now old) new.policy is.symbols kept.names kept.policy;
-    counted =
-        counted-alike r old.names new.names (member_rows.count_now old.rows) (member_rows.count_before new.rows) (access_tables.count_now old.tables) (access_tables.count_before new.tables) is.counted kept.names
-        kept.members_before kept.accesses_before;
-  }
+  settled-before = reset-before r old.names (symbols_now old) (member_rows.count_now old.rows) (access_tables.count_now old.tables) new

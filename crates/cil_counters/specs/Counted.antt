@@ -61,27 +61,24 @@ AreBounded one other c = (key : SymbolKey) (t : ℕ)
 abbrev pub steps_in : {A : Type 0} → Counters A → ℕ
 steps_in c = member_rows.steps_in c.rows + access_tables.steps_in c.tables
 
--- The counters are those of before the steps, and so are those before the steps from now on.
-pub record AreTakenBack {A : Type 0} (old new : Counters A) : Type 0 where
-  pub none : steps_in new ≡ 0
-  pub names : new.names ≡ old.names
-  pub policy : new.policy ≡ old.policy
-  pub next : new.next ≡ None
-  pub members : (a t : ℕ) → member_rows.count_now new.rows a t ≡ member_rows.count_before old.rows a t
-  pub members_before : (a t : ℕ) → member_rows.count_before new.rows a t ≡ member_rows.count_before old.rows a t
-  pub accesses : (key : SymbolKey) (t : ℕ) → access_tables.count_now new.tables key t ≡ access_tables.count_before old.tables key t
-  pub accesses_before : (key : SymbolKey) (t : ℕ) → access_tables.count_before new.tables key t ≡ access_tables.count_before old.tables key t
+-- There are no steps: the counters of these symbols are these, now and before.
+pub record AreReset {A : Type 0} (names : List (List ℕ)) (s : PolicySymbols A) (members : ℕ → ℕ → ℕ) (counts : SymbolKey → ℕ → ℕ) (c : Counters A) : Type 0 where
+  pub none : steps_in c ≡ 0
+  pub names : c.names ≡ names
+  pub policy : c.policy ≡ s
+  pub next : c.next ≡ None
+  pub members : (a t : ℕ) → member_rows.count_now c.rows a t ≡ members a t
+  pub members_before : (a t : ℕ) → member_rows.count_before c.rows a t ≡ members a t
+  pub accesses : (key : SymbolKey) (t : ℕ) → access_tables.count_now c.tables key t ≡ counts key t
+  pub accesses_before : (key : SymbolKey) (t : ℕ) → access_tables.count_before c.tables key t ≡ counts key t
 
--- The counters stay, and are those before the steps from now on.
-pub record AreSettled {A : Type 0} (old new : Counters A) : Type 0 where
-  pub none : steps_in new ≡ 0
-  pub names : new.names ≡ old.names
-  pub policy : new.policy ≡ symbols_now old
-  pub next : new.next ≡ None
-  pub members : (a t : ℕ) → member_rows.count_now new.rows a t ≡ member_rows.count_now old.rows a t
-  pub members_before : (a t : ℕ) → member_rows.count_before new.rows a t ≡ member_rows.count_now old.rows a t
-  pub accesses : (key : SymbolKey) (t : ℕ) → access_tables.count_now new.tables key t ≡ access_tables.count_now old.tables key t
-  pub accesses_before : (key : SymbolKey) (t : ℕ) → access_tables.count_before new.tables key t ≡ access_tables.count_now old.tables key t
+-- they are those of before the steps
+abbrev pub AreTakenBack : {A : Type 0} → (old new : Counters A) → Type 0
+AreTakenBack old = AreReset old.names old.policy (member_rows.count_before old.rows) (access_tables.count_before old.tables)
+
+-- they stay
+abbrev pub AreSettled : {A : Type 0} → (old new : Counters A) → Type 0
+AreSettled old = AreReset old.names (symbols_now old) (member_rows.count_now old.rows) (access_tables.count_now old.tables)
 
 -- whether the counter of an attribute and a type is above 0, where both have symbols
 abbrev pub has_at : (ℕ → ℕ → ℕ) → Option ℕ → Option ℕ → Bool

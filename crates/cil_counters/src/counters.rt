@@ -19,7 +19,7 @@ use crate::changed_members::{ChangedMember, changed_members_of};
 use crate::laws::counters_tell_members;
 use crate::more_rows::add_rows;
 use crate::policy_symbols::PolicySymbols;
-use crate::symbol_ranks::{ranks_of, ranks_of_both};
+use crate::symbol_ranks::ranks_of;
 use cil_keyed_lines::{KeyedLines, SymbolKey};
 use cil_matching::SetMatching;
 use cil_member_rows::MemberRows;
@@ -29,7 +29,7 @@ use cil_resolve::{
     Meter, Resolved, resolved_is_consistent, resolved_is_sound, resolved_names_are_kept,
     resolved_sets_are_in_order,
 };
-use cil_rules::{Changes, Table, rank};
+use cil_rules::{Changes, Table};
 use cil_symbol_changes::{ChangeCounts, count_accesses};
 use cil_symbols::{Numbering, Symbols};
 use cil_table_updates::{Named, Policies, Shared};
@@ -281,22 +281,26 @@ impl<A: Allocator + Copy> Counters<A> {
         Violations::of(alloc, new, &next.numbering, &self.rows)
     }
 
-    /// The changes from an old policy, whose counters stand before the steps, to a new one, whose counters stand now.
+    /// The changes from an old policy, whose counters stand before the steps, to a new one, whose
+    /// counters stand now. What appeared has the names of the new policy, which it shares, and what
+    /// went those of the old one.
     fn changes(
         &self,
         alloc: A,
-        old: &Resolved<A>,
-        new: &Resolved<A>,
+        old: &Rc<Resolved<A>, A>,
+        new: &Rc<Resolved<A>, A>,
     ) -> Result<Changes<A>, AllocError>
-        requires now { IsNow new.now self.now }
-        requires before { WasBefore old.now self.now }
-        ensures { IfOk result (AreChanges (is_in_table (meaning_in old.now)) (is_in_table (meaning_in new.now))) }
+        requires now { IsNow (rc_value new.now) self.now }
+        requires before { WasBefore (rc_value old.now) self.now }
+        ensures { IfOk result (AreChanges (is_in_table (meaning_in (rc_value old.now)))
+            (is_in_table (meaning_in (rc_value new.now)))) }
     {
-        let ranks = rank(alloc, old.names(), new.names())?;
-        let now = self.numbering_now();
-        let numbers = ranks_of_both(alloc, &self.names, &self.policy.numbering, now, &ranks)?;
-        let found = cil_symbol_changes::changes(alloc, &self.tables, &numbers)?;
-        Changes::of(ranks.names, found.added, found.removed)
+        let old_numbers = ranks_of(alloc, &self.names, &self.policy.numbering, old)?;
+        let new_numbers = ranks_of(alloc, &self.names, self.numbering_now(), new)?;
+        let found = cil_symbol_changes::changes(alloc, &self.tables, &new_numbers, &old_numbers)?;
+        let added = Table::numbered(new, found.added)?;
+        let removed = Table::numbered(old, found.removed)?;
+        Ok(Changes::of(added, removed))
     }
 
     /// How many changes there are from an old policy, whose counters stand before the steps, to a new one, whose counters stand now. No
@@ -392,28 +396,34 @@ impl<A: Allocator + Copy> Counters<A> {
     /// the access table of the old policy to that of the new one. The meter counts as an adjustment each counter of an access that it
     /// moves, and as an evaluation each look whether a set statement holds a type. Also after an out of memory `undo` leads back to
     /// the old policy, and no counter of an access is above the number of rules of both policies that give it.
+    /// The changes share the policies, whose names they have. Out of memory stands also where no more
+    /// owners of these can be counted.
     pub fn update(
         &mut self,
         alloc: A,
-        old: &Resolved<A>,
-        new: &Resolved<A>,
+        old: &Rc<Resolved<A>, A>,
+        new: &Rc<Resolved<A>, A>,
         meter: &mut Meter,
     ) -> Result<Changes<A>, AllocError>
-        requires now { IsNow old.now self.old }
-        requires before { WasBefore old.now self.old }
-        ensures now { OnOk result (IsNow new.now self.new) }
-        ensures before { WasBefore old.now self.new }
-        ensures changes { IfOk result (AreChanges (is_in_table (meaning_in old.now)) (is_in_table (meaning_in new.now))) }
-        ensures evaluations { OnOk result (EvaluatesFew (meaning_in old.now) (meaning_in new.now) (evaluations_in meter.old) (evaluations_in meter.new)) }
-        ensures adjustments { IfOk result (λ changes. AdjustsFew (meaning_in old.now) (meaning_in new.now) changes (adjustments_in meter.old) (adjustments_in meter.new)) }
-        ensures names { HasFewNames old.now new.now self.old self.new }
-        ensures bounded { AreBounded old.now new.now self.new }
+        requires now { IsNow (rc_value old.now) self.old }
+        requires before { WasBefore (rc_value old.now) self.old }
+        ensures now { OnOk result (IsNow (rc_value new.now) self.new) }
+        ensures before { WasBefore (rc_value old.now) self.new }
+        ensures changes { IfOk result (AreChanges (is_in_table (meaning_in (rc_value old.now)))
+            (is_in_table (meaning_in (rc_value new.now)))) }
+        ensures evaluations { OnOk result (EvaluatesFew (meaning_in (rc_value old.now))
+            (meaning_in (rc_value new.now)) (evaluations_in meter.old) (evaluations_in meter.new)) }
+        ensures adjustments { IfOk result (λ changes. AdjustsFew (meaning_in (rc_value old.now))
+            (meaning_in (rc_value new.now)) changes (adjustments_in meter.old)
+            (adjustments_in meter.new)) }
+        ensures names { HasFewNames (rc_value old.now) (rc_value new.now) self.old self.new }
+        ensures bounded { AreBounded (rc_value old.now) (rc_value new.now) self.new }
     {
         self.take_steps(alloc, old, new, meter)?;
         self.changes(alloc, old, new)
     }
 
-    /// `update`, which answers how many changes there are and none of them: no access is put together, ranked or put in order.
+    /// `update`, which answers how many changes there are and none of them: no access is put together or put in order.
     pub fn update_counted(
         &mut self,
         alloc: A,

@@ -23,13 +23,13 @@ pub fn bring(
     rt: &impl Abort,
     alloc: Global,
     counters: &mut Counters,
-    old: &Resolved,
-    new: &Resolved,
+    old: &Rc<Resolved>,
+    new: &Rc<Resolved>,
 ) -> Changes
-    requires now { IsNow old.now counters.old }
-    requires before { WasBefore old.now counters.old }
-    ensures now { IsNow new.now counters.new }
-    ensures before { WasBefore old.now counters.new }
+    requires now { IsNow (rc_value old.now) counters.old }
+    requires before { WasBefore (rc_value old.now) counters.old }
+    ensures now { IsNow (rc_value new.now) counters.new }
+    ensures before { WasBefore (rc_value old.now) counters.new }
 {
     let mut meter = Meter::new();
     counters
@@ -75,7 +75,9 @@ pub fn counted(rt: &impl Abort, alloc: Global, resolved: &Resolved) -> Counters
 {
     let empty = policy(rt, alloc, &[]);
     let mut counters = none(rt, alloc, &empty);
-    bring(rt, alloc, &mut counters, &empty, resolved);
+    counters
+        .update_counted(alloc, &empty, resolved, &mut Meter::new())
+        .expect(rt, "memory");
     keep(&mut counters, resolved);
     counters
 }
@@ -161,13 +163,13 @@ fn has_changed(
     rt: &impl Abort,
     alloc: Global,
     counters: &mut Counters,
-    old: &Resolved,
-    new: &Resolved,
+    old: &Rc<Resolved>,
+    new: &Rc<Resolved>,
 ) -> bool
-    requires now { IsNow old.now counters.old }
-    requires before { WasBefore old.now counters.old }
-    ensures now { IsNow new.now counters.new }
-    ensures before { WasBefore old.now counters.new }
+    requires now { IsNow (rc_value old.now) counters.old }
+    requires before { WasBefore (rc_value old.now) counters.old }
+    ensures now { IsNow (rc_value new.now) counters.new }
+    ensures before { WasBefore (rc_value old.now) counters.new }
 {
     are_changes(&bring(rt, alloc, counters, old, new))
 }

@@ -1,7 +1,7 @@
 //! The accesses of small policies, their changes and their rows by place.
 
 use crate::counters::{bring, counted};
-use crate::policies::{policy, shared};
+use crate::policies::shared;
 use cil_resolve::Resolved;
 use cil_rules::{Atom, Changes, Row, Rows, Table, write_row_line};
 use cil_stream::MemorySink;
@@ -27,7 +27,7 @@ fn table_of(rt: &impl Abort, alloc: Global, policy: &Rc<Resolved>) -> Table {
 }
 
 // The changes from one policy to another.
-fn between(rt: &impl Abort, alloc: Global, old: &Resolved, new: &Resolved) -> Changes {
+fn between(rt: &impl Abort, alloc: Global, old: &Rc<Resolved>, new: &Rc<Resolved>) -> Changes {
     let mut counters = counted(rt, alloc, old);
     bring(rt, alloc, &mut counters, old, new)
 }
@@ -116,13 +116,18 @@ fn are_three(table: &Table) -> bool {
 }
 
 // Whether all three accesses come where none was.
-fn have_come(rt: &impl Abort, alloc: Global, three: &Resolved) -> bool {
-    let changes = between(rt, alloc, &policy(rt, alloc, &[]), three);
+fn have_come(rt: &impl Abort, alloc: Global, three: &Rc<Resolved>) -> bool {
+    let changes = between(rt, alloc, &shared(rt, alloc, &[]), three);
     are_changes(&changes, &ALL, &NONE, (3, 0))
 }
 
 // Whether one comes and two go.
-fn have_changed(rt: &impl Abort, alloc: Global, three: &Resolved, two: &Resolved) -> bool {
+fn have_changed(
+    rt: &impl Abort,
+    alloc: Global,
+    three: &Rc<Resolved>,
+    two: &Rc<Resolved>,
+) -> bool {
     let changes = between(rt, alloc, three, two);
     are_changes(&changes, &ONLY, &BOTH, (1, 2))
 }
@@ -132,7 +137,7 @@ fn accesses_and_changes_by_place(rt: HostRuntime) {
     let alloc = rt.alloc();
     assert!(&rt; Table::empty(alloc).is_empty());
     let three = shared(&rt, alloc, &[START, THREE]);
-    let two = policy(&rt, alloc, &[START, TWO]);
+    let two = shared(&rt, alloc, &[START, TWO]);
     assert!(&rt; are_three(&table_of(&rt, alloc, &three)));
     assert!(&rt; have_come(&rt, alloc, &three));
     assert!(&rt; have_changed(&rt, alloc, &three, &two));

@@ -1,7 +1,8 @@
 //! Accesses that stand in lines of counters, appear and go, by numbers.
 
 ghost use Rattle.std.specs.Prelude.{◌≡◌, length};
-ghost use Rattle.cil_symbol_changes.specs.Numbered.{AreNumbered};
+ghost use Rattle.cil_keyed_lines.specs.Keyed.{count_before, count_now};
+ghost use Rattle.cil_symbol_changes.specs.Numbered.{ArePresentNumbered};
 
 use crate::keyed_lines::can_go;
 use RuleKind::{Allow, AuditAllow, DontAudit, NeverAllow};
@@ -42,8 +43,10 @@ fn shift(
     kind: RuleKind,
     targets: (usize, u64, u64),
 )
-    requires { AreNumbered numbers.now lines.old }
-    ensures { AreNumbered numbers.now lines.new }
+    requires now { ArePresentNumbered numbers.now (count_now lines.old) }
+    requires before { ArePresentNumbered numbers.now (count_before lines.old) }
+    ensures now { ArePresentNumbered numbers.now (count_now lines.new) }
+    ensures before { ArePresentNumbered numbers.now (count_before lines.new) }
 {
     let (word, was, is) = targets;
     let key = SymbolKey {
@@ -68,8 +71,10 @@ fn take(
     kinds: &[RuleKind],
     step: Step,
 )
-    requires { AreNumbered numbers.now lines.old }
-    ensures { AreNumbered numbers.now lines.new }
+    requires now { ArePresentNumbered numbers.now (count_now lines.old) }
+    requires before { ArePresentNumbered numbers.now (count_before lines.old) }
+    ensures now { ArePresentNumbered numbers.now (count_now lines.new) }
+    ensures before { ArePresentNumbered numbers.now (count_before lines.new) }
 {
     match step {
         Shift(word, was, is) => {
@@ -90,7 +95,8 @@ fn lines_of(
     kinds: &[RuleKind],
     steps: &[Step],
 ) -> KeyedLines
-    ensures { AreNumbered numbers.now result }
+    ensures now { ArePresentNumbered numbers.now (count_now result) }
+    ensures before { ArePresentNumbered numbers.now (count_before result) }
 {
     let mut lines = KeyedLines::new(alloc);
     for step in steps {
@@ -235,7 +241,7 @@ fn has_listing(
     kinds: &[RuleKind],
     targets: &[u32],
 ) -> bool
-    requires { AreNumbered numbers.now lines.now }
+    requires { ArePresentNumbered numbers.now (count_now lines.now) }
 {
     let found = accesses(alloc, lines, numbers).expect(rt, "memory");
     are_listed(&found, kinds, targets)
@@ -250,9 +256,10 @@ fn has_changes(
     kinds: &[RuleKind],
     targets: (&[u32], &[u32]),
 ) -> bool
-    requires { AreNumbered numbers.now lines.now }
+    requires now { ArePresentNumbered numbers.now (count_now lines.now) }
+    requires before { ArePresentNumbered numbers.now (count_before lines.now) }
 {
-    let found = changes(alloc, lines, numbers).expect(rt, "memory");
+    let found = changes(alloc, lines, numbers, numbers).expect(rt, "memory");
     are_listed(&found.added, kinds, targets.0) && are_listed(&found.removed, kinds, targets.1)
 }
 

@@ -288,7 +288,7 @@ neverallow m:3:1 allow m:4:1 m m:p { see use };\n";
 
 // The violations of the third policy, reached from the second, and then those of the second again.
 fn brought(rt: &impl Abort, alloc: Global) -> (Violations, Violations) {
-    let first = policy(rt, alloc, &[FIRST]);
+    let first = shared(rt, alloc, &[FIRST]);
     let second = shared(rt, alloc, &[SECOND]);
     let third = shared(rt, alloc, &[THIRD]);
     let mut counters = counted(rt, alloc, &first);

@@ -2,5 +2,4 @@ pub mod Common
 pub mod Atoms
 pub mod NameList
 pub mod NumberedRows
-pub mod Ranks
 pub mod Rows

@@ -1,20 +1,19 @@
 -- The accesses of the targets that appeared or went, change by change.
-use Rattle.cil_symbol_changes.proofs.Common.{◌≡◌, ◌↔◌, ℕ, ◌-◌, ◌<◌, ◌≤◌, suc, List, [], ◌∷◌, Option, None, Some, MatchOption, get_or, length, min, position, slice_get, refl, sym, ap, subst, ◌∙◌, inl, inr, arith, sum_by, cases_eq, cases_lt, get_or_past, sum_by-cons, sum_by_more_le, same_Some, slice_get_within, AccessNumbers, Chunk, Keyed, IsLineOf, IsNoLine, NoneCounted, before_at, is_key, now_at, count_before, count_now, SymbolKey, hit, hit_at, Change, hit_in, hit_off, AreGained, AreKnown, AreKnownIn, IsIn, IsTo, access_by, AreNumbered, IsNew, IsNumbered, AreAllPlaces, IsAmong, LinePlace}
+use Rattle.cil_symbol_changes.proofs.Common.{◌≡◌, ◌↔◌, ℕ, ◌+◌, ◌-◌, ◌++◌, ◌<◌, ◌≤◌, suc, List, [], ◌∷◌, Option, None, Some, MatchOption, length, map, min, position, slice_get, refl, sym, ap, subst, ◌∙◌, inl, inr, arith, sum_by, take, take_all, take_more, cases_eq, cases_lt, get_or_past, sum_by-cons, sum_by_more_le, same_Some, slice_get_within, AccessNumbers, Chunk, Keyed, IsLineOf, IsNoLine, NoneCounted, is_key, count_before, count_now, SymbolKey, hit, hit_at, Change, hit_in, hit_nothing, hit_off, AreGained, AreKnown, AreKnownIn, IsIn, IsTo, access_by, ArePresentNumbered, IsNew, AreAppeared, HasAppeared, IsAmong, LinePlace}
+use Rattle.std.proofs.Common.{set}
+use Rattle.std.proofs.lemmas.List.{get_or-set_other, length-set, map_push, take_more_set}
 use Rattle.cil_keyed_lines.proofs.KeyedLemmas.{line_of_key}
 use Rattle.cil_recorded.specs.Differences.{appeared_at, gone_at}
+use Rattle.cil_symbol_changes.specs.SourceOrder.{change_of}
 use Rattle.cil_symbol_changes.proofs.GainedLemmas.{gained-alike, gained-none}
 use Rattle.cil_symbol_changes.proofs.OrderLemmas.{among-at}
 
--- one of two that follow from each other, and a third
-pub alike-trans : {X Y Z : Type 0} → X ↔ Y → Y ↔ Z → X ↔ Z
-alike-trans f g = (λ x. g.0 (f.0 x), λ z. f.1 (g.1 z))
-
 -- any change
-abbrev pub no_change : Change
+abbrev no_change : Change
 no_change = record { line = 0; word = 0; appeared = 0; gone = 0 }
 
 -- where a sum over changes is above 0, it is so for one of them
-one_of : (f : Change → ℕ) (changes : List Change) → 0 < sum_by f changes → (i : ℕ) × (i < length changes) × (0 < f (get_or changes i no_change))
+one_of : (f : Change → ℕ) (changes : List Change) → 0 < sum_by f changes → (i : ℕ) × (i < length changes) × (0 < f (change_of changes i))
 one_of f [] some = absurd (omega (arith, some))
 one_of f (x ∷ xs) some =
     elim (cases_eq (f x) 0) [
@@ -68,50 +67,46 @@ module _ (numbers : List ℕ) (lines : Keyed) where
 
   -- ---- changes in an order of their places
 
-  pub in-none : (stands : ℕ → ℕ → ℕ) (old : List Chunk) → ((l t : ℕ) → stands l t ≡ 0) → AreGained (IsIn numbers lines stands) old old
-  in-none stands old none = gained-none (IsIn numbers lines stands) old (λ a told. let some = told.among in let zero = none told.place told.target in omega (arith, some, zero))
+  module _ (changes : List Change) where
+    past-changes : (place l t : ℕ) → length changes ≤ place → hit_at (change_of changes place).line (change_of changes place).word (change_of changes place).appeared l t ≡ 0
+    past-changes place l t past = ap (λ d. hit_at d.line d.word d.appeared l t) (get_or_past changes place no_change past) ∙ hit_nothing 0 0 l t
 
-  -- what holds of the targets in all changes holds of those in one
-  pub known-one : (at : Change → ℕ → ℕ → ℕ) (changes : List Change) (i : ℕ) (d : Change) → i < length changes → AreKnownIn numbers lines (λ l t. sum_by (λ x. at x l t) changes) → AreKnownIn numbers lines (at (get_or changes i d))
-  known-one at changes i d within known l key line t some =
-      known l key line t (let less = sum_by_more_le (λ x. at x l t) changes i d within in omega (arith, some, less))
+    -- what holds of the targets in all changes holds of those in one
+    pub known-one : (place : ℕ) → place < length changes → AreKnownIn numbers lines (appeared_at changes)
+        → AreKnownIn numbers lines (hit_at (change_of changes place).line (change_of changes place).word (change_of changes place).appeared)
+    known-one place within known l key line t some =
+        known l key line t (let less = sum_by_more_le (λ d. hit_at d.line d.word d.appeared l t) changes place no_change within in omega (arith, some, less))
 
-  module _ (at : Change → ℕ → ℕ → ℕ) (nothing : (l t : ℕ) → at no_change l t ≡ 0) (changes : List Change) where
-    -- the accesses of the change of a place
-    abbrev pub IsOfPlace : ℕ → AccessNumbers → Type 0
-    IsOfPlace place = IsIn numbers lines (at (get_or changes place no_change))
-
-    -- and those of all changes
-    abbrev pub IsOfAll : AccessNumbers → Type 0
-    IsOfAll = IsIn numbers lines (λ l t. sum_by (λ x. at x l t) changes)
-
-    past-changes : (place l t : ℕ) → length changes ≤ place → at (get_or changes place no_change) l t ≡ 0
-    past-changes place l t past = ap (λ d. at d l t) (get_or_past changes place no_change past) ∙ nothing l t
-
-    pub in-no_change : (place : ℕ) (old : List Chunk) → length changes ≤ place → AreGained (IsOfPlace place) old old
-    in-no_change place old past = in-none (at (get_or changes place no_change)) old (λ l t. past-changes place l t past)
+    pub in-no_change : (place : ℕ) (old : List Chunk) → length changes ≤ place → AreGained (HasAppeared numbers lines changes place) old old
+    in-no_change place old past =
+        gained-none (HasAppeared numbers lines changes place) old
+        (λ a told. let some = told.among in let zero = past-changes place told.place told.target past in omega (arith, some, zero))
 
     pub in-all : (order : List LinePlace) (old new : List Chunk)
-        → AreAllPlaces (length changes) order → AreGained (IsAmong IsOfPlace order) old new
-        → AreGained IsOfAll old new
+        → AreAppeared changes order → AreGained (IsAmong (HasAppeared numbers lines changes) order) old new
+        → AreGained (IsIn numbers lines (appeared_at changes)) old new
     in-all order old new all gained =
-        gained-alike (IsAmong IsOfPlace order) IsOfAll old new gained
+        gained-alike (IsAmong (HasAppeared numbers lines changes) order) (IsIn numbers lines (appeared_at changes)) old new gained
         (λ a some. to a some.1.place some.4) from
       where
-        to : (a : AccessNumbers) (place : ℕ) → IsOfPlace place a → IsOfAll a
+        to : (a : AccessNumbers) (place : ℕ) → HasAppeared numbers lines changes place a → IsIn numbers lines (appeared_at changes) a
         to a place told =
             let some = told.among in
             elim (cases_lt place (length changes)) [
               | inl within ↦
-                  let less = sum_by_more_le (λ x. at x told.place told.target) changes place no_change within in
+                  let less = sum_by_more_le (λ d. hit_at d.line d.word d.appeared told.place told.target) changes place no_change within in
                   record { place = told.place; key = told.key; line = told.line; target = told.target; among = omega (arith, some, less); same = told.same }
               | inr past ↦ let zero = past-changes place told.place told.target past in absurd (omega (arith, some, zero))
             ]
 
-        from : (a : AccessNumbers) → IsOfAll a → IsAmong IsOfPlace order a
+        from : (a : AccessNumbers) → IsIn numbers lines (appeared_at changes) a → IsAmong (HasAppeared numbers lines changes) order a
         from a told =
-            let (i, within, some) = one_of (λ x. at x told.place told.target) changes told.among in
-            among-at IsOfPlace order i a (all i within)
+            let (i, within, some) = one_of (λ d. hit_at d.line d.word d.appeared told.place told.target) changes told.among in
+            let d : Change = change_of changes i in
+            among-at (HasAppeared numbers lines changes) order i a
+            (all i within (λ none.
+            let zero = ap (λ m. hit_at d.line d.word m told.place told.target) none ∙ hit_nothing d.line d.word told.place told.target in
+            omega (arith, some, zero)))
             (record {
               place = told.place;
               key = told.key;
@@ -129,20 +124,20 @@ module _ (numbers : List ℕ) (lines : Keyed) where
     turned-at : (l : ℕ) (key : SymbolKey) (t : ℕ) → IsLineOf lines l key → stands l t ≡ min 1 (is key t) - min 1 (was key t)
     turned-at l key t line = let (before, now) = at l key line t in turned l t ∙ ap (λ n. min 1 n - min 1 (f l t)) now ∙ ap (λ n. min 1 (is key t) - min 1 n) before
 
-    pub known-turned : ((key : SymbolKey) (t : ℕ) → 0 < is key t → IsNumbered numbers key t) → AreKnownIn numbers lines stands
+    pub known-turned : ArePresentNumbered numbers is → AreKnownIn numbers lines stands
     known-turned known l key line t some = let one = turned-at l key t line in known key t (omega (arith, some, one))
 
-    pub in-new : (old new : List Chunk) → ((key : SymbolKey) (t : ℕ) → 0 < is key t → (l : ℕ) × IsLineOf lines l key) → AreGained (IsIn numbers lines stands) old new → AreGained (IsNew numbers was is) old new
-    in-new old new find gained = gained-alike (IsIn numbers lines stands) (IsNew numbers was is) old new gained to from
+    pub in-new : ((key : SymbolKey) (t : ℕ) → 0 < is key t → (l : ℕ) × IsLineOf lines l key) → (a : AccessNumbers) → IsIn numbers lines stands a ↔ IsNew numbers was is a
+    in-new find a = (to, from)
       where
-        to : (a : AccessNumbers) → IsIn numbers lines stands a → IsNew numbers was is a
-        to a told =
+        to : IsIn numbers lines stands a → IsNew numbers was is a
+        to told =
             let some = told.among in
             let one = turned-at told.place told.key told.target told.line in
             record { key = told.key; target = told.target; absent = omega (arith, some, one); present = omega (arith, some, one); same = told.same }
 
-        from : (a : AccessNumbers) → IsNew numbers was is a → IsIn numbers lines stands a
-        from a told =
+        from : IsNew numbers was is a → IsIn numbers lines stands a
+        from told =
             let (l, line) = find told.key told.target told.present in
             let one = turned-at l told.key told.target line in
             let absent = told.absent in
@@ -150,43 +145,55 @@ module _ (numbers : List ℕ) (lines : Keyed) where
             record { place = l; key = told.key; line = line; target = told.target; among = omega (arith, one, absent, present); same = told.same }
 
 -- a key with a counter above 0 has a line
-pub line-now : (lines : Keyed) (key : SymbolKey) (t : ℕ) → 0 < count_now lines key t → (l : ℕ) × IsLineOf lines l key
-line-now lines key t some = by (position (is_key key) lines.keys) (line_of_key lines key (position (is_key key) lines.keys) refl)
+has-line : (lines : Keyed) (key : SymbolKey) → (NoneCounted lines key → ⊥) → (l : ℕ) × IsLineOf lines l key
+has-line lines key some = by (position (is_key key) lines.keys) (line_of_key lines key (position (is_key key) lines.keys) refl)
   where
     by : (o : Option ℕ) → MatchOption o (NoneCounted lines key) (λ l. IsLineOf lines l key) → (l : ℕ) × IsLineOf lines l key
-    by None none = let zero = (none t).0 in absurd (omega (arith, some, zero))
+    by None none = absurd (some none)
     by (Some l) line = (l, line)
+
+pub line-now : (lines : Keyed) (key : SymbolKey) (t : ℕ) → 0 < count_now lines key t → (l : ℕ) × IsLineOf lines l key
+line-now lines key t some = has-line lines key (λ none. let zero = (none t).0 in omega (arith, some, zero))
 
 pub line-before : (lines : Keyed) (key : SymbolKey) (t : ℕ) → 0 < count_before lines key t → (l : ℕ) × IsLineOf lines l key
-line-before lines key t some = by (position (is_key key) lines.keys) (line_of_key lines key (position (is_key key) lines.keys) refl)
-  where
-    by : (o : Option ℕ) → MatchOption o (NoneCounted lines key) (λ l. IsLineOf lines l key) → (l : ℕ) × IsLineOf lines l key
-    by None none = let zero = (none t).1 in absurd (omega (arith, some, zero))
-    by (Some l) line = (l, line)
+line-before lines key t some = has-line lines key (λ none. let zero = (none t).1 in omega (arith, some, zero))
 
--- ---- lines
+-- ---- changes turned round
 
-module _ (numbers : List ℕ) (lines : Keyed) (given changes : List Change) (all : given ≡ changes) where
-  -- what appeared
-  module _ (appeared : (l t : ℕ) → appeared_at changes l t ≡ min 1 (now_at lines l t) - min 1 (before_at lines l t)) where
-    pub known-appeared : AreNumbered numbers lines → AreKnownIn numbers lines (appeared_at given)
-    known-appeared numbered =
-        known-turned numbers lines (appeared_at given) (before_at lines) (now_at lines) (count_before lines) (count_now lines) (λ l t. ap (λ cs. appeared_at cs l t) all ∙ appeared l t) (λ l key line t. (line.before t, line.now t))
-        (λ key t some. numbered.now key t some)
+-- a change the other way round
+abbrev pub round : Change → Change
+round d = record { line = d.line; word = d.word; appeared = d.gone; gone = d.appeared }
 
-    pub new-appeared : (old new : List Chunk) → AreGained (IsIn numbers lines (appeared_at given)) old new → AreGained (IsNew numbers (count_before lines) (count_now lines)) old new
-    new-appeared old new gained =
-        (in-new numbers lines (appeared_at given) (before_at lines) (now_at lines) (count_before lines) (count_now lines) (λ l t. ap (λ cs. appeared_at cs l t) all ∙ appeared l t) (λ l key line t. (line.before t, line.now t))
-        old new (line-now lines) gained)
+-- what appears in changes that are turned round is what went
+pub appeared-round : (changes : List Change) (l t : ℕ) → appeared_at (map round changes) l t ≡ gone_at changes l t
+appeared-round [] l t = refl
+appeared-round (d ∷ ds) l t =
+    sum_by-cons (λ x. hit_at x.line x.word x.appeared l t) (round d) (map round ds)
+    ∙ ap (λ n. hit_at d.line d.word d.gone l t + n) (appeared-round ds l t)
+    ∙ sym (sum_by-cons (λ x. hit_at x.line x.word x.gone l t) d ds)
 
-  -- what went
-  module _ (gone : (l t : ℕ) → gone_at changes l t ≡ min 1 (before_at lines l t) - min 1 (now_at lines l t)) where
-    pub known-gone : AreNumbered numbers lines → AreKnownIn numbers lines (gone_at given)
-    known-gone numbered =
-        known-turned numbers lines (gone_at given) (now_at lines) (before_at lines) (count_now lines) (count_before lines) (λ l t. ap (λ cs. gone_at cs l t) all ∙ gone l t) (λ l key line t. (line.now t, line.before t))
-        (λ key t some. numbered.before key t some)
+-- The changes before a place are turned round, and the others not.
+pub record AreTurned (old : List Change) (n : ℕ) (new : List Change) : Type 0 where
+  pub len : length new ≡ length old
+  pub front : take n new ≡ map round (take n old)
+  pub rest : (k : ℕ) → n ≤ k → change_of new k ≡ change_of old k
 
-    pub new-gone : (old new : List Chunk) → AreGained (IsIn numbers lines (gone_at given)) old new → AreGained (IsNew numbers (count_now lines) (count_before lines)) old new
-    new-gone old new gained =
-        (in-new numbers lines (gone_at given) (now_at lines) (before_at lines) (count_now lines) (count_before lines) (λ l t. ap (λ cs. gone_at cs l t) all ∙ gone l t) (λ l key line t. (line.now t, line.before t))
-        old new (line-before lines) gained)
+pub turned-none : (old : List Change) → AreTurned old 0 old
+turned-none old = record { len = refl; front = refl; rest = λ k behind. refl }
+
+module _ (old : List Change) (n : ℕ) (new : List Change) (turned : AreTurned old n new) where
+  pub turned-more : n < length new → AreTurned old (n + 1) (set new n (round (change_of new n)))
+  turned-more within = record {
+    len = length-set new n (round (change_of new n)) ∙ turned.len;
+    front =
+        take_more_set new n (round (change_of new n)) within
+        ∙ (λ i. turned.front i ++ round (turned.rest n (omega arith) i) ∷ [])
+        ∙ sym (map_push round (take n old) (change_of old n))
+        ∙ ap (map round) (sym (take_more old n no_change (let len = turned.len in omega (arith, within, len))));
+    rest = λ k behind. get_or-set_other new n k (round (change_of new n)) no_change (omega (arith, behind)) ∙ turned.rest k (omega (arith, behind));
+  }
+
+  pub turned-all : length new ≤ n → new ≡ map round old
+  turned-all past =
+      sym (take_all n new past) ∙ turned.front
+      ∙ ap (map round) (take_all n old (let len = turned.len in omega (arith, past, len)))

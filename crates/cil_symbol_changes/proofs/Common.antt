@@ -12,8 +12,8 @@ pub use Rattle.cil_sums.proofs.RiseLemmas.{rises-added, rises-bits, rises-both, 
 pub use Rattle.cil_sums.specs.Rises.{RisesBy, below}
 pub use Rattle.cil_symbol_changes.specs.Counts.{AreSoMany, came, has_come, has_risen, went}
 pub use Rattle.cil_symbol_changes.specs.Gained.{AreGained, AreKept, AreKnown, AreKnownIn, IsIn, IsShort, IsTo, chunk_by}
-pub use Rattle.cil_symbol_changes.specs.Numbered.{AreNumbered, ArePresentNumbered, IsNew, IsNumbered, IsPresent, access_by, is_listed, listed}
-pub use Rattle.cil_symbol_changes.specs.SourceOrder.{AreAllPlaces, AreListedPlaces, AreParts, HasAppeared, HasGone, IsAmong, IsAt, IsAtWord, IsListedIn}
+pub use Rattle.cil_symbol_changes.specs.Numbered.{ArePresentNumbered, IsNew, IsNumbered, IsPresent, access_by, is_listed, listed}
+pub use Rattle.cil_symbol_changes.specs.SourceOrder.{AreAppeared, AreListedPlaces, AreParts, HasAppeared, IsAmong, IsAt, IsAtWord, IsListedIn}
 pub use Rattle.cil_symbol_changes.specs.declared.source_order.LinePlace.{LinePlace}
 pub use Rattle.std.proofs.Common.{Any, Bool, IsPermutation, List, MatchOption, None, Option, Some, [], add-zero, ap, arith, cond, count_ones, eqb-true, false, get_or, if◌then◌else◌, inl, inr, length, map, min, nat_lt, not, position, refl, slice_get, slice_index, subst, suc, sym, take, true, true≢false, zero-add, ℕ, ◌%◌, ◌&&◌, ◌*◌, ◌++◌, ◌+◌, ◌-◌, ◌/◌, ◌<◌, ◌==◌, ◌^◌, ◌↔◌, ◌∙◌, ◌∷◌, ◌≡◌, ◌≢◌, ◌≤◌, ◌⊎◌}
 pub use Rattle.std.proofs.lemmas.Bool.{cases_eq, cases_lt, eq-eqb, le-ltb, lt-ltb, ltb-true, ne_eqb}

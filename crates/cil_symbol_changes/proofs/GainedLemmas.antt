@@ -7,6 +7,10 @@ use Rattle.cil_accesses.proofs.Renumbering.{any-push, any-pushed}
 use Rattle.cil_lines.proofs.LineLemmas.{some_bit}
 use Rattle.cil_lines.proofs.StepLemmas.{hit-here, hit-there}
 
+-- one of two that follow from each other, and a third
+pub alike-trans : {X Y Z : Type 0} → X ↔ Y → Y ↔ Z → X ↔ Z
+alike-trans f g = (λ x. g.0 (f.0 x), λ z. f.1 (g.1 z))
+
 -- where nothing is told, nothing is gained
 pub gained-none : (told : AccessNumbers → Type 0) (chunks : List Chunk) → ((a : AccessNumbers) → told a → ⊥) → AreGained told chunks chunks
 gained-none told chunks none = record { are = λ a. (λ h. inl h, λ some. elim some [ inl h ↦ h | inr t ↦ absurd (none a t) ]); short = λ h. h }

@@ -5,7 +5,7 @@ pub use Rattle.cil_keyed_lines.specs.Keyed.{IsLineOf, count_before, count_now, n
 pub use Rattle.cil_lines.specs.Line.{hit}
 pub use Rattle.cil_symbol_changes.specs.Counts.{AreSoMany, came, has_come, went}
 pub use Rattle.cil_symbol_changes.specs.Gained.{AreGained, AreKept, AreKnown, AreKnownIn, IsIn, IsShort, IsTo, chunk_by}
-pub use Rattle.cil_symbol_changes.specs.Numbered.{AreNumbered, ArePresentNumbered, IsNew, IsPresent, is_listed, listed}
-pub use Rattle.cil_symbol_changes.specs.SourceOrder.{AreAllPlaces, AreListedPlaces, AreParts, HasAppeared, HasGone, IsAmong, IsAt, IsAtWord, IsListedIn}
+pub use Rattle.cil_symbol_changes.specs.Numbered.{ArePresentNumbered, IsNew, IsPresent, is_listed, listed}
+pub use Rattle.cil_symbol_changes.specs.SourceOrder.{AreAppeared, AreListedPlaces, AreParts, HasAppeared, IsAmong, IsAt, IsAtWord, IsListedIn}
 pub use Rattle.std.specs.List.{All}
 pub use Rattle.std.specs.List.Sorted.{IsStrictlySortedBy}

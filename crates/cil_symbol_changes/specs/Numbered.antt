@@ -1,7 +1,6 @@
 -- Accesses by symbols, by the numbers of their names.
 use Rattle.std.specs.Prelude.{◌≡◌, ℕ, ◌<◌, Bool, true, false, List, cond, length, slice_index}
 use Rattle.cil_accesses.specs.declared.access.AccessNumbers.{AccessNumbers}
-use Rattle.cil_keyed_lines.specs.Keyed.{count_before, count_now, Keyed}
 use Rattle.cil_keyed_lines.specs.declared.symbol_key.SymbolKey.{SymbolKey}
 use Rattle.cil_text.specs.declared.statement.RuleKind.{RuleKind}
 use Rattle.cil_text.specs.declared.statement.RuleKind.TheVariants.{Allow, AuditAllow, DontAudit, NeverAllow}
@@ -26,11 +25,6 @@ pub record IsNumbered (numbers : List ℕ) (key : SymbolKey) (target : ℕ) : Ty
 -- the symbols of each counter that is above 0 have numbers
 abbrev pub ArePresentNumbered : List ℕ → (SymbolKey → ℕ → ℕ) → Type 0
 ArePresentNumbered numbers counts = (key : SymbolKey) (t : ℕ) → 0 < counts key t → IsNumbered numbers key t
-
--- so do those of each that is above 0 now or was before the steps
-pub record AreNumbered (numbers : List ℕ) (lines : Keyed) : Type 0 where
-  pub now : ArePresentNumbered numbers (count_now lines)
-  pub before : ArePresentNumbered numbers (count_before lines)
 
 -- an access by numbers whose counter was 0 and is above 0
 pub record IsNew (numbers : List ℕ) (was is : SymbolKey → ℕ → ℕ) (a : AccessNumbers) : Type 0 where

@@ -3,7 +3,7 @@
 #![tactic(auto)]
 
 mod access_changes;
-mod changed_chunks;
+mod appeared;
 mod counted_accesses;
 mod counted_changes;
 mod kept_words;

@@ -1,4 +1,4 @@
-use Rattle.cil_symbol_changes.proofs.ChangeLemmas.{alike-trans}
+use Rattle.cil_symbol_changes.proofs.GainedLemmas.{alike-trans}
 use Rattle.cil_symbol_changes.proofs.present_accesses.accesses.Goals as goal
 
 pub returns-clause-present : goal.returns-clause-present

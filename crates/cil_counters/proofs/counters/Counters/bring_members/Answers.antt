@@ -18,7 +18,7 @@ returns-in_err-next-clause-steps g c = ap (λ tables. access_tables.steps_in tab
 
 pub returns-in_err-update_members-clause-before : goal.returns-in_err-update_members-clause-before
 returns-in_err-update_members-clause-before g c =
-    counted-by-alike c.args.old.now c.number.new.self c.update_members.new.self (member_rows.count_before c.number.new.self.rows) (member_rows.count_before c.update_members.new.self.rows)
+    counted-by-alike c.args.old.now c.number.new.self.names c.update_members.new.self.names c.number.new.self.policy c.update_members.new.self.policy (member_rows.count_before c.number.new.self.rows) (member_rows.count_before c.update_members.new.self.rows)
     (access_tables.count_before c.number.new.self.tables) (access_tables.count_before c.update_members.new.self.tables) c.number.ensures.before c.update_members.ensures.names c.update_members.ensures.policy
     c.update_members.ensures.before (λ key t. ap (λ tables. access_tables.count_before tables key t) c.update_members.ensures.tables)
 
@@ -33,7 +33,7 @@ returns-in_err-update_members-clause-steps g c = ap (λ tables. access_tables.st
 
 pub returns-clause-before : goal.returns-clause-before
 returns-clause-before g c =
-    counted-by-alike c.args.old.now c.number.new.self c.update_members.new.self (member_rows.count_before c.number.new.self.rows) (member_rows.count_before c.update_members.new.self.rows)
+    counted-by-alike c.args.old.now c.number.new.self.names c.update_members.new.self.names c.number.new.self.policy c.update_members.new.self.policy (member_rows.count_before c.number.new.self.rows) (member_rows.count_before c.update_members.new.self.rows)
     (access_tables.count_before c.number.new.self.tables) (access_tables.count_before c.update_members.new.self.tables) c.number.ensures.before c.update_members.ensures.names c.update_members.ensures.policy
     c.update_members.ensures.before (λ key t. ap (λ tables. access_tables.count_before tables key t) c.update_members.ensures.tables)
 

@@ -37,13 +37,13 @@ returns-clause-now g c = record {
 pub returns-in_err-update-clause-before : goal.returns-in_err-update-clause-before
 returns-in_err-update-clause-before g c =
     let rows = member_rows.count_before c.bring_members.new.self.rows in
-    counted-by-alike c.args.old.now c.bring_members.new.self c.bring_members.new.self rows rows (access_tables.count_before c.bring_members.new.self.tables) (access_tables.count_before c.update.new.lines)
+    counted-by-alike c.args.old.now c.bring_members.new.self.names c.bring_members.new.self.names c.bring_members.new.self.policy c.bring_members.new.self.policy rows rows (access_tables.count_before c.bring_members.new.self.tables) (access_tables.count_before c.update.new.lines)
     c.bring_members.ensures.before refl refl (λ a t. refl) c.update.ensures.before
 
 pub returns-clause-before : goal.returns-clause-before
 returns-clause-before g c =
     let rows = member_rows.count_before c.bring_members.new.self.rows in
-    counted-by-alike c.args.old.now c.bring_members.new.self c.bring_members.new.self rows rows (access_tables.count_before c.bring_members.new.self.tables) (access_tables.count_before c.update.new.lines)
+    counted-by-alike c.args.old.now c.bring_members.new.self.names c.bring_members.new.self.names c.bring_members.new.self.policy c.bring_members.new.self.policy rows rows (access_tables.count_before c.bring_members.new.self.tables) (access_tables.count_before c.update.new.lines)
     c.bring_members.ensures.before refl refl (λ a t. refl) c.update.ensures.before
 
 pub returns-clause-evaluations : goal.returns-clause-evaluations

@@ -3,4 +3,6 @@ use Rattle.cil_counters.proofs.counters.Counters.update.Goals as goal
 
 pub returns-clause-adjustments : goal.returns-clause-adjustments
 returns-clause-adjustments g c =
-    IfOk-weaker c.changes.result _ _ c.in_ok-take_steps.ensures.adjustments c.changes.ensures
+    IfOk-weaker c.changes.result _ _
+    (rw (c.deref.ensures, c.deref-2.ensures) at c.in_ok-take_steps.ensures.adjustments)
+    c.changes.ensures
