@@ -82,17 +82,18 @@ fn are_placed(accesses: &Accesses, listed: &[Listed]) -> bool {
     accesses.len() == listed.len() as u128
 }
 
-fn is_in_row(access: &Listed, other: &Listed) -> bool {
-    access.0 == other.0 && access.1 == other.1 && access.2 == other.2 && access.3 == other.3
-}
-
 // Whether an access stands at a place, where it is or isn't of one row with the access before.
 fn is_placed(access: &AccessNumbers, listed: &[Listed], place: usize, is_first: bool) -> bool {
     if place >= listed.len() || listed[place] != listed_as(access) {
         return false;
     }
-    let begins = place == 0 || !is_in_row(&listed[place], &listed[place - 1]);
-    begins == is_first
+    if place == 0 {
+        return is_first;
+    }
+    let (kind, source, target, class, _) = listed[place];
+    let (kind_before, source_before, target_before, class_before, _) = listed[place - 1];
+    let before = (kind_before, source_before, target_before, class_before);
+    is_first == ((kind, source, target, class) != before)
 }
 
 // Where the accesses of a row that begin at a place end, if they are those of the row.
@@ -128,11 +129,6 @@ fn are_listed(accesses: &Accesses, listed: &[Listed]) -> bool {
         }
     }
     n == listed.len() && are_placed(accesses, listed)
-}
-
-// Whether these are the accesses of chunks.
-fn are_of(rt: &impl Abort, alloc: Global, chunks: &[Given], listed: &[Listed]) -> bool {
-    are_listed(&accesses(rt, alloc, chunks), listed)
 }
 
 // 64 accesses of a source, by class 1 and permission 1, to the types from one on.
@@ -186,19 +182,6 @@ const LISTED: &[(&[Given], &[Listed])] = &[
     ),
 ];
 
-#[test]
-fn accesses_of_chunks(rt: HostRuntime) {
-    let alloc = rt.alloc();
-    assert!(&rt; are_listed(&Accesses::empty(alloc), &[]));
-    for (chunks, listed) in LISTED {
-        assert!(&rt; are_of(&rt, alloc, chunks, listed));
-    }
-    let full = (ALLOW, 7, 3, 1, 1, ALL);
-    assert!(&rt; chunk_of(&full).len() == 64);
-    let listed = word_of(&rt, alloc, 7, 192);
-    assert!(&rt; are_of(&rt, alloc, &[full], &listed));
-}
-
 // Three chunks of the sources 3, 2 and 1 are put in order from a place on; and their sources then.
 const SORTED: &[(usize, &[u32])] = &[(0, &[1, 2, 3]), (1, &[3, 1, 2]), (3, &[3, 2, 1])];
 
@@ -217,13 +200,6 @@ fn are_sorted(rt: &impl Abort, alloc: Global, start: usize, want: &[u32]) -> boo
         }
     }
     chunks.len() == want.len()
-}
-
-#[test]
-fn orders(rt: HostRuntime) {
-    for (start, want) in SORTED {
-        assert!(&rt; are_sorted(&rt, rt.alloc(), *start, want));
-    }
 }
 
 // Numbers: so many, from one on and with a step.
@@ -384,16 +360,6 @@ const PUSHED: &[(&[Given], &[Run], &[Listed])] = &[
     ),
 ];
 
-// The numbers of targets that stand in two words by turns.
-fn by_turns(rt: &impl Abort, alloc: Global) -> Vec<u32> {
-    let mut all = Vec::new(alloc);
-    for target in 0..64u32 {
-        all.push(target / 2 + 64 * (target % 2))
-            .expect(rt, "memory");
-    }
-    all
-}
-
 // Whether these are the accesses of the chunks by the numbers.
 fn are_pushed(
     rt: &impl Abort,
@@ -408,17 +374,43 @@ fn are_pushed(
 
 // How many chunks and how many accesses there are where all targets of a word stand in two words by turns.
 fn pushed_by_turns(rt: &impl Abort, alloc: Global) -> (usize, u128) {
-    let numbers = by_turns(rt, alloc);
+    let mut numbers = Vec::new(alloc);
+    for target in 0..64u32 {
+        numbers
+            .push(target / 2 + 64 * (target % 2))
+            .expect(rt, "memory");
+    }
     let found = pushed(rt, alloc, &[(ALLOW, 1, 0, 2, 3, ALL)], &numbers);
     let chunks = found.len();
     (chunks, Accesses::of(found).len())
 }
 
 #[test]
+fn accesses_of_chunks(rt: HostRuntime) {
+    let alloc = rt.alloc();
+    for (n, (chunks, listed)) in LISTED.iter().enumerate() {
+        let same = are_listed(&accesses(&rt, alloc, chunks), listed);
+        assert!(rt; same, "chunks {n}");
+    }
+    let full = (ALLOW, 7, 3, 1, 1, ALL);
+    let listed = word_of(&rt, alloc, 7, 192);
+    let same = chunk_of(&full).len() == 64 && are_listed(&Accesses::empty(alloc), &[]);
+    assert!(rt; same);
+    let same = are_listed(&accesses(&rt, alloc, &[full]), &listed);
+    assert!(rt; same);
+}
+
+#[test]
 fn accesses_by_other_numbers(rt: HostRuntime) {
     let alloc = rt.alloc();
-    for (chunks, runs, listed) in PUSHED {
-        assert!(&rt; are_pushed(&rt, alloc, chunks, runs, listed));
+    for (n, (start, want)) in SORTED.iter().enumerate() {
+        let same = are_sorted(&rt, alloc, *start, want);
+        assert!(rt; same, "order {n}");
     }
-    assert!(&rt; pushed_by_turns(&rt, alloc) == (2, 64));
+    for (n, (chunks, runs, listed)) in PUSHED.iter().enumerate() {
+        let same = are_pushed(&rt, alloc, chunks, runs, listed);
+        assert!(rt; same, "numbers {n}");
+    }
+    let same = pushed_by_turns(&rt, alloc) == (2, 64);
+    assert!(rt; same);
 }

@@ -118,10 +118,32 @@ fn lines_of(rt: &impl Abort, alloc: Global, steps: &[Step], n: usize) -> KeyedLi
     lines
 }
 
-// The counters of the first four targets of a word and of its last, its targets, and the first word of the line from this one on.
-type Counted = (&'static [u64], u64, Option<usize>);
+// The first four targets of a word, and its last.
+const BITS: [usize; 5] = [0, 1, 2, 3, 63];
 
-const NOTHING: Counted = (&[0, 0, 0, 0, 0], 0, None);
+// A key and a word, the counters of those targets of the word, its targets, and the first word of the line from this one on.
+type Word = (SymbolKey, usize, [u64; 5], u64, Option<usize>);
+
+const NONE: [u64; 5] = [0; 5];
+
+// Whether that is counted in the words.
+fn are_words(lines: &KeyedLines, want: &[Word]) -> bool {
+    for (key, word, counts, present, next) in want {
+        let first = word.saturating_mul(64);
+        for i in 0..5usize {
+            if lines.count(*key, first.saturating_add(BITS[i])) != counts[i] {
+                return false;
+            }
+        }
+        let place = lines.find(*key).unwrap_or(lines.len());
+        if lines.present(place, *word) != *present
+            || lines.next_present_word(place, *word) != *next
+        {
+            return false;
+        }
+    }
+    true
+}
 
 // Two rules give an access.
 const TWO: &[Step] = &[
@@ -183,108 +205,163 @@ const KINDS: &[Step] = &[
     Undo,
 ];
 
-// The first steps of some, the keys in their order, whether steps are pending, and what they changed.
-type Stepped = (
+// The first steps of some, the keys in their order, whether steps are pending, what they changed, and what is counted then.
+type Case = (
     &'static [Step],
     usize,
     &'static [SymbolKey],
     bool,
     &'static [Changed],
+    &'static [Word],
 );
 
-const STEPS: &[Stepped] = &[
-    (&[], 0, &[], false, &[]),
+const CASES: &[Case] = &[
+    (&[], 0, &[], false, &[], &[(READ, 0, NONE, 0, None)]),
     // A shift to what was is no step.
-    (&[Shift(READ, 0, 0b101, 0b101)], 1, &[], false, &[]),
-    (&[Undo, Settle], 2, &[], false, &[]),
-    (TWO, 2, &[READ], true, &[(0, 0, 0b0111, 0)]),
-    (TWO, 5, &[READ], true, &[(0, 0, 0b1000, 0b0110)]),
-    (TWO, 6, &[READ], false, &[]),
+    (
+        &[Shift(READ, 0, 0b101, 0b101)],
+        1,
+        &[],
+        false,
+        &[],
+        &[(READ, 0, NONE, 0, None)],
+    ),
+    (&[Undo, Settle], 2, &[], false, &[], &[]),
+    (
+        TWO,
+        2,
+        &[READ],
+        true,
+        &[(0, 0, 0b0111, 0)],
+        &[(READ, 0, [1, 2, 1, 0, 0], 0b0111, Some(0))],
+    ),
+    (
+        TWO,
+        4,
+        &[READ],
+        true,
+        &[(0, 0, 0, 0b0100)],
+        &[(READ, 0, [1, 1, 0, 0, 0], 0b0011, Some(0))],
+    ),
+    (
+        TWO,
+        5,
+        &[READ],
+        true,
+        &[(0, 0, 0b1000, 0b0110)],
+        &[(READ, 0, [1, 0, 0, 1, 0], 0b1001, Some(0))],
+    ),
+    (
+        TWO,
+        6,
+        &[READ],
+        false,
+        &[],
+        &[(READ, 0, [1, 2, 1, 0, 0], 0b0111, Some(0))],
+    ),
     (
         THREE,
         6,
         &[READ, OTHER_READ, WRITE],
         true,
         &[(1, 3, 0b100, 0), (1, 90, 0, 1 << 63), (2, 2, 0b11, 0)],
+        &[
+            (READ, 2, [1, 0, 0, 0, 0], 0b1, Some(2)),
+            (WRITE, 2, [1, 1, 0, 0, 0], 0b11, Some(2)),
+            (OTHER_READ, 0, NONE, 0, Some(3)),
+            (OTHER_READ, 3, [0, 0, 1, 0, 0], 0b100, Some(3)),
+            (OTHER_READ, 4, NONE, 0, Some(90)),
+            (OTHER_READ, 90, [1, 1, 1, 1, 0], ALL >> 1, Some(90)),
+        ],
     ),
-    (THREE, 7, &[READ, OTHER_READ], false, &[]),
-    (KEPT, 5, &[READ], false, &[]),
-    (ENDED, 7, &[READ, WRITE, OTHER_READ], false, &[]),
+    (
+        THREE,
+        7,
+        &[READ, OTHER_READ],
+        false,
+        &[],
+        &[
+            (WRITE, 2, NONE, 0, None),
+            (OTHER_READ, 3, NONE, 0, Some(90)),
+            (OTHER_READ, 90, [1; 5], ALL, Some(90)),
+        ],
+    ),
+    (
+        KEPT,
+        5,
+        &[READ],
+        false,
+        &[],
+        &[(READ, 1, [0, 1, 0, 0, 0], 0b10, Some(1))],
+    ),
+    (
+        ENDED,
+        7,
+        &[READ, WRITE, OTHER_READ],
+        false,
+        &[],
+        &[(OTHER_READ, 90, [1; 5], ALL, Some(90))],
+    ),
     (
         ENDED,
         9,
         &[READ, WRITE, OTHER_READ],
         true,
         &[(0, 2, 0, 0b1), (2, 90, 0, ALL)],
+        &[],
     ),
-    (ENDED, 10, &[WRITE], false, &[]),
+    (
+        ENDED,
+        10,
+        &[WRITE],
+        false,
+        &[],
+        &[
+            (WRITE, 1, [1, 1, 0, 0, 0], 0b11, Some(1)),
+            (READ, 2, NONE, 0, None),
+        ],
+    ),
     (
         ENDED,
         12,
         &[WRITE, READ],
         true,
         &[(0, 1, 0, 0b11), (1, 5, 0b1, 0)],
+        &[],
     ),
-    (ENDED, 13, &[READ], false, &[]),
-    (ENDED, 15, &[], false, &[]),
+    (
+        ENDED,
+        13,
+        &[READ],
+        false,
+        &[],
+        &[(READ, 5, [1, 0, 0, 0, 0], 0b1, Some(5))],
+    ),
+    (ENDED, 15, &[], false, &[], &[]),
     (
         KINDS,
         6,
         &[READ, AUDITED_READ, SILENT_READ, FORBIDDEN_READ],
         true,
         &[(0, 2, 0, 0b001), (2, 2, 0b001, 0), (3, 2, 0b100, 0)],
+        &[
+            (READ, 2, [0, 1, 0, 0, 0], 0b010, Some(2)),
+            (AUDITED_READ, 2, [0, 1, 1, 0, 0], 0b110, Some(2)),
+            (SILENT_READ, 2, [1, 0, 0, 0, 0], 0b001, Some(2)),
+            (FORBIDDEN_READ, 2, [0, 0, 1, 0, 0], 0b100, Some(2)),
+        ],
     ),
-    (KINDS, 7, &[READ, AUDITED_READ], false, &[]),
-];
-
-// The first steps of some, a key and a word, and what is counted there.
-type Word = (&'static [Step], usize, SymbolKey, usize, Counted);
-
-const WORDS: &[Word] = &[
-    (&[], 0, READ, 0, NOTHING),
-    (&[Shift(READ, 0, 0b101, 0b101)], 1, READ, 0, NOTHING),
-    (TWO, 2, READ, 0, (&[1, 2, 1, 0, 0], 0b0111, Some(0))),
-    (TWO, 4, READ, 0, (&[1, 1, 0, 0, 0], 0b0011, Some(0))),
-    (TWO, 5, READ, 0, (&[1, 0, 0, 1, 0], 0b1001, Some(0))),
-    (TWO, 6, READ, 0, (&[1, 2, 1, 0, 0], 0b0111, Some(0))),
-    (THREE, 6, READ, 2, (&[1, 0, 0, 0, 0], 0b1, Some(2))),
-    (THREE, 6, WRITE, 2, (&[1, 1, 0, 0, 0], 0b11, Some(2))),
-    (THREE, 6, OTHER_READ, 0, (&[0, 0, 0, 0, 0], 0, Some(3))),
-    (THREE, 6, OTHER_READ, 3, (&[0, 0, 1, 0, 0], 0b100, Some(3))),
-    (THREE, 6, OTHER_READ, 4, (&[0, 0, 0, 0, 0], 0, Some(90))),
-    (
-        THREE,
-        6,
-        OTHER_READ,
-        90,
-        (&[1, 1, 1, 1, 0], ALL >> 1, Some(90)),
-    ),
-    (THREE, 7, WRITE, 2, NOTHING),
-    (THREE, 7, OTHER_READ, 3, (&[0, 0, 0, 0, 0], 0, Some(90))),
-    (THREE, 7, OTHER_READ, 90, (&[1, 1, 1, 1, 1], ALL, Some(90))),
-    (KEPT, 5, READ, 1, (&[0, 1, 0, 0, 0], 0b10, Some(1))),
-    (ENDED, 7, OTHER_READ, 90, (&[1, 1, 1, 1, 1], ALL, Some(90))),
-    (ENDED, 10, WRITE, 1, (&[1, 1, 0, 0, 0], 0b11, Some(1))),
-    (ENDED, 10, READ, 2, NOTHING),
-    (ENDED, 13, READ, 5, (&[1, 0, 0, 0, 0], 0b1, Some(5))),
-    (KINDS, 6, READ, 2, (&[0, 1, 0, 0, 0], 0b010, Some(2))),
     (
         KINDS,
-        6,
-        AUDITED_READ,
-        2,
-        (&[0, 1, 1, 0, 0], 0b110, Some(2)),
+        7,
+        &[READ, AUDITED_READ],
+        false,
+        &[],
+        &[
+            (READ, 2, [1, 1, 0, 0, 0], 0b011, Some(2)),
+            (SILENT_READ, 2, NONE, 0, None),
+        ],
     ),
-    (KINDS, 6, SILENT_READ, 2, (&[1, 0, 0, 0, 0], 0b001, Some(2))),
-    (
-        KINDS,
-        6,
-        FORBIDDEN_READ,
-        2,
-        (&[0, 0, 1, 0, 0], 0b100, Some(2)),
-    ),
-    (KINDS, 7, READ, 2, (&[1, 1, 0, 0, 0], 0b011, Some(2))),
-    (KINDS, 7, SILENT_READ, 2, NOTHING),
 ];
 
 // Whether these are the keys, in their order.
@@ -299,45 +376,15 @@ fn are_keys(lines: &KeyedLines, keys: &[SymbolKey]) -> bool {
     len == keys.len() && lines.is_empty() == (len == 0) && lines.at(len).is_none()
 }
 
-// Whether that is told of the lines after the steps.
-fn is_stepped(rt: &impl Abort, alloc: Global, stepped: &Stepped) -> bool {
-    let (steps, n, keys, is_pending, changes) = stepped;
-    let lines = lines_of(rt, alloc, steps, *n);
+// Whether a case is so.
+fn is_case(rt: &impl Abort, alloc: Global, case: &Case) -> bool {
+    let (steps, n, keys, is_pending, changes, words) = *case;
+    let lines = lines_of(rt, alloc, steps, n);
     let found = lines.changes(alloc).expect(rt, "memory");
-    let are_told = are_changes(&found, changes) & are_keys(&lines, keys);
-    are_told & (lines.is_pending() == *is_pending)
-}
-
-#[test]
-fn steps_of_keyed_lines(rt: HostRuntime) {
-    for stepped in STEPS {
-        assert!(&rt; is_stepped(&rt, rt.alloc(), stepped));
-    }
-}
-
-// The first four targets of a word, and its last.
-const BITS: [usize; 5] = [0, 1, 2, 3, 63];
-
-// Whether that is counted in the word after the steps.
-fn is_counted(rt: &impl Abort, alloc: Global, counted: &Word) -> bool {
-    let (steps, n, key, word, (counts, present, next)) = counted;
-    let lines = lines_of(rt, alloc, steps, *n);
-    let first = word.saturating_mul(64);
-    for i in 0..BITS.len() {
-        let count = lines.count(*key, first.saturating_add(BITS[i]));
-        if counts.get(i) != Some(&count) {
-            return false;
-        }
-    }
-    let place = lines.find(*key).unwrap_or(lines.len());
-    lines.present(place, *word) == *present && lines.next_present_word(place, *word) == *next
-}
-
-#[test]
-fn words_of_keyed_lines(rt: HostRuntime) {
-    for counted in WORDS {
-        assert!(&rt; is_counted(&rt, rt.alloc(), counted));
-    }
+    are_changes(&found, changes)
+        & are_keys(&lines, keys)
+        & are_words(&lines, words)
+        & (lines.is_pending() == is_pending)
 }
 
 // Keys in their order: by kind, then by source, then by class, then by permission.
@@ -364,6 +411,11 @@ fn are_ordered(keys: &[SymbolKey]) -> bool {
 }
 
 #[test]
-fn the_order_of_keys(rt: HostRuntime) {
-    assert!(rt; are_ordered(ORDERED));
+fn steps_of_keyed_lines(rt: HostRuntime) {
+    for (n, case) in CASES.iter().enumerate() {
+        let same = is_case(&rt, rt.alloc(), case);
+        assert!(rt; same, "case {n}");
+    }
+    let same = are_ordered(ORDERED);
+    assert!(rt; same);
 }

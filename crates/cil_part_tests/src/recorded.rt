@@ -96,11 +96,26 @@ fn are_places(lines: &RecordedLines, want: &[(usize, usize)]) -> bool {
     lines.steps() == want.len()
 }
 
-// The counters of the first targets of a word, its targets whose counters are above 0 and those whose are 1, and the first word of the
-// line.
-type Counted = (&'static [u64], u64, u64, Option<usize>);
+// A line and a word, the counters of the first four targets of the word, its targets whose counters are above 0 and those whose are
+// 1, and the first word of the line.
+type Word = (usize, usize, [u64; 4], (u64, u64), Option<usize>);
 
-const NOTHING: Counted = (&[0, 0, 0, 0], 0, 0, None);
+// Whether that is counted in the words.
+fn are_words(lines: &RecordedLines, want: &[Word]) -> bool {
+    for (line, word, counts, masks, next) in want {
+        let first = word.saturating_mul(64);
+        for i in 0..4usize {
+            if lines.count(*line, first.saturating_add(i)) != counts[i] {
+                return false;
+            }
+        }
+        let found = (lines.present(*line, *word), lines.single(*line, *word));
+        if found != *masks || lines.next_present_word(*line, 0) != *next {
+            return false;
+        }
+    }
+    true
+}
 
 // Steps that are kept, and some behind them.
 const KEPT: &[Step] = &[
@@ -137,26 +152,61 @@ const PLACED: &[Step] = &[
     Lower(1, 3, 0b01),
 ];
 
-// The first steps of some, what they changed, and where the steps were that `undo_into` would take back.
-type Stepped = (
+// The first steps of some, what they changed, where the steps were that `undo_into` would take back, and what is counted then.
+type Case = (
     &'static [Step],
     usize,
     &'static [Changed],
     &'static [(usize, usize)],
+    &'static [Word],
 );
 
-const STEPS: &[Stepped] = &[
-    (&[], 0, &[], &[]),
-    (&[Undo, Settle], 2, &[], &[]),
-    (KEPT, 2, &[(1, 2, 0b0111, 0)], &[(1, 2), (1, 2)]),
-    (KEPT, 3, &[], &[]),
+const CASES: &[Case] = &[
+    (
+        &[],
+        0,
+        &[],
+        &[],
+        // There is no line 7.
+        &[(1, 0, [0; 4], (0, 0), None), (7, 0, [0; 4], (0, 0), None)],
+    ),
+    (&[Undo, Settle], 2, &[], &[], &[]),
+    (KEPT, 2, &[(1, 2, 0b0111, 0)], &[(1, 2), (1, 2)], &[]),
+    (
+        KEPT,
+        3,
+        &[],
+        &[],
+        &[(1, 2, [1, 2, 2, 0], (0b0111, 0b0001), Some(2))],
+    ),
     (
         KEPT,
         6,
         &[(1, 2, 0b1000, 0b0001), (2, 90, ALL, 0)],
         &[(1, 2), (1, 2), (2, 90)],
+        &[
+            (1, 2, [0, 2, 3, 1], (0b1110, 0b1000), Some(2)),
+            (2, 90, [1; 4], (ALL, ALL), Some(90)),
+        ],
     ),
-    (KEPT, 7, &[], &[]),
+    (
+        KEPT,
+        7,
+        &[],
+        &[],
+        &[
+            (1, 2, [1, 2, 2, 0], (0b0111, 0b0001), Some(2)),
+            (2, 90, [0; 4], (0, 0), None),
+        ],
+    ),
+    // What is kept stays.
+    (
+        KEPT_TWICE,
+        5,
+        &[],
+        &[],
+        &[(0, 0, [0, 1, 0, 0], (0b10, 0b10), Some(0))],
+    ),
     // Changes stand in order and once.
     (
         MANY,
@@ -172,64 +222,36 @@ const STEPS: &[Stepped] = &[
             (1, 0),
             (1, 0),
         ],
+        &[],
     ),
-    (MANY, 12, &[], &[]),
-    (PLACED, 2, &[], &[]),
+    (MANY, 12, &[], &[], &[]),
+    (PLACED, 2, &[], &[], &[]),
     (
         PLACED,
         4,
         &[(0, 7, 0b11, 0), (1, 3, 0, 0b01)],
         &[(0, 7), (1, 3)],
+        &[],
     ),
 ];
 
-// The first steps of some, a line and a word, and what is counted there.
-type Word = (&'static [Step], usize, usize, usize, Counted);
-
-const WORDS: &[Word] = &[
-    (&[], 0, 1, 0, NOTHING),
-    // There is no such line.
-    (&[], 0, 7, 0, NOTHING),
-    (KEPT, 3, 1, 2, (&[1, 2, 2, 0], 0b0111, 0b0001, Some(2))),
-    (KEPT, 6, 1, 2, (&[0, 2, 3, 1], 0b1110, 0b1000, Some(2))),
-    (KEPT, 6, 2, 90, (&[1, 1, 1, 1], ALL, ALL, Some(90))),
-    (KEPT, 7, 1, 2, (&[1, 2, 2, 0], 0b0111, 0b0001, Some(2))),
-    (KEPT, 7, 2, 90, NOTHING),
-    // What is kept stays.
-    (KEPT_TWICE, 5, 0, 0, (&[0, 1, 0, 0], 0b10, 0b10, Some(0))),
-];
-
-// Whether that is told of the lines after the steps.
-fn is_stepped(rt: &impl Abort, alloc: Global, stepped: &Stepped) -> bool {
-    let (steps, n, changes, places) = stepped;
-    let lines = lines_of(rt, alloc, steps, *n);
+// Whether a case is so of three lines.
+fn is_case(rt: &impl Abort, alloc: Global, case: &Case) -> bool {
+    let (steps, n, changes, places, words) = *case;
+    let lines = lines_of(rt, alloc, steps, n);
     let found = lines.changes(alloc).expect(rt, "memory");
-    let are_told = are_changes(&found, changes) & are_places(&lines, places);
-    let is_pending = lines.is_pending() != places.is_empty();
-    are_told & is_pending & (lines.len() == 3) & !lines.is_empty()
-}
-
-// Whether that is counted in the word after the steps.
-fn is_counted(rt: &impl Abort, alloc: Global, counted: &Word) -> bool {
-    let (steps, n, line, word, (counts, present, single, next)) = counted;
-    let lines = lines_of(rt, alloc, steps, *n);
-    let first = word.saturating_mul(64);
-    for i in 0..4usize {
-        let count = lines.count(*line, first.saturating_add(i));
-        if counts.get(i) != Some(&count) {
-            return false;
-        }
-    }
-    let masks = (lines.present(*line, *word), lines.single(*line, *word));
-    masks == (*present, *single) && lines.next_present_word(*line, 0) == *next
+    are_changes(&found, changes)
+        & are_places(&lines, places)
+        & are_words(&lines, words)
+        & (lines.is_pending() != places.is_empty())
+        & (lines.len() == 3)
+        & !lines.is_empty()
 }
 
 #[test]
 fn steps_of_lines(rt: HostRuntime) {
-    for stepped in STEPS {
-        assert!(&rt; is_stepped(&rt, rt.alloc(), stepped));
-    }
-    for counted in WORDS {
-        assert!(&rt; is_counted(&rt, rt.alloc(), counted));
+    for (n, case) in CASES.iter().enumerate() {
+        let same = is_case(&rt, rt.alloc(), case);
+        assert!(rt; same, "case {n}");
     }
 }

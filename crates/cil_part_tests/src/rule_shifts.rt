@@ -212,39 +212,26 @@ const SHIFTS: &[Shift<'static>] = &[
 
 const NO_RULE: Rule<'static> = (&[], None);
 
-// The lines in which two rules are kept and a third one came in the place of the second, and how many counters that moved.
-fn shifted(rt: &impl Abort, alloc: Global, shift: &Shift<'_>) -> (KeyedLines, u128) {
+// Keeps two rules in lines and brings a third one in the place of the second, and answers how many counters that moved.
+fn shift(rt: &impl Abort, alloc: Global, lines: &mut KeyedLines, shift: &Shift<'_>) -> u128 {
     let first = reach(rt, alloc, &shift.0);
     let was = reach(rt, alloc, &shift.1);
     let is = reach(rt, alloc, &shift.2);
     let none = Reach::none(alloc);
-    let mut lines = KeyedLines::new(alloc);
-    shift_rule(&mut lines, alloc, HEAD, &none, &first).expect(rt, "memory");
-    shift_rule(&mut lines, alloc, HEAD, &none, &was).expect(rt, "memory");
+    shift_rule(lines, alloc, HEAD, &none, &first).expect(rt, "memory");
+    shift_rule(lines, alloc, HEAD, &none, &was).expect(rt, "memory");
     lines.settle();
-    let moved = shift_rule(&mut lines, alloc, HEAD, &was, &is).expect(rt, "memory");
-    (lines, moved)
+    shift_rule(lines, alloc, HEAD, &was, &is).expect(rt, "memory")
 }
 
 // Whether so many counters move and words change, and all is as before when it is taken back.
-fn is_shifted(rt: &impl Abort, alloc: Global, shift: &Shift<'_>) -> bool {
-    let (_, _, _, moved, words, counts) = shift;
-    let (mut lines, found) = shifted(rt, alloc, shift);
-    let changes = lines.changes(alloc).expect(rt, "memory");
-    let is_behind = are_counted(&lines, counts, true);
-    lines.undo();
-    let is_before = are_counted(&lines, counts, false);
-    is_behind & is_before & (found == *moved) & (changes.len() == *words)
-}
-
-// The lines that the first two rules are put into, and how many accesses they give.
-fn put(rt: &impl Abort, alloc: Global, shift: &Shift<'_>) -> (KeyedLines, u128) {
-    let first = reach(rt, alloc, &shift.0);
-    let second = reach(rt, alloc, &shift.1);
+fn is_shifted(rt: &impl Abort, alloc: Global, case: &Shift<'_>) -> bool {
     let mut lines = KeyedLines::new(alloc);
-    let one = put_rule(&mut lines, alloc, HEAD, &first).expect(rt, "memory");
-    let other = put_rule(&mut lines, alloc, HEAD, &second).expect(rt, "memory");
-    (lines, one.saturating_add(other))
+    let is_moved = shift(rt, alloc, &mut lines, case) == case.3;
+    let changes = lines.changes(alloc).expect(rt, "memory");
+    let is_behind = are_counted(&lines, case.5, true);
+    lines.undo();
+    is_moved & is_behind & (changes.len() == case.4) & are_counted(&lines, case.5, false)
 }
 
 // How many accesses a rule gives to sources and targets.
@@ -256,17 +243,23 @@ fn given(rule: &Rule<'_>) -> usize {
     rule.0.len().saturating_mul(targets).saturating_mul(2)
 }
 
-// Whether they are put in so, for good.
-fn is_put(rt: &impl Abort, alloc: Global, shift: &Shift<'_>) -> bool {
-    let (lines, found) = put(rt, alloc, shift);
-    let want = given(&shift.0).saturating_add(given(&shift.1));
-    found == want as u128 && !lines.is_pending() && are_counted(&lines, shift.5, false)
+// Whether the first two rules are put into lines for good, and give their accesses.
+fn is_put(rt: &impl Abort, alloc: Global, case: &Shift<'_>) -> bool {
+    let first = reach(rt, alloc, &case.0);
+    let second = reach(rt, alloc, &case.1);
+    let mut lines = KeyedLines::new(alloc);
+    let one = put_rule(&mut lines, alloc, HEAD, &first).expect(rt, "memory");
+    let other = put_rule(&mut lines, alloc, HEAD, &second).expect(rt, "memory");
+    let want = given(&case.0).saturating_add(given(&case.1));
+    (one.saturating_add(other) == want as u128)
+        & !lines.is_pending()
+        & are_counted(&lines, case.5, false)
 }
 
 #[test]
 fn rules_in_the_place_of_others(rt: HostRuntime) {
-    for shift in SHIFTS {
-        assert!(&rt; is_shifted(&rt, rt.alloc(), shift));
-        assert!(&rt; is_put(&rt, rt.alloc(), shift));
+    for (n, case) in SHIFTS.iter().enumerate() {
+        let same = is_shifted(&rt, rt.alloc(), case) && is_put(&rt, rt.alloc(), case);
+        assert!(rt; same, "case {n}");
     }
 }

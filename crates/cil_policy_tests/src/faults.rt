@@ -29,39 +29,22 @@ const FAULTY: &[Faulty] = &[
     (b"(type a)\n (type)", 21, (11, 2, 3), (None, "type")),
 ];
 
-fn is_faulty(fault: &TextFault<'_>, faulty: &Faulty) -> bool {
-    let (_, code, want, shown_word) = faulty;
-    match fault {
-        TextFault::Memory => false,
-        TextFault::Found { kind, at, word } => {
-            let place = (at.offset, at.line, at.column);
-            kind.code() == *code && place == *want && word_seen(*word) == *shown_word
-        }
-    }
-}
-
 // Whether a text has that fault.
 fn is_refused_text(alloc: Global, faulty: &Faulty) -> bool {
-    if faulty.0.len() > 16_777_216 {
+    let (text, code, want, shown_word) = *faulty;
+    if text.len() > 16_777_216 {
         return false;
     }
-    match parse(alloc, Seed::fixed(), faulty.0) {
-        Ok(_) => false,
-        Err(fault) => is_faulty(&fault, faulty),
+    match parse(alloc, Seed::fixed(), text) {
+        Err(TextFault::Found { kind, at, word }) => {
+            let place = (at.offset, at.line, at.column);
+            kind.code() == code && place == want && word_seen(word) == shown_word
+        }
+        _ => false,
     }
 }
 
 const TWICE: Told = (41, "m", (15, 2, 7), "a");
-
-#[test]
-fn places_of_faults(rt: HostRuntime) {
-    for faulty in FAULTY {
-        let same = is_refused_text(rt.alloc(), faulty);
-        assert!(rt; same);
-    }
-    let same = is_refused(&rt, rt.alloc(), b"(type a)\n(type a)", b"", &TWICE);
-    assert!(rt; same);
-}
 
 const AT: Place = Place {
     offset: 9,
@@ -88,6 +71,16 @@ fn is_printed<T: Display>(alloc: Global, fault: &T, want: &str) -> bool {
         Ok(printed) => printed.as_str() == want,
         Err(_) => false,
     }
+}
+
+#[test]
+fn places_of_faults(rt: HostRuntime) {
+    for faulty in FAULTY {
+        let same = is_refused_text(rt.alloc(), faulty);
+        assert!(rt; same, "code {}", faulty.1);
+    }
+    let same = is_refused(&rt, rt.alloc(), b"(type a)\n(type a)", b"", &TWICE);
+    assert!(rt; same);
 }
 
 #[test]

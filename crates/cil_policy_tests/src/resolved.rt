@@ -3,7 +3,7 @@
 use crate::policies::resolved;
 use crate::shown::{shown, shown_if};
 use cil_resolve::{
-    ClassView, Element, ElementView, Meter, NameView, Resolved, RuleView, SetView, TargetView,
+    Element, ElementView, Meter, NameView, Resolved, RuleView, SetView, TargetView,
 };
 use cil_text::RuleKind;
 
@@ -18,12 +18,6 @@ const SETS: &[u8] = b"(type a)(type b)(typeattribute s)(typeattribute n)\
 fn name_seen<'a>(view: Option<NameView<'a>>) -> Option<(&'a str, &'a str, u32)> {
     let view = view?;
     Some((shown(view.module), shown(view.name), view.at.offset))
-}
-
-// The name of a class, and how many permissions it has.
-fn class_seen<'a>(view: Option<ClassView<'a>>) -> Option<(&'a str, usize)> {
-    let view = view?;
-    Some((shown(view.name), view.permissions))
 }
 
 // How many types, attributes, classes, rules and optionals that drop there are, and set statements and names.
@@ -41,6 +35,9 @@ fn lengths(policy: &Resolved) -> [usize; 7] {
 
 // What is known of a class and a type.
 fn has_class_and_type(policy: &Resolved) -> bool {
+    let Some(class) = policy.class_at(0) else {
+        return false;
+    };
     let names = [
         name_seen(policy.type_at(0)),
         name_seen(policy.type_at(1)),
@@ -49,7 +46,7 @@ fn has_class_and_type(policy: &Resolved) -> bool {
     ];
     lengths(policy) == [1, 0, 1, 1, 0, 0, 3]
         && names == [Some(("m", "a", 15)), None, None, None]
-        && class_seen(policy.class_at(0)) == Some(("p", 1))
+        && (shown(class.name), class.permissions) == ("p", 1)
         && shown_if(policy.class_permission(0, 0)) == Some("use")
 }
 
@@ -60,20 +57,17 @@ fn element_seen<'a>(element: ElementView<'a>) -> &'a str {
     }
 }
 
-fn target_seen<'a>(target: TargetView<'a>) -> &'a str {
-    match target {
-        TargetView::Element(element) => element_seen(element),
-        TargetView::Itself => "self",
-    }
-}
-
 // A rule: its module, its kind, its source and its target where these are types, its class, and how many permissions it names.
 type Rule<'a> = (&'a str, RuleKind, &'a str, &'a str, &'a str, usize);
 
 fn rule_seen<'a>(view: Option<RuleView<'a>>) -> Option<Rule<'a>> {
     let view = view?;
-    let (source, target) = (element_seen(view.source), target_seen(view.target));
+    let target = match view.target {
+        TargetView::Element(element) => element_seen(element),
+        TargetView::Itself => "self",
+    };
     let (module, class) = (shown(view.module), shown(view.class));
+    let source = element_seen(view.source);
     Some((module, view.kind, source, target, class, view.permissions))
 }
 
@@ -124,7 +118,7 @@ fn has_sets(policy: &Resolved) -> bool {
         && policy.set_names(0).first().copied() == Some(Element::Type(0))
 }
 
-// Names, some of which are there, by their numbers.
+// Names, some of which are there, by their numbers, and the set statements told apart.
 fn has_numbers(policy: &Resolved) -> bool {
     let numbers = [
         policy.number(b"a"),
@@ -135,6 +129,10 @@ fn has_numbers(policy: &Resolved) -> bool {
     policy.names_len() > 4
         && shown(policy.name(4)) == "s"
         && numbers == [Some(0), Some(5), None, None]
+        && !policy.may_hold_any(0)
+        && policy.may_hold_any(1)
+        && policy.is_same_set(0, policy, 0)
+        && !policy.is_same_set(0, policy, 1)
 }
 
 // Whether a set statement holds a type that no attribute has.
@@ -153,17 +151,10 @@ fn evaluated(policy: &Resolved) -> ([bool; 3], u128, u128) {
     (held, meter.evaluations(), meter.adjustments())
 }
 
-fn are_told_apart(policy: &Resolved) -> bool {
-    !policy.may_hold_any(0)
-        && policy.may_hold_any(1)
-        && policy.is_same_set(0, policy, 0)
-        && !policy.is_same_set(0, policy, 1)
-}
-
 #[test]
 fn set_statements_in_the_order_of_dependence(rt: HostRuntime) {
     let policy = resolved(&rt, rt.alloc(), SETS, b"(class p (use))");
-    let same = has_sets(&policy) && has_numbers(&policy) && are_told_apart(&policy);
+    let same = has_sets(&policy) && has_numbers(&policy);
     assert!(rt; same);
     let same = evaluated(&policy) == ([true, false, true], 3, 0);
     assert!(rt; same);
