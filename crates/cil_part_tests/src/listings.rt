@@ -1,7 +1,7 @@
 //! The accesses of small policies, their changes and their rows by place. trials/counted.trials has what counters count.
 
 ghost use Rattle.std.specs.Rc.{rc_value};
-ghost use Rattle.cil_counters.specs.Counted.{IsNow};
+ghost use Rattle.cil_counters.specs.Counted.{IsNow, WasBefore};
 
 use crate::counters::{bring, counted, take_back};
 use crate::policies::shared;
@@ -93,6 +93,15 @@ fn are_changes(changes: &Changes, gone: &[Access], come: &[Access]) -> bool {
     (changes.removed_len(), changes.added_len()) == (gone.len() as u128, come.len() as u128)
 }
 
+fn is_table(table: &Table, want: &[Access]) -> bool {
+    for i in 0..5usize {
+        if !is_access(table.get(i), want.get(i)) {
+            return false;
+        }
+    }
+    table.len() == want.len() as u128 && table.is_empty() == want.is_empty()
+}
+
 // Whether those accesses are in the table of a policy's counters.
 fn has_table(
     rt: &impl Abort,
@@ -103,13 +112,7 @@ fn has_table(
 ) -> bool
     requires { IsNow (rc_value policy.now) counters.now }
 {
-    let table = counters.table(alloc, policy).expect(rt, "memory");
-    for i in 0..5usize {
-        if !is_access(table.get(i), want.get(i)) {
-            return false;
-        }
-    }
-    table.len() == want.len() as u128 && table.is_empty() == want.is_empty()
+    is_table(&counters.table(alloc, policy).expect(rt, "memory"), want)
 }
 
 // Whether the types a and b have changed as members of the attribute s or haven't, and steps are pending or aren't.
@@ -120,19 +123,32 @@ fn is_changed(counters: &Counters, are_moved: bool, is_pending: bool) -> bool {
         & !counters.has_changed(b"s", b"s")
 }
 
-// Whether a case is so, and all is as before when the counters are taken back.
+// Whether a case is so of counters that are at its first policy, and all is as before when they are taken back.
+fn are_brought(
+    rt: &impl Abort,
+    alloc: Global,
+    counters: &mut Counters,
+    policies: (&Rc<Resolved>, &Rc<Resolved>),
+    case: &Case,
+) -> bool
+    requires now { IsNow (rc_value policies.0.now) counters.old }
+    requires before { WasBefore (rc_value policies.0.now) counters.old }
+{
+    let (old, new) = policies;
+    let ((_, before), (_, after), gone, come, are_moved) = *case;
+    let was = has_table(rt, alloc, counters, old, before);
+    let changed = are_changes(&bring(rt, alloc, counters, old, new), gone, come);
+    let is = is_changed(counters, are_moved, true) & has_table(rt, alloc, counters, new, after);
+    take_back(counters, old);
+    let is_back = is_changed(counters, false, false) & has_table(rt, alloc, counters, old, before);
+    was & changed & is & is_back
+}
+
 fn is_case(rt: &impl Abort, alloc: Global, case: &Case) -> bool {
-    let ((old, before), (new, after), gone, come, are_moved) = *case;
-    let (old, new) = (shared(rt, alloc, old), shared(rt, alloc, new));
+    let old = shared(rt, alloc, case.0.0);
+    let new = shared(rt, alloc, case.1.0);
     let mut counters = counted(rt, alloc, &old);
-    let was = has_table(rt, alloc, &counters, &old, before);
-    let changes = bring(rt, alloc, &mut counters, &old, &new);
-    let is = is_changed(&counters, are_moved, true) & has_table(rt, alloc, &counters, &new, after);
-    take_back(&mut counters, &old);
-    was & is
-        & are_changes(&changes, gone, come)
-        & is_changed(&counters, false, false)
-        & has_table(rt, alloc, &counters, &old, before)
+    are_brought(rt, alloc, &mut counters, (&old, &new), case)
 }
 
 // A row of the class p: its source, its target and its permissions.

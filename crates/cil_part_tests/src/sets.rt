@@ -17,7 +17,28 @@ const START: &[u8] =
 // Names of types, of attributes and of others, of one letter each.
 const NAMES: &[u8] = b"abcknszpx";
 
-// Whether just these of the names are members of an attribute, and are listed so.
+// Whether counters tell that just these of the names are members of an attribute.
+fn are_told(counters: &Counters, attribute: &[u8], want: &[u8]) -> bool {
+    for letter in NAMES {
+        if counters.has(attribute, &[*letter]) != want.contains(letter) {
+            return false;
+        }
+    }
+    true
+}
+
+// Whether these are the numbers of names of one letter each.
+fn are_named(resolved: &Resolved, listed: &[usize], letters: &[u8]) -> bool {
+    for i in 0..listed.len() {
+        let name = resolved.name(listed[i]);
+        if name.len() != 1 || name.first() != letters.get(i) {
+            return false;
+        }
+    }
+    listed.len() == letters.len()
+}
+
+// Whether these of the names are members of an attribute, and are listed so.
 fn are_members(
     rt: &impl Abort,
     alloc: Global,
@@ -27,22 +48,9 @@ fn are_members(
 ) -> bool
     requires { IsNow resolved.now counters.now }
 {
-    let (attribute, want) = attribute;
-    for letter in NAMES {
-        if counters.has(attribute, &[*letter]) != want.contains(letter) {
-            return false;
-        }
-    }
-    let listed = counters
-        .members(alloc, resolved, attribute)
-        .expect(rt, "memory");
-    for i in 0..listed.len() {
-        let name = resolved.name(listed[i]);
-        if name.len() != 1 || name.first() != want.get(i) {
-            return false;
-        }
-    }
-    listed.len() == want.len()
+    let (name, want) = attribute;
+    let listed = counters.members(alloc, resolved, name);
+    are_named(resolved, &listed.expect(rt, "memory"), want) && are_told(counters, name, want)
 }
 
 // Statements behind the start, and the members of s and of n.
@@ -112,29 +120,38 @@ const SOURCES: &[(&[u8], &[u8])] = &[
 const ALIAS: &[u8] = b"(typealias k)(typealiasactual k b)(typeattributeset s (c a))";
 
 // Whether the attributes have those members, and z, a type and a name that isn't there have none.
-fn are_stated(rt: &impl Abort, alloc: Global, stated: &Stated) -> bool {
-    let (statements, s, n) = *stated;
-    let resolved = policy(rt, alloc, &[START, statements]);
-    let counters = counted(rt, alloc, &resolved);
+fn have_members(
+    rt: &impl Abort,
+    alloc: Global,
+    resolved: &Resolved,
+    counters: &Counters,
+    stated: &Stated,
+) -> bool
+    requires { IsNow resolved.now counters.now }
+{
     let attributes: [(&[u8], &[u8]); 5] = [
-        (b"s", s),
-        (b"n", n),
+        (b"s", stated.1),
+        (b"n", stated.2),
         (b"z", b""),
         (b"a", b""),
         (b"no", b""),
     ];
     for attribute in attributes {
-        if !are_members(rt, alloc, &resolved, &counters, attribute) {
+        if !are_members(rt, alloc, resolved, counters, attribute) {
             return false;
         }
     }
     true
 }
 
-// Whether the source of the only rule, of accesses to a, stands for just these of the names.
-fn are_sources(rt: &impl Abort, alloc: Global, rule: &[u8], want: &[u8]) -> bool {
-    let resolved = policy(rt, alloc, &[START, ALIAS, rule]);
+fn are_stated(rt: &impl Abort, alloc: Global, stated: &Stated) -> bool {
+    let resolved = policy(rt, alloc, &[START, stated.0]);
     let counters = counted(rt, alloc, &resolved);
+    have_members(rt, alloc, &resolved, &counters, stated)
+}
+
+// Whether counters tell that just these of the names are sources of accesses to a.
+fn are_told_as_sources(counters: &Counters, want: &[u8]) -> bool {
     for letter in NAMES {
         let count = counters.count(RuleKind::Allow, &[*letter], b"a", b"p", b"use");
         if count != u64::from(want.contains(letter)) {
@@ -142,6 +159,12 @@ fn are_sources(rt: &impl Abort, alloc: Global, rule: &[u8], want: &[u8]) -> bool
         }
     }
     true
+}
+
+// Whether the source of the only rule stands for these types.
+fn are_sources(rt: &impl Abort, alloc: Global, rule: &[u8], want: &[u8]) -> bool {
+    let resolved = policy(rt, alloc, &[START, ALIAS, rule]);
+    are_told_as_sources(&counted(rt, alloc, &resolved), want)
 }
 
 // 200 statements of one type each, four in five of one attribute.

@@ -1,30 +1,40 @@
 //! Members at the edges of words of 64 types.
 
+ghost use Rattle.cil_counters.specs.Counted.{IsNow};
+
 use crate::counters::counted;
 use crate::policies::{policy, types};
+use cil_counters::Counters;
 use cil_resolve::Resolved;
 use std::alloc::Global;
 use std::process::Abort;
+
+// Whether counters tell of each name of a policy whether it is a member of an attribute.
+fn are_told(counters: &Counters, resolved: &Resolved, attribute: &[u8], want: &[usize]) -> bool {
+    for number in 0..resolved.names_len() {
+        if counters.has(attribute, resolved.name(number)) != want.contains(&number) {
+            return false;
+        }
+    }
+    !counters.has(attribute, b"no")
+}
 
 // Whether these are the members of an attribute, by the numbers of their names, and an attribute that isn't there has none.
 fn are_members(
     rt: &impl Abort,
     alloc: Global,
     resolved: &Resolved,
-    attribute: &[u8],
-    want: &[usize],
-) -> bool {
-    let counters = counted(rt, alloc, resolved);
-    for number in 0..resolved.names_len() {
-        if counters.has(attribute, resolved.name(number)) != want.contains(&number) {
-            return false;
-        }
-    }
+    counters: &Counters,
+    members: (&[u8], &[usize]),
+) -> bool
+    requires { IsNow resolved.now counters.now }
+{
+    let (attribute, want) = members;
     let listed = counters.members(alloc, resolved, attribute);
     let none = counters.members(alloc, resolved, b"no");
-    !counters.has(attribute, b"no")
-        && listed.expect(rt, "memory").as_slice() == want
-        && none.expect(rt, "memory").is_empty()
+    (listed.expect(rt, "memory").as_slice() == want)
+        & none.expect(rt, "memory").is_empty()
+        & are_told(counters, resolved, attribute, want)
 }
 
 // How many types there are, an attribute with its declaration and its set statement, and the numbers of its members.
@@ -89,7 +99,8 @@ fn is_wide(rt: &impl Abort, alloc: Global, wide: &Wide<'_>) -> bool {
     let (count, attribute, statements, want) = *wide;
     let types = types(rt, alloc, count);
     let resolved = policy(rt, alloc, &[&types, statements]);
-    are_members(rt, alloc, &resolved, attribute, want)
+    let counters = counted(rt, alloc, &resolved);
+    are_members(rt, alloc, &resolved, &counters, (attribute, want))
 }
 
 // All types but one, more than two words of them.

@@ -1,6 +1,6 @@
 //! Faults: where they are, and how they are printed for a programmer.
 
-use crate::policies::{Told, is_refused};
+use crate::policies::{Told, outcome};
 use crate::shown::shown;
 use cil_names::Seed;
 use cil_parse::parse;
@@ -29,18 +29,25 @@ const FAULTY: &[Faulty] = &[
     (b"(type a)\n (type)", 21, (11, 2, 3), (None, "type")),
 ];
 
+fn is_faulty(fault: &TextFault<'_>, faulty: &Faulty) -> bool {
+    let (_, code, want, shown_word) = faulty;
+    match fault {
+        TextFault::Memory => false,
+        TextFault::Found { kind, at, word } => {
+            let place = (at.offset, at.line, at.column);
+            kind.code() == *code && place == *want && word_seen(*word) == *shown_word
+        }
+    }
+}
+
 // Whether a text has that fault.
 fn is_refused_text(alloc: Global, faulty: &Faulty) -> bool {
-    let (text, code, want, shown_word) = *faulty;
-    if text.len() > 16_777_216 {
+    if faulty.0.len() > 16_777_216 {
         return false;
     }
-    match parse(alloc, Seed::fixed(), text) {
-        Err(TextFault::Found { kind, at, word }) => {
-            let place = (at.offset, at.line, at.column);
-            kind.code() == code && place == want && word_seen(word) == shown_word
-        }
-        _ => false,
+    match parse(alloc, Seed::fixed(), faulty.0) {
+        Ok(_) => false,
+        Err(fault) => is_faulty(&fault, faulty),
     }
 }
 
@@ -79,7 +86,8 @@ fn places_of_faults(rt: HostRuntime) {
         let same = is_refused_text(rt.alloc(), faulty);
         assert!(rt; same, "code {}", faulty.1);
     }
-    let same = is_refused(&rt, rt.alloc(), b"(type a)\n(type a)", b"", &TWICE);
+    let refused = outcome(&rt, rt.alloc(), b"(type a)\n(type a)", b"", &TWICE);
+    let same = refused.err() == Some(true);
     assert!(rt; same);
 }
 

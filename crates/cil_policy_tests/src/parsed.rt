@@ -117,7 +117,17 @@ fn is_told(parsed: &ParsedModule, view: &StatementView<'_>, told: &Told) -> bool
         && text_at(parsed, view.permissions(), 1) == None
 }
 
-// The first of six statements that isn't such, if there is one.
+// Each text of a word once, and its names by their numbers, in the order of their first use.
+fn has_numbers(parsed: &ParsedModule) -> bool {
+    parsed.text_count() == 7
+        && shown(parsed.text(6)) == ".b.t"
+        && parsed.components(5) == [2, 3].as_slice()
+        && parsed.components(6) == [2, 3].as_slice()
+        && parsed.name_count() == 5
+        && shown(parsed.name(3)) == "t"
+}
+
+// The first of six statements that isn't such, if there is one, or six where the numbers of their words are others.
 fn wrong_statement(parsed: &ParsedModule) -> Option<usize> {
     if parsed.len() != 6 {
         return Some(parsed.len());
@@ -127,17 +137,7 @@ fn wrong_statement(parsed: &ParsedModule) -> Option<usize> {
             return Some(i);
         }
     }
-    None
-}
-
-// Each text of a word once, and its names by their numbers, in the order of their first use.
-fn has_numbers(parsed: &ParsedModule) -> bool {
-    parsed.text_count() == 7
-        && shown(parsed.text(6)) == ".b.t"
-        && parsed.components(5) == [2, 3].as_slice()
-        && parsed.components(6) == [2, 3].as_slice()
-        && parsed.name_count() == 5
-        && shown(parsed.name(3)) == "t"
+    if has_numbers(parsed) { None } else { Some(6) }
 }
 
 // Nodes stand in front of their operands.
@@ -174,13 +174,9 @@ fn has_permission_lists(parsed: &ParsedModule) -> bool {
 
 #[test]
 fn parsed_modules(rt: HostRuntime) {
-    let parsed = module_of(&rt, rt.alloc(), TEXT);
-    let wrong = wrong_statement(&parsed);
+    let wrong = wrong_statement(&module_of(&rt, rt.alloc(), TEXT));
     assert!(rt; wrong.is_none(), "at {wrong:?}");
-    let same = has_numbers(&parsed);
-    assert!(rt; same);
-    let parsed = module_of(&rt, rt.alloc(), LISTS);
-    let same = has_permission_lists(&parsed);
+    let same = has_permission_lists(&module_of(&rt, rt.alloc(), LISTS));
     assert!(rt; same);
 }
 

@@ -83,14 +83,6 @@ fn are_in_order(modules: &[NamedModule<'_>]) -> bool {
     }
 }
 
-#[test]
-fn modules_are_joined_in_the_order_of_their_names(rt: HostRuntime) {
-    let module = module_of(&rt, rt.alloc(), b"(type b)(type b)");
-    let joined = unsorted(rt.alloc(), &module, &module).expect(&rt, "memory");
-    let same = are_in_order(joined.modules.as_slice());
-    assert!(rt; same);
-}
-
 const FIRST: &[u8] = b"(type t)(class c (p))(block b (type u)(allow t u (c (p))))
 (optional o (type v)(allow v .t (c (p))))";
 
@@ -146,41 +138,63 @@ fn is_kept(rt: &impl Abort, alloc: Global, joined: &Joined<'_>, row: &Kept) -> b
     is_bound(&kept, len, rows)
 }
 
-#[test]
-fn references_are_bound(rt: HostRuntime) {
-    let alloc = rt.alloc();
-    let (m, n) = (module_of(&rt, alloc, FIRST), module_of(&rt, alloc, SECOND));
-    let joined = joined(alloc, &m, &n).expect(&rt, "memory");
-    for (i, row) in BOUND.iter().enumerate() {
-        let same = is_kept(&rt, alloc, &joined, row);
-        assert!(rt; same, "row {i}");
-    }
+// Whether all is bound, and the rest without an optional.
+fn are_bound(rt: &impl Abort, alloc: Global) -> bool {
+    let m = module_of(rt, alloc, FIRST);
+    let n = module_of(rt, alloc, SECOND);
+    let joined = joined(alloc, &m, &n).expect(rt, "memory");
+    is_kept(rt, alloc, &joined, &BOUND[0]) && is_kept(rt, alloc, &joined, &BOUND[1])
 }
 
-/// What the modules m and n of two texts resolve to.
-pub fn resolved(rt: &impl Abort, alloc: Global, m: &[u8], n: &[u8]) -> Resolved {
-    let (m, n) = (module_of(rt, alloc, m), module_of(rt, alloc, n));
-    let joined = joined(alloc, &m, &n).expect(rt, "memory");
-    resolve(alloc, &joined).expect(rt, "a policy")
+#[test]
+fn modules_are_joined_and_bound(rt: HostRuntime) {
+    let module = module_of(&rt, rt.alloc(), b"(type b)(type b)");
+    let joined = unsorted(rt.alloc(), &module, &module).expect(&rt, "memory");
+    let same = are_in_order(joined.modules.as_slice());
+    assert!(rt; same, "the order of modules");
+    let same = are_bound(&rt, rt.alloc());
+    assert!(rt; same);
 }
 
 /// The code and the module of a fault, its place by offset, line and column, and its word.
 pub type Told = (u8, &'static str, (u32, u32, u32), &'static str);
 
-/// Whether that is the first fault of the policy of the modules m and n of two texts.
-pub fn is_refused(rt: &impl Abort, alloc: Global, m: &[u8], n: &[u8], want: &Told) -> bool {
-    let (m, n) = (module_of(rt, alloc, m), module_of(rt, alloc, n));
-    let joined = joined(alloc, &m, &n).expect(rt, "memory");
-    match resolve(alloc, &joined) {
-        Err(PolicyFault::Found {
+fn is_told(fault: &PolicyFault<'_>, want: &Told) -> bool {
+    match fault {
+        PolicyFault::Memory => false,
+        PolicyFault::Found {
             kind,
             module,
             at,
             word,
-        }) => {
+        } => {
             let place = (at.offset, at.line, at.column);
             (kind.code(), shown(module), place, shown(word)) == *want
         }
-        _ => false,
     }
+}
+
+/// What the modules m and n of two texts resolve to, or whether that is the first fault of their policy.
+pub fn outcome(
+    rt: &impl Abort,
+    alloc: Global,
+    m: &[u8],
+    n: &[u8],
+    want: &Told,
+) -> Result<Resolved, bool> {
+    let m = module_of(rt, alloc, m);
+    let n = module_of(rt, alloc, n);
+    let joined = joined(alloc, &m, &n).expect(rt, "memory");
+    match resolve(alloc, &joined) {
+        Ok(policy) => Ok(policy),
+        Err(fault) => Err(is_told(&fault, want)),
+    }
+}
+
+/// What the modules m and n of two texts resolve to.
+pub fn resolved(rt: &impl Abort, alloc: Global, m: &[u8], n: &[u8]) -> Resolved {
+    let Ok(policy) = outcome(rt, alloc, m, n, &(0, "", (0, 0, 0), "")) else {
+        panic!(rt; "a policy has a fault")
+    };
+    policy
 }

@@ -2,9 +2,7 @@
 
 use crate::policies::resolved;
 use crate::shown::{shown, shown_if};
-use cil_resolve::{
-    Element, ElementView, Meter, NameView, Resolved, RuleView, SetView, TargetView,
-};
+use cil_resolve::{Element, ElementView, Meter, NameView, Resolved, RuleView, SetView, TargetView};
 use cil_text::RuleKind;
 
 const CLASS_AND_TYPE: &[u8] = b"(class p (use))(type a)";

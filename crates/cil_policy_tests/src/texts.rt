@@ -141,19 +141,23 @@ fn name_at<'a>(words: &[Word<'a>], i: usize) -> Name<'a> {
 // A statement: its form, its own names, and the first three of its list.
 type Said<'a> = (&'static str, &'a [Name<'a>], &'a [Name<'a>]);
 
+// Whether a statement is such.
+fn is_said(statement: &Statement<'_>, said: &Said<'_>) -> bool {
+    let (word, own, list) = *said;
+    let (names, words) = (names(statement), listed(statement));
+    for i in 0..3usize {
+        let wanted = (own.get(i).copied(), list.get(i).copied());
+        if names[i] != wanted.0.unwrap_or(NONE) || name_at(words, i) != wanted.1.unwrap_or(NONE) {
+            return false;
+        }
+    }
+    form(statement) == word
+}
+
 // Whether statements are of such forms and names.
 fn are_said(found: &[Statement<'_>], want: &[Said<'_>]) -> bool {
-    for (statement, said) in found.iter().zip(want) {
-        let (word, own, list) = *said;
-        let (names, words) = (names(statement), listed(statement));
-        for i in 0..3usize {
-            if names[i] != own.get(i).copied().unwrap_or(NONE)
-                || name_at(words, i) != list.get(i).copied().unwrap_or(NONE)
-            {
-                return false;
-            }
-        }
-        if form(statement) != word {
+    for (statement, want) in found.iter().zip(want) {
+        if !is_said(statement, want) {
             return false;
         }
     }
