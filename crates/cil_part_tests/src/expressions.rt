@@ -130,7 +130,8 @@ fn are_as(rt: &impl Abort, alloc: Global, x: &SetExpression, element: Element) -
     )
 }
 
-// Whether an expression of one name is that, holds what it does, and isn't one of the same number of the other kind.
+// Whether an expression of one name is that, holds what it does, and isn't one of the same number
+// of the other kind.
 fn is_one(
     rt: &impl Abort,
     alloc: Global,

@@ -121,7 +121,8 @@ fn lines_of(rt: &impl Abort, alloc: Global, steps: &[Step], n: usize) -> KeyedLi
 // The first four targets of a word, and its last.
 const BITS: [usize; 5] = [0, 1, 2, 3, 63];
 
-// A key and a word, the counters of those targets of the word, its targets, and the first word of the line from this one on.
+// A key and a word, the counters of those targets of the word, its targets, and the first word of
+// the line from this one on.
 type Word = (SymbolKey, usize, [u64; 5], u64, Option<usize>);
 
 const NONE: [u64; 5] = [0; 5];
@@ -205,7 +206,8 @@ const KINDS: &[Step] = &[
     Undo,
 ];
 
-// The first steps of some, the keys in their order, whether steps are pending, what they changed, and what is counted then.
+// The first steps of some, the keys in their order, whether steps are pending, what they changed,
+// and what is counted then.
 type Case = (
     &'static [Step],
     usize,

@@ -1,4 +1,5 @@
-//! The accesses of small policies, their changes and their rows by place. trials/counted.trials has what counters count.
+//! The accesses of small policies, their changes and their rows by place. trials/counted.trials
+//! has what counters count.
 
 ghost use Rattle.std.specs.Rc.{rc_value};
 ghost use Rattle.cil_counters.specs.Counted.{IsNow, WasBefore};
@@ -20,7 +21,8 @@ const START: &[u8] = b"(class p (use see))(type a)(type b)(typeattribute s)";
 // A rule of an attribute that holds a, and a rule of a to itself.
 const OLD: &[u8] = b"(typeattributeset s (a))(allow s b (p (use)))(allow a self (p (use)))";
 
-// The attribute holds b, so the same rule gives another access; the other rule is one of another kind.
+// The attribute holds b, so the same rule gives another access; the other rule is one of another
+// kind.
 const NEW: &[u8] = b"(typeattributeset s (b))(allow s b (p (use)))(auditallow a self (p (use)))";
 
 // Texts of three accesses in two rows, and of two in one row.
@@ -49,8 +51,8 @@ const SEE_BACK: Access = (Allow, b"b", b"a", b"see");
 // The text of a policy, in parts, and its accesses.
 type Told = (&'static [&'static [u8]], &'static [Access]);
 
-// Two policies, the accesses that go and that come from one to the other, and whether the types a and b change as members of the
-// attribute s.
+// Two policies, the accesses that go and that come from one to the other, and whether the types a
+// and b change as members of the attribute s.
 type Case = (Told, Told, &'static [Access], &'static [Access], bool);
 
 const FIRST: Told = (&[START, OLD], OF_OLD);
@@ -115,7 +117,8 @@ fn has_table(
     is_table(&counters.table(alloc, policy).expect(rt, "memory"), want)
 }
 
-// Whether the types a and b have changed as members of the attribute s or haven't, and steps are pending or aren't.
+// Whether the types a and b have changed as members of the attribute s or haven't, and steps are
+// pending or aren't.
 fn is_changed(counters: &Counters, are_moved: bool, is_pending: bool) -> bool {
     (counters.has_changed(b"s", b"a") == are_moved)
         & (counters.has_changed(b"s", b"b") == are_moved)
@@ -123,7 +126,8 @@ fn is_changed(counters: &Counters, are_moved: bool, is_pending: bool) -> bool {
         & !counters.has_changed(b"s", b"s")
 }
 
-// Whether a case is so of counters that are at its first policy, and all is as before when they are taken back.
+// Whether a case is so of counters that are at its first policy, and all is as before when they
+// are taken back.
 fn are_brought(
     rt: &impl Abort,
     alloc: Global,

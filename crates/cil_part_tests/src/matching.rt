@@ -111,7 +111,8 @@ const SAME: &[Option<usize>] = &[Some(0), None];
 
 const NONE: &[Option<usize>] = &[None, None];
 
-// Two texts behind the start, each of one statement or of none, and whether their statements are the same.
+// Two texts behind the start, each of one statement or of none, and whether their statements are
+// the same.
 type Two<'t> = (&'t [u8], &'t [u8], bool);
 
 const SET: &[u8] = b"(typeattributeset s (a))";

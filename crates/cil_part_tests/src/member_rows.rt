@@ -125,14 +125,16 @@ const TURNED: &[Step] = &[
 // A row, and its words that had steps: the first and the end of the last.
 type Marked = (usize, (usize, usize));
 
-// A row and a word, and what is there: the members among the types of the word, those of before the steps and those that changed, and
-// the first word with members from this one on.
+// A row and a word, and what is there: the members among the types of the word, those of before
+// the steps and those that changed, and the first word with members from this one on.
 type Word = (usize, usize, (u64, u64, u64, Option<usize>));
 
-// A row and a type, and what is told of them: how many statements hold the type, whether it is a member and whether it was one.
+// A row and a type, and what is told of them: how many statements hold the type, whether it is a
+// member and whether it was one.
 type Type = (usize, usize, (u64, bool, bool));
 
-// The first steps of some, how many rows there are, which of the first four had a step, what changed, and what is told then.
+// The first steps of some, how many rows there are, which of the first four had a step, what
+// changed, and what is told then.
 type Case = (
     &'static [Step],
     usize,

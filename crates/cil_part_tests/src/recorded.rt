@@ -96,8 +96,8 @@ fn are_places(lines: &RecordedLines, want: &[(usize, usize)]) -> bool {
     lines.steps() == want.len()
 }
 
-// A line and a word, the counters of the first four targets of the word, its targets whose counters are above 0 and those whose are
-// 1, and the first word of the line.
+// A line and a word, the counters of the first four targets of the word, its targets whose
+// counters are above 0 and those whose are 1, and the first word of the line.
 type Word = (usize, usize, [u64; 4], (u64, u64), Option<usize>);
 
 // Whether that is counted in the words.
@@ -152,7 +152,8 @@ const PLACED: &[Step] = &[
     Lower(1, 3, 0b01),
 ];
 
-// The first steps of some, what they changed, where the steps were that `undo_into` would take back, and what is counted then.
+// The first steps of some, what they changed, where the steps were that `undo_into` would take
+// back, and what is counted then.
 type Case = (
     &'static [Step],
     usize,

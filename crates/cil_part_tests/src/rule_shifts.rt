@@ -212,7 +212,8 @@ const SHIFTS: &[Shift<'static>] = &[
 
 const NO_RULE: Rule<'static> = (&[], None);
 
-// Keeps two rules in lines and brings a third one in the place of the second, and answers how many counters that moved.
+// Keeps two rules in lines and brings a third one in the place of the second, and answers how many
+// counters that moved.
 fn shift(rt: &impl Abort, alloc: Global, lines: &mut KeyedLines, shift: &Shift<'_>) -> u128 {
     let first = reach(rt, alloc, &shift.0);
     let was = reach(rt, alloc, &shift.1);

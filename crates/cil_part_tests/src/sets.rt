@@ -178,7 +178,8 @@ fn named(rt: &impl Abort, alloc: Global) -> Vec<u8> {
     text
 }
 
-// How many evaluations the members take that statements of 40 types and of the attributes g000 to g009 state.
+// How many evaluations the members take that statements of 40 types and of the attributes g000 to
+// g009 state.
 fn evaluations(rt: &impl Abort, alloc: Global, statements: &[u8]) -> u128 {
     let mut declared = types(rt, alloc, 40);
     for number in 0..10u16 {

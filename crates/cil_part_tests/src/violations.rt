@@ -64,7 +64,8 @@ fn are_two(violations: &Violations) -> bool {
         && !violations.is_empty()
 }
 
-// Whether the report is written whole, and a sink that takes no more than 20 bytes has a beginning of it.
+// Whether the report is written whole, and a sink that takes no more than 20 bytes has a beginning
+// of it.
 fn is_written(rt: &impl Abort, alloc: Global, violations: &Violations, want: &[u8]) -> bool {
     let mut sink = MemorySink::new(alloc);
     let written = violations.write(&mut sink).expect(rt, "a sink");
@@ -251,7 +252,8 @@ neverallow m:3:1 allow m:4:1 m a:p { see use };\n\
 neverallow m:3:1 allow m:4:1 m b:p { see use };\n\
 neverallow m:3:1 allow m:4:1 m m:p { see use };\n";
 
-// Whether those of the third policy, reached from the second, and then those of the second again are reported in the order of names.
+// Whether those of the third policy, reached from the second, and then those of the second again
+// are reported in the order of names.
 fn are_brought(rt: &impl Abort, alloc: Global) -> bool {
     let first = policy(rt, alloc, &[FIRST]);
     let second = shared(rt, alloc, &[SECOND]);

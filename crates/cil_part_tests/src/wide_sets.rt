@@ -19,7 +19,8 @@ fn are_told(counters: &Counters, resolved: &Resolved, attribute: &[u8], want: &[
     !counters.has(attribute, b"no")
 }
 
-// Whether these are the members of an attribute, by the numbers of their names, and an attribute that isn't there has none.
+// Whether these are the members of an attribute, by the numbers of their names, and an attribute
+// that isn't there has none.
 fn are_members(
     rt: &impl Abort,
     alloc: Global,
@@ -37,7 +38,8 @@ fn are_members(
         & are_told(counters, resolved, attribute, want)
 }
 
-// How many types there are, an attribute with its declaration and its set statement, and the numbers of its members.
+// How many types there are, an attribute with its declaration and its set statement, and the
+// numbers of its members.
 type Wide<'w> = (u16, &'w [u8], &'w [u8], &'w [usize]);
 
 const WIDE: &[Wide<'static>] = &[

@@ -41,7 +41,8 @@ fn named<'p>(parsed: &'p ParsedModule, found: Option<(Table, NumberedWord)>) -> 
 // A statement: the offset and the line of its place, the numbers of its block and its optional, and how many words and nodes it has.
 type Shape = (u32, u32, u32, u32, usize, usize);
 
-// A statement by its shape and its kind, what it declares, its references, of which there are three at most, and its only permission.
+// A statement by its shape and its kind, what it declares, its references, of which there are
+// three at most, and its only permission.
 type Told = (
     Shape,
     StatementKind,
@@ -127,7 +128,8 @@ fn has_numbers(parsed: &ParsedModule) -> bool {
         && shown(parsed.name(3)) == "t"
 }
 
-// The first of six statements that isn't such, if there is one, or six where the numbers of their words are others.
+// The first of six statements that isn't such, if there is one, or six where the numbers of their
+// words are others.
 fn wrong_statement(parsed: &ParsedModule) -> Option<usize> {
     if parsed.len() != 6 {
         return Some(parsed.len());

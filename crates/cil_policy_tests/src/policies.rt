@@ -174,7 +174,8 @@ fn is_told(fault: &PolicyFault<'_>, want: &Told) -> bool {
     }
 }
 
-/// What the modules m and n of two texts resolve to, or whether that is the first fault of their policy.
+/// What the modules m and n of two texts resolve to, or whether that is the first fault of their
+/// policy.
 pub fn outcome(
     rt: &impl Abort,
     alloc: Global,

@@ -265,7 +265,8 @@ fn is_name(expr: &Expr<'_>, name: Name<'_>) -> bool {
     matches!(expr, Expr::Name(word) if seen(word) == name)
 }
 
-// Whether the first statement sets an attribute by `(and (or b all) (xor (not c) ((all) d)))`, by name and place.
+// Whether the first statement sets an attribute by `(and (or b all) (xor (not c) ((all) d)))`, by
+// name and place.
 fn is_set(found: &[Statement<'_>]) -> bool {
     let Some(Statement::TypeAttributeSet { expr, .. }) = found.first() else {
         return false;

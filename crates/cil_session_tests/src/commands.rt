@@ -80,7 +80,8 @@ const CASES: &[Case] = &[
 
 const GOOD: &[u8] = b"(class p (use))(type a)(allow a a (p (use)))(neverallow a a (p (use)))";
 
-// Whether the program does that with words, where its source gives so many bytes and its sinks take so many.
+// Whether the program does that with words, where its source gives so many bytes and its sinks
+// take so many.
 fn is_done<R: Files + RandomSource + Abort>(rt: &R, alloc: Global, case: &Case) -> bool {
     let (words, given, printed, told, want) = *case;
     let mut source = MemorySource::with_limits(SCRIPT, 7, given);
@@ -108,7 +109,8 @@ const BASE: &[u8] = b"(class p (use))(type a)(neverallow a a (p (use)))";
 
 const PATHS: &[&str] = &["refused_growths_a.cil", "refused_growths_b.cil"];
 
-// Whether a growth was refused from the nth on, and whether what was asked for came to what it has to then.
+// Whether a growth was refused from the nth on, and whether what was asked for came to what it has
+// to then.
 type Told = (bool, bool);
 
 // Of files that are read.
@@ -127,7 +129,8 @@ fn read_at(rt: &impl Files, alloc: &Refusing<Global>, nth: u64) -> Told {
     }
 }
 
-// How many growths are refused in turn until files are read, or the first that doesn't end as it has to.
+// How many growths are refused in turn until files are read, or the first that doesn't end as it
+// has to.
 fn refused_reads(rt: &impl Files, alloc: Global) -> Result<u64, u64> {
     let alloc = Refusing::new(alloc);
     for nth in 1..1000u64 {
@@ -183,7 +186,8 @@ fn compiled_at(heap: Global, report: &(Report, u8, &str), nth: u64) -> Told {
     }
 }
 
-// How many growths are refused in turn until entries are compiled, or the first that doesn't end as it has to.
+// How many growths are refused in turn until entries are compiled, or the first that doesn't end
+// as it has to.
 fn refused_compilations(heap: Global, report: &(Report, u8, &str)) -> Result<u64, u64> {
     for nth in 1..10_000u64 {
         let (is_refused, is_so) = compiled_at(heap, report, nth);
