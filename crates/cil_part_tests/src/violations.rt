@@ -1,8 +1,10 @@
 //! Violations by their places, their order and the types that they are of, and reports to sinks that fail.
 
+ghost use Rattle.cil_counters.specs.Counted.{IsNow, WasBefore};
+
 use crate::counters::{bring, counted, keep, take_back};
 use crate::policies::{policy, shared, types};
-use cil_counters::violations_at_once;
+use cil_counters::{Counters, violations_at_once};
 use cil_names::Seed;
 use cil_resolve::{Resolved, RuleView};
 use cil_stream::MemorySink;
@@ -253,19 +255,33 @@ neverallow m:3:1 allow m:4:1 m b:p { see use };\n\
 neverallow m:3:1 allow m:4:1 m m:p { see use };\n";
 
 // Whether those of the third policy, reached from the second, and then those of the second again
-// are reported in the order of names.
-fn are_brought(rt: &impl Abort, alloc: Global) -> bool {
+// are reported in the order of names. The counters are at the first policy.
+fn are_brought(
+    rt: &impl Abort,
+    alloc: Global,
+    counters: &mut Counters,
+    first: &Resolved,
+    others: (&Rc<Resolved>, &Rc<Resolved>),
+) -> bool
+    requires now { IsNow first.now counters.old }
+    requires before { WasBefore first.now counters.old }
+{
+    let (second, third) = others;
+    bring(rt, alloc, counters, first, second);
+    keep(counters, second);
+    bring(rt, alloc, counters, second, third);
+    let found = counters.violations(alloc, third).expect(rt, "memory");
+    take_back(counters, second);
+    let back = counters.violations(alloc, second).expect(rt, "memory");
+    is_written(rt, alloc, &found, THIRD_REPORT) && is_written(rt, alloc, &back, SECOND_REPORT)
+}
+
+fn are_behind_others(rt: &impl Abort, alloc: Global) -> bool {
     let first = policy(rt, alloc, &[FIRST]);
     let second = shared(rt, alloc, &[SECOND]);
     let third = shared(rt, alloc, &[THIRD]);
     let mut counters = counted(rt, alloc, &first);
-    bring(rt, alloc, &mut counters, &first, &second);
-    keep(&mut counters, &second);
-    bring(rt, alloc, &mut counters, &second, &third);
-    let found = counters.violations(alloc, &third).expect(rt, "memory");
-    take_back(&mut counters, &second);
-    let back = counters.violations(alloc, &second).expect(rt, "memory");
-    is_written(rt, alloc, &found, THIRD_REPORT) && is_written(rt, alloc, &back, SECOND_REPORT)
+    are_brought(rt, alloc, &mut counters, &first, (&second, &third))
 }
 
 #[test]
@@ -291,6 +307,6 @@ fn violations_by_place(rt: HostRuntime) {
     let resolved = shared(&rt, rt.alloc(), &[START, RULES]);
     let same = are_two(&violations_of(&rt, rt.alloc(), &resolved));
     assert!(rt; same);
-    let same = are_brought(&rt, rt.alloc());
+    let same = are_behind_others(&rt, rt.alloc());
     assert!(rt; same);
 }

@@ -51,8 +51,9 @@ fn has_class_and_type(policy: &Resolved) -> bool {
 
 // Whether a rule of the module n allows a accesses to a by the class p and one permission.
 fn is_rule(view: &RuleView<'_>) -> bool {
-    matches!(view.source, ElementView::Type(name) if name == b"a".as_slice())
-        && matches!(view.target, TargetView::Element(ElementView::Type(name)) if name == b"a".as_slice())
+    let a = b"a".as_slice();
+    matches!(view.source, ElementView::Type(name) if name == a)
+        && matches!(view.target, TargetView::Element(ElementView::Type(name)) if name == a)
         && view.module == b"n".as_slice()
         && view.class == b"p".as_slice()
         && view.kind == RuleKind::Allow
