@@ -118,12 +118,14 @@ fn in_list(alloc: Global, element: Element) -> Result<Spelling, AllocError> {
     Ok(Spelling { nodes, names })
 }
 
+fn expression(x: Spelling) -> SetExpression {
+    SetExpression::new(x.nodes, x.names)
+}
+
 // Whether an expression is the same as the name alone, and as the list of it.
 fn are_as(rt: &impl Abort, alloc: Global, x: &SetExpression, element: Element) -> (bool, bool) {
-    let Spelling { nodes, names } = alone(alloc, element).expect(rt, "memory");
-    let alone = SetExpression::new(nodes, names);
-    let Spelling { nodes, names } = in_list(alloc, element).expect(rt, "memory");
-    let list = SetExpression::new(nodes, names);
+    let alone = expression(alone(alloc, element).expect(rt, "memory"));
+    let list = expression(in_list(alloc, element).expect(rt, "memory"));
     (
         x.is_same(&alone, |a, b| a == b),
         x.is_same(&list, |a, b| a == b),

@@ -2,7 +2,7 @@
 //! has what counters count.
 
 ghost use Rattle.std.specs.Rc.{rc_value};
-ghost use Rattle.cil_counters.specs.Counted.{IsNow, WasBefore};
+ghost use Rattle.cil_counters.specs.Counted.{IsNow};
 
 use crate::counters::{bring, counted, take_back};
 use crate::policies::shared;
@@ -126,33 +126,28 @@ fn is_changed(counters: &Counters, are_moved: bool, is_pending: bool) -> bool {
         & !counters.has_changed(b"s", b"s")
 }
 
-// Whether a case is so of counters that are at its first policy, and all is as before when they
-// are taken back.
+// Whether a case is so of its two policies, and all is as before when the counters are taken back.
 fn are_brought(
     rt: &impl Abort,
     alloc: Global,
-    counters: &mut Counters,
-    policies: (&Rc<Resolved>, &Rc<Resolved>),
+    old: &Rc<Resolved>,
+    new: &Rc<Resolved>,
     case: &Case,
-) -> bool
-    requires now { IsNow (rc_value policies.0.now) counters.old }
-    requires before { WasBefore (rc_value policies.0.now) counters.old }
-{
-    let (old, new) = policies;
+) -> bool {
     let ((_, before), (_, after), gone, come, are_moved) = *case;
-    let was = has_table(rt, alloc, counters, old, before);
-    let changed = are_changes(&bring(rt, alloc, counters, old, new), gone, come);
-    let is = is_changed(counters, are_moved, true) & has_table(rt, alloc, counters, new, after);
-    take_back(counters, old);
-    let is_back = is_changed(counters, false, false) & has_table(rt, alloc, counters, old, before);
-    was & changed & is & is_back
+    let mut counters = counted(rt, alloc, old);
+    let was = has_table(rt, alloc, &counters, old, before);
+    let changed = are_changes(&bring(rt, alloc, &mut counters, old, new), gone, come);
+    let is = is_changed(&counters, are_moved, true) & has_table(rt, alloc, &counters, new, after);
+    take_back(&mut counters, old);
+    let is_back = is_changed(&counters, false, false);
+    was & changed & is & is_back & has_table(rt, alloc, &counters, old, before)
 }
 
 fn is_case(rt: &impl Abort, alloc: Global, case: &Case) -> bool {
     let old = shared(rt, alloc, case.0.0);
     let new = shared(rt, alloc, case.1.0);
-    let mut counters = counted(rt, alloc, &old);
-    are_brought(rt, alloc, &mut counters, (&old, &new), case)
+    are_brought(rt, alloc, &old, &new, case)
 }
 
 // A row of the class p: its source, its target and its permissions.

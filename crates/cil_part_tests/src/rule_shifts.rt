@@ -212,27 +212,29 @@ const SHIFTS: &[Shift<'static>] = &[
 
 const NO_RULE: Rule<'static> = (&[], None);
 
-// Keeps two rules in lines and brings a third one in the place of the second, and answers how many
-// counters that moved.
-fn shift(rt: &impl Abort, alloc: Global, lines: &mut KeyedLines, shift: &Shift<'_>) -> u128 {
+// The lines in which two rules are kept and a third one came in the place of the second, and how many counters that moved.
+fn shifted(rt: &impl Abort, alloc: Global, shift: &Shift<'_>) -> (KeyedLines, u128) {
     let first = reach(rt, alloc, &shift.0);
     let was = reach(rt, alloc, &shift.1);
     let is = reach(rt, alloc, &shift.2);
     let none = Reach::none(alloc);
-    shift_rule(lines, alloc, HEAD, &none, &first).expect(rt, "memory");
-    shift_rule(lines, alloc, HEAD, &none, &was).expect(rt, "memory");
+    let mut lines = KeyedLines::new(alloc);
+    shift_rule(&mut lines, alloc, HEAD, &none, &first).expect(rt, "memory");
+    shift_rule(&mut lines, alloc, HEAD, &none, &was).expect(rt, "memory");
     lines.settle();
-    shift_rule(lines, alloc, HEAD, &was, &is).expect(rt, "memory")
+    let moved = shift_rule(&mut lines, alloc, HEAD, &was, &is).expect(rt, "memory");
+    (lines, moved)
 }
 
 // Whether so many counters move and words change, and all is as before when it is taken back.
-fn is_shifted(rt: &impl Abort, alloc: Global, case: &Shift<'_>) -> bool {
-    let mut lines = KeyedLines::new(alloc);
-    let is_moved = shift(rt, alloc, &mut lines, case) == case.3;
+fn is_shifted(rt: &impl Abort, alloc: Global, shift: &Shift<'_>) -> bool {
+    let (_, _, _, moved, words, counts) = shift;
+    let (mut lines, found) = shifted(rt, alloc, shift);
     let changes = lines.changes(alloc).expect(rt, "memory");
-    let is_behind = are_counted(&lines, case.5, true);
+    let is_behind = are_counted(&lines, counts, true);
     lines.undo();
-    is_moved & is_behind & (changes.len() == case.4) & are_counted(&lines, case.5, false)
+    let is_before = are_counted(&lines, counts, false);
+    is_behind & is_before & (found == *moved) & (changes.len() == *words)
 }
 
 // How many accesses a rule gives to sources and targets.

@@ -1,10 +1,8 @@
 //! Violations by their places, their order and the types that they are of, and reports to sinks that fail.
 
-ghost use Rattle.cil_counters.specs.Counted.{IsNow, WasBefore};
-
 use crate::counters::{bring, counted, keep, take_back};
 use crate::policies::{policy, shared, types};
-use cil_counters::{Counters, violations_at_once};
+use cil_counters::violations_at_once;
 use cil_names::Seed;
 use cil_resolve::{Resolved, RuleView};
 use cil_stream::MemorySink;
@@ -255,23 +253,20 @@ neverallow m:3:1 allow m:4:1 m b:p { see use };\n\
 neverallow m:3:1 allow m:4:1 m m:p { see use };\n";
 
 // Whether those of the third policy, reached from the second, and then those of the second again
-// are reported in the order of names. The counters are at the first policy.
+// are reported in the order of names.
 fn are_brought(
     rt: &impl Abort,
     alloc: Global,
-    counters: &mut Counters,
     first: &Resolved,
-    others: (&Rc<Resolved>, &Rc<Resolved>),
-) -> bool
-    requires now { IsNow first.now counters.old }
-    requires before { WasBefore first.now counters.old }
-{
-    let (second, third) = others;
-    bring(rt, alloc, counters, first, second);
-    keep(counters, second);
-    bring(rt, alloc, counters, second, third);
+    second: &Rc<Resolved>,
+    third: &Rc<Resolved>,
+) -> bool {
+    let mut counters = counted(rt, alloc, first);
+    bring(rt, alloc, &mut counters, first, second);
+    keep(&mut counters, second);
+    bring(rt, alloc, &mut counters, second, third);
     let found = counters.violations(alloc, third).expect(rt, "memory");
-    take_back(counters, second);
+    take_back(&mut counters, second);
     let back = counters.violations(alloc, second).expect(rt, "memory");
     is_written(rt, alloc, &found, THIRD_REPORT) && is_written(rt, alloc, &back, SECOND_REPORT)
 }
@@ -280,8 +275,7 @@ fn are_behind_others(rt: &impl Abort, alloc: Global) -> bool {
     let first = policy(rt, alloc, &[FIRST]);
     let second = shared(rt, alloc, &[SECOND]);
     let third = shared(rt, alloc, &[THIRD]);
-    let mut counters = counted(rt, alloc, &first);
-    are_brought(rt, alloc, &mut counters, &first, (&second, &third))
+    are_brought(rt, alloc, &first, &second, &third)
 }
 
 #[test]
