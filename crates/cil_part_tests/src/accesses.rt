@@ -11,9 +11,10 @@ use std::process::Abort;
 /// All bits.
 pub const ALL: u64 = u64::MAX;
 
-/// Kinds of rules.
+/// The kind of most rules here.
 pub const ALLOW: RuleKind = RuleKind::Allow;
 
+/// Another one.
 pub const DONT: RuleKind = RuleKind::DontAudit;
 
 /// A chunk by its kind, source, word, class, permission and bits.
