@@ -65,6 +65,7 @@ const LATER: SymbolKey = SymbolKey {
 // A step, or what is told between steps: the keys in their order, whether steps are pending, and what
 // they changed; of a key and a word the counters of the first four targets of the word and of its
 // last, its targets, and the first word of the line from this one on.
+#[derive(Clone, Copy)]
 enum Step {
     // A rule gave the targets of a word that a mask has, and gives those that another one has.
     Shift(SymbolKey, u32, u64, u64),

@@ -10,6 +10,7 @@ use std::process::Abort;
 // row and a word the members among the types of the word, those of before the steps and those that
 // changed, and the first word with members from this one on; of a row and a type how many statements
 // hold the type, whether it is a member and whether it was one.
+#[derive(Clone, Copy)]
 enum Step {
     AddRow,
     // A statement of a row held some types of a word, and holds others now.

@@ -24,6 +24,7 @@ pub fn are_changes(changes: &[Change], want: &[Changed]) -> bool {
 // A step, or what is told between steps: what they changed, and where the steps were that `undo_into`
 // would take back; of a line and a word the counters of the first four targets of the word, its
 // targets whose counters are above 0 and those whose are 1, and the first word of the line.
+#[derive(Clone, Copy)]
 enum Step {
     // Adds 1 to the counters of a line at the targets of a word that a mask has.
     Raise(u32, u32, u64),
