@@ -2,27 +2,26 @@
 
 ghost use Rattle.std.specs.List.{All};
 ghost use Rattle.std.specs.Prelude.{◌<◌, ◌^◌};
-ghost use Rattle.cil_accesses.specs.Chunks.{IsAccessOf};
-ghost use Rattle.cil_accesses.specs.Renumbered.{IsWithin};
-ghost use Rattle.cil_accesses.specs.declared.access.AccessNumbers.{AccessNumbers};
 
-use cil_accesses::{
-    AccessNumbers, AccessRow, Accesses, Chunk, ChunkPlaces, push_renumbered, sort_from,
-};
+use cil_accesses::{AccessNumbers, AccessRow, Accesses, Chunk, sort_from};
 use cil_text::RuleKind;
 use std::alloc::Global;
 use std::process::Abort;
 
-const ALL: u64 = u64::MAX;
+/// All bits.
+pub const ALL: u64 = u64::MAX;
 
-const ALLOW: RuleKind = RuleKind::Allow;
+/// The kind of most rules here.
+pub const ALLOW: RuleKind = RuleKind::Allow;
 
-const DONT: RuleKind = RuleKind::DontAudit;
+/// Another one.
+pub const DONT: RuleKind = RuleKind::DontAudit;
 
-// A chunk by its kind, source, word, class, permission and bits.
-type Given = (RuleKind, u32, u32, u32, u32, u64);
+/// A chunk by its kind, source, word, class, permission and bits.
+pub type Given = (RuleKind, u32, u32, u32, u32, u64);
 
-fn chunk_of(given: &Given) -> Chunk {
+/// Its chunk.
+pub fn chunk_of(given: &Given) -> Chunk {
     let (kind, source, word, class, permission, bits) = *given;
     Chunk {
         kind,
@@ -34,8 +33,8 @@ fn chunk_of(given: &Given) -> Chunk {
     }
 }
 
-// An access by its kind, source, target, class and permission.
-type Listed = (RuleKind, u32, u32, u32, u32);
+/// An access by its kind, source, target, class and permission.
+pub type Listed = (RuleKind, u32, u32, u32, u32);
 
 fn listed_as(access: &AccessNumbers) -> Listed {
     (
@@ -47,8 +46,8 @@ fn listed_as(access: &AccessNumbers) -> Listed {
     )
 }
 
-// Two runs of one source, a run of another, and one of another kind; not in order.
-const SOME: &[Given] = &[
+/// Two runs of one source, a run of another, and one of another kind; not in order.
+pub const SOME: &[Given] = &[
     (ALLOW, 2, 0, 1, 1, 0b1000),
     (ALLOW, 1, 1, 1, 2, 1 << 63 | 1),
     (ALLOW, 1, 0, 2, 1, 0b0110),
@@ -82,17 +81,18 @@ fn are_placed(accesses: &Accesses, listed: &[Listed]) -> bool {
     accesses.len() == listed.len() as u128
 }
 
-fn is_in_row(access: &Listed, other: &Listed) -> bool {
-    access.0 == other.0 && access.1 == other.1 && access.2 == other.2 && access.3 == other.3
-}
-
 // Whether an access stands at a place, where it is or isn't of one row with the access before.
 fn is_placed(access: &AccessNumbers, listed: &[Listed], place: usize, is_first: bool) -> bool {
     if place >= listed.len() || listed[place] != listed_as(access) {
         return false;
     }
-    let begins = place == 0 || !is_in_row(&listed[place], &listed[place - 1]);
-    begins == is_first
+    if place == 0 {
+        return is_first;
+    }
+    let (kind, source, target, class, _) = listed[place];
+    let (kind_before, source_before, target_before, class_before, _) = listed[place - 1];
+    let before = (kind_before, source_before, target_before, class_before);
+    is_first == ((kind, source, target, class) != before)
 }
 
 // Where the accesses of a row that begin at a place end, if they are those of the row.
@@ -115,8 +115,8 @@ fn row_end(row: &AccessRow, listed: &[Listed], place: usize) -> Option<usize> {
     if n == place { None } else { Some(n) }
 }
 
-// Whether these are the accesses, by places and by rows.
-fn are_listed(accesses: &Accesses, listed: &[Listed]) -> bool {
+/// Whether these are the accesses, by places and by rows.
+pub fn are_listed(accesses: &Accesses, listed: &[Listed]) -> bool {
     let mut rows = accesses.rows();
     let mut n = 0;
     for _ in 0..200u32 {
@@ -128,11 +128,6 @@ fn are_listed(accesses: &Accesses, listed: &[Listed]) -> bool {
         }
     }
     n == listed.len() && are_placed(accesses, listed)
-}
-
-// Whether these are the accesses of chunks.
-fn are_of(rt: &impl Abort, alloc: Global, chunks: &[Given], listed: &[Listed]) -> bool {
-    are_listed(&accesses(rt, alloc, chunks), listed)
 }
 
 // 64 accesses of a source, by class 1 and permission 1, to the types from one on.
@@ -186,19 +181,6 @@ const LISTED: &[(&[Given], &[Listed])] = &[
     ),
 ];
 
-#[test]
-fn accesses_of_chunks(rt: HostRuntime) {
-    let alloc = rt.alloc();
-    assert!(&rt; are_listed(&Accesses::empty(alloc), &[]));
-    for (chunks, listed) in LISTED {
-        assert!(&rt; are_of(&rt, alloc, chunks, listed));
-    }
-    let full = (ALLOW, 7, 3, 1, 1, ALL);
-    assert!(&rt; chunk_of(&full).len() == 64);
-    let listed = word_of(&rt, alloc, 7, 192);
-    assert!(&rt; are_of(&rt, alloc, &[full], &listed));
-}
-
 // Three chunks of the sources 3, 2 and 1 are put in order from a place on; and their sources then.
 const SORTED: &[(usize, &[u32])] = &[(0, &[1, 2, 3]), (1, &[3, 1, 2]), (3, &[3, 2, 1])];
 
@@ -220,205 +202,20 @@ fn are_sorted(rt: &impl Abort, alloc: Global, start: usize, want: &[u32]) -> boo
 }
 
 #[test]
-fn orders(rt: HostRuntime) {
-    for (start, want) in SORTED {
-        assert!(&rt; are_sorted(&rt, rt.alloc(), *start, want));
-    }
-}
-
-// Numbers: so many, from one on and with a step.
-type Run = (u32, u32, u32);
-
-fn numbers(rt: &impl Abort, alloc: Global, runs: &[Run]) -> Vec<u32> {
-    let mut all = Vec::new(alloc);
-    for (len, first, step) in runs {
-        let mut number = *first;
-        for _ in 0..*len {
-            all.push(number).expect(rt, "memory");
-            number = number.wrapping_add(*step);
-        }
-    }
-    all
-}
-
-// Asserts that the numbers of all accesses that a chunk may have are low enough.
-fn assert_low_chunk(rt: &impl Abort, chunk: &Chunk, len: usize)
-    ensures { (a : AccessNumbers) → IsAccessOf chunk.now a → IsWithin len a }
-{
-    assert!(rt; (chunk.source as usize) < len);
-    assert!(rt; 64 * (chunk.word as usize) + 63 < len);
-    assert!(rt; (chunk.class as usize) < len);
-    assert!(rt; (chunk.permission as usize) < len);
-}
-
-// The chunks with the numbers at the places of their own, which come in any order.
-fn pushed(rt: &impl Abort, alloc: Global, chunks: &[Given], numbers: &[u32]) -> Vec<Chunk>
-    ensures { All (λ c. c.word < 2 ^ 26) result.items }
-{
-    let mut all = Vec::new(alloc);
-    let mut places = ChunkPlaces::new(alloc);
-    for given in chunks {
-        let chunk = chunk_of(given);
-        assert!(rt; chunk.word < 1 << 26);
-        assert_low_chunk(rt, &chunk, numbers.len());
-        push_renumbered(&mut all, &mut places, &chunk, numbers).expect(rt, "memory");
-    }
-    all
-}
-
-const OVER: &[Given] = &[
-    (ALLOW, 1, 0, 1, 1, 1 << 63 | 0b0111),
-    (ALLOW, 1, 1, 1, 1, 1 << 63 | 1),
-];
-
-// Chunks, numbers, and their accesses by these.
-const PUSHED: &[(&[Given], &[Run], &[Listed])] = &[
-    // Numbers that rise.
-    (
-        SOME,
-        &[(128, 1, 2)],
-        &[
-            (ALLOW, 3, 1, 3, 3),
-            (ALLOW, 3, 3, 3, 3),
-            (ALLOW, 3, 3, 3, 7),
-            (ALLOW, 3, 3, 5, 3),
-            (ALLOW, 3, 5, 5, 3),
-            (ALLOW, 3, 129, 3, 5),
-            (ALLOW, 3, 255, 3, 5),
-            (ALLOW, 5, 7, 3, 3),
-            (DONT, 1, 1, 1, 1),
-        ],
-    ),
-    // Words that join.
-    (
-        &[
-            (ALLOW, 1, 0, 1, 1, 1 << 60 | 1),
-            (ALLOW, 1, 0, 2, 1, 1 << 60),
-            (ALLOW, 1, 1, 1, 1, 1),
-        ],
-        &[(128, 10, 1)],
-        &[
-            (ALLOW, 11, 10, 11, 11),
-            (ALLOW, 11, 70, 11, 11),
-            (ALLOW, 11, 70, 12, 11),
-            (ALLOW, 11, 74, 11, 11),
-        ],
-    ),
-    // Targets that move together over the edge of a word, and to the next word.
-    (
-        OVER,
-        &[(128, 63, 1)],
-        &[
-            (ALLOW, 64, 63, 64, 64),
-            (ALLOW, 64, 64, 64, 64),
-            (ALLOW, 64, 65, 64, 64),
-            (ALLOW, 64, 126, 64, 64),
-            (ALLOW, 64, 127, 64, 64),
-            (ALLOW, 64, 190, 64, 64),
-        ],
-    ),
-    (
-        OVER,
-        &[(128, 64, 1)],
-        &[
-            (ALLOW, 65, 64, 65, 65),
-            (ALLOW, 65, 65, 65, 65),
-            (ALLOW, 65, 66, 65, 65),
-            (ALLOW, 65, 127, 65, 65),
-            (ALLOW, 65, 128, 65, 65),
-            (ALLOW, 65, 191, 65, 65),
-        ],
-    ),
-    // Targets that move apart.
-    (
-        &[(ALLOW, 1, 0, 1, 1, 0b0111), (ALLOW, 1, 0, 1, 2, 0b11100)],
-        &[(2, 62, 1), (62, 65, 1)],
-        &[
-            (ALLOW, 63, 62, 63, 63),
-            (ALLOW, 63, 63, 63, 63),
-            (ALLOW, 63, 65, 63, 63),
-            (ALLOW, 63, 65, 63, 65),
-            (ALLOW, 63, 66, 63, 65),
-            (ALLOW, 63, 67, 63, 65),
-        ],
-    ),
-    // Targets that stay in their word.
-    (
-        &[(ALLOW, 1, 0, 1, 1, 0b1011), (ALLOW, 1, 0, 2, 1, 0)],
-        &[(64, 0, 1)],
-        &[
-            (ALLOW, 1, 0, 1, 1),
-            (ALLOW, 1, 1, 1, 1),
-            (ALLOW, 1, 3, 1, 1),
-        ],
-    ),
-    // The other way round.
-    (
-        &[
-            (ALLOW, 1, 0, 2, 3, 1 << 63 | 0b11),
-            (ALLOW, 1, 1, 2, 3, 1),
-            (ALLOW, 1, 1, 2, 4, 0),
-        ],
-        &[(128, 127, u32::MAX)],
-        &[
-            (ALLOW, 126, 63, 125, 124),
-            (ALLOW, 126, 64, 125, 124),
-            (ALLOW, 126, 126, 125, 124),
-            (ALLOW, 126, 127, 125, 124),
-        ],
-    ),
-    // One target that moves down.
-    (
-        &[
-            (ALLOW, 1, 0, 2, 3, 0b10_1001),
-            (ALLOW, 1, 0, 2, 4, 0b00_1001),
-        ],
-        &[(5, 64, 1), (1, 3, 1), (58, 70, 1)],
-        &[
-            (ALLOW, 65, 3, 66, 67),
-            (ALLOW, 65, 64, 66, 67),
-            (ALLOW, 65, 64, 66, 68),
-            (ALLOW, 65, 67, 66, 67),
-            (ALLOW, 65, 67, 66, 68),
-        ],
-    ),
-];
-
-// The numbers of targets that stand in two words by turns.
-fn by_turns(rt: &impl Abort, alloc: Global) -> Vec<u32> {
-    let mut all = Vec::new(alloc);
-    for target in 0..64u32 {
-        all.push(target / 2 + 64 * (target % 2))
-            .expect(rt, "memory");
-    }
-    all
-}
-
-// Whether these are the accesses of the chunks by the numbers.
-fn are_pushed(
-    rt: &impl Abort,
-    alloc: Global,
-    chunks: &[Given],
-    runs: &[Run],
-    listed: &[Listed],
-) -> bool {
-    let numbers = numbers(rt, alloc, runs);
-    are_listed(&Accesses::of(pushed(rt, alloc, chunks, &numbers)), listed)
-}
-
-// How many chunks and how many accesses there are where all targets of a word stand in two words by turns.
-fn pushed_by_turns(rt: &impl Abort, alloc: Global) -> (usize, u128) {
-    let numbers = by_turns(rt, alloc);
-    let found = pushed(rt, alloc, &[(ALLOW, 1, 0, 2, 3, ALL)], &numbers);
-    let chunks = found.len();
-    (chunks, Accesses::of(found).len())
-}
-
-#[test]
-fn accesses_by_other_numbers(rt: HostRuntime) {
+fn accesses_of_chunks(rt: HostRuntime) {
     let alloc = rt.alloc();
-    for (chunks, runs, listed) in PUSHED {
-        assert!(&rt; are_pushed(&rt, alloc, chunks, runs, listed));
+    for (n, (chunks, listed)) in LISTED.iter().enumerate() {
+        let same = are_listed(&accesses(&rt, alloc, chunks), listed);
+        assert!(rt; same, "chunks {n}");
     }
-    assert!(&rt; pushed_by_turns(&rt, alloc) == (2, 64));
+    let full = (ALLOW, 7, 3, 1, 1, ALL);
+    let listed = word_of(&rt, alloc, 7, 192);
+    let same = chunk_of(&full).len() == 64 && are_listed(&Accesses::empty(alloc), &[]);
+    assert!(rt; same);
+    let same = are_listed(&accesses(&rt, alloc, &[full]), &listed);
+    assert!(rt; same);
+    for (n, (start, want)) in SORTED.iter().enumerate() {
+        let same = are_sorted(&rt, alloc, *start, want);
+        assert!(rt; same, "order {n}");
+    }
 }

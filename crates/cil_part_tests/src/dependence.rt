@@ -70,17 +70,6 @@ fn order_of(rt: &impl Abort, alloc: Global, graph: &[Vec<usize>]) -> Vec<usize>
     order
 }
 
-// Whether that is the order of the nodes, and items stand in the order of their nodes.
-fn is_ordered(rt: &impl Abort, alloc: Global, graph: &[Vec<usize>], ordered: &Ordered) -> bool {
-    let (_, want, nodes, want_items) = ordered;
-    let order = order_of(rt, alloc, graph);
-    if !are_below(nodes, order.len()) {
-        return false;
-    }
-    let items = items_in_order(alloc, &order, nodes).expect(rt, "memory");
-    order.as_slice() == *want && items.as_slice() == *want_items
-}
-
 // Graphs without a circle, as the nodes that each node leads to, their order, the nodes of items, and the order of these.
 type Ordered = (
     &'static [&'static [usize]],
@@ -100,6 +89,17 @@ const ORDERS: &[Ordered] = &[
     ),
 ];
 
+// Whether that is the order of the nodes, and items stand in the order of their nodes.
+fn is_ordered(rt: &impl Abort, alloc: Global, ordered: &Ordered) -> bool {
+    let (lists, want, nodes, want_items) = *ordered;
+    let order = order_of(rt, alloc, &graph_of(rt, alloc, lists));
+    if !are_below(nodes, order.len()) {
+        return false;
+    }
+    let items = items_in_order(alloc, &order, nodes).expect(rt, "memory");
+    order.as_slice() == want && items.as_slice() == want_items
+}
+
 // Graphs with a circle, and the first node on one.
 const CIRCLES: &[(&[&[usize]], usize)] = &[
     // An edge to itself.
@@ -109,18 +109,6 @@ const CIRCLES: &[(&[&[usize]], usize)] = &[
     // The nodes 0 and 1 lead from the circle of 4 and 5 to that of 2 and 3.
     (&[&[1], &[2], &[3], &[2], &[5], &[4, 0]], 2),
 ];
-
-#[test]
-fn small_graphs(rt: HostRuntime) {
-    for ordered in ORDERS {
-        let graph = graph_of(&rt, rt.alloc(), ordered.0);
-        assert!(&rt; is_ordered(&rt, rt.alloc(), &graph, ordered));
-    }
-    for (lists, node) in CIRCLES {
-        let graph = graph_of(&rt, rt.alloc(), lists);
-        assert!(&rt; circle(&rt, rt.alloc(), &graph) == Some(*node));
-    }
-}
 
 // So many nodes, each of which leads to the next, and the last to itself or to none.
 fn chain(rt: &impl Abort, alloc: Global, count: usize, ends: bool) -> Vec<Vec<usize>> {
@@ -136,13 +124,32 @@ fn chain(rt: &impl Abort, alloc: Global, count: usize, ends: bool) -> Vec<Vec<us
     graph
 }
 
+// How many nodes a long chain has.
+const MANY: usize = 100_000;
+
+// Whether the order of a chain begins with its last node, or that is the first on a circle.
+fn is_chain(rt: &impl Abort, alloc: Global, ends: bool) -> bool {
+    let graph = chain(rt, alloc, MANY, ends);
+    if ends {
+        let order = order_of(rt, alloc, &graph);
+        order.len() == MANY && order.first() == Some(&(MANY - 1))
+    } else {
+        circle(rt, alloc, &graph) == Some(MANY - 1)
+    }
+}
+
 // A chain takes no depth.
 #[test]
-fn long_chains(rt: HostRuntime) {
-    let count: usize = 100_000;
-    let graph = chain(&rt, rt.alloc(), count, true);
-    let order = order_of(&rt, rt.alloc(), &graph);
-    assert!(&rt; order.len() == count && order.first() == Some(&(count - 1)));
-    let graph = chain(&rt, rt.alloc(), count, false);
-    assert!(&rt; circle(&rt, rt.alloc(), &graph) == Some(count - 1));
+fn graphs_and_long_chains(rt: HostRuntime) {
+    let alloc = rt.alloc();
+    for (n, ordered) in ORDERS.iter().enumerate() {
+        let same = is_ordered(&rt, alloc, ordered);
+        assert!(rt; same, "order {n}");
+    }
+    for (lists, node) in CIRCLES {
+        let found = circle(&rt, alloc, &graph_of(&rt, alloc, lists));
+        assert!(rt; found == Some(*node), "node {node}");
+    }
+    let same = is_chain(&rt, alloc, true) && is_chain(&rt, alloc, false);
+    assert!(rt; same);
 }

@@ -26,6 +26,8 @@ mod policies;
 #[cfg(test)]
 mod recorded;
 #[cfg(test)]
+mod renumbered;
+#[cfg(test)]
 mod rule_shifts;
 #[cfg(test)]
 mod sets;

@@ -169,16 +169,6 @@ fn assert_steps(rt: &impl Abort, alloc: Global, steps: &[Step], words: u32) {
     assert!(rt; line.next_present_word(words as usize).is_none());
 }
 
-// After each number of steps.
-#[test]
-fn lines_count_what_is_added(rt: HostRuntime) {
-    for (steps, words) in STEPS {
-        for n in 0..=steps.len() {
-            assert_steps(&rt, rt.alloc(), &steps[..n], *words);
-        }
-    }
-}
-
 // The first words that rise, then those that fall.
 const fn swept(i: u32) -> Step {
     if i < 70 {
@@ -226,21 +216,27 @@ const FAR: [Step; 2] = [(u32::MAX, 2, 1), (7, 1, 1)];
 
 // Whether that is so of the line after the steps.
 fn is_asked(rt: &impl Abort, alloc: Global, asked: &Asked) -> bool {
-    let (steps, target, count, word, want) = asked;
+    let (steps, target, count, word, want) = *asked;
     let line = line_of(rt, alloc, steps);
-    let next = line.next_present_word(*word);
-    let found = (line.present(*word), line.single(*word), next);
-    line.count(*target) == *count && found == *want
+    let next = line.next_present_word(word);
+    let found = (line.present(word), line.single(word), next);
+    line.count(target) == count && found == want
 }
 
-// Words that rise, words that fall, and both.
+// After each number of steps; and words that rise, words that fall, and both.
 #[test]
-fn long_lines(rt: HostRuntime) {
+fn lines_count_what_is_added(rt: HostRuntime) {
+    for (steps, words) in STEPS {
+        for n in 0..=steps.len() {
+            assert_steps(&rt, rt.alloc(), &steps[..n], *words);
+        }
+    }
     for (from, to) in [(0, 70), (70, 140), (0, 140)] {
         let steps = sweep(&rt, rt.alloc(), from, to);
         assert_steps(&rt, rt.alloc(), &steps, 72);
     }
-    for asked in ASKED {
-        assert!(&rt; is_asked(&rt, rt.alloc(), asked));
+    for (n, asked) in ASKED.iter().enumerate() {
+        let same = is_asked(&rt, rt.alloc(), asked);
+        assert!(rt; same, "asked {n}");
     }
 }

@@ -1,7 +1,13 @@
-//! The accesses of small policies, their changes and their rows by place.
+//! The accesses of small policies, their changes and their rows by place. trials/counted.trials
+//! has what counters count.
 
-use crate::counters::{bring, counted};
+ghost use Rattle.std.specs.Rc.{rc_value};
+ghost use Rattle.cil_counters.specs.Counted.{IsNow};
+
+use crate::counters::{bring, counted, take_back};
 use crate::policies::shared;
+use RuleKind::{Allow, AuditAllow};
+use cil_counters::Counters;
 use cil_resolve::Resolved;
 use cil_rules::{Atom, Changes, Row, Rows, Table, write_row_line};
 use cil_stream::MemorySink;
@@ -10,199 +16,190 @@ use std::alloc::Global;
 use std::process::Abort;
 use std::rc::Rc;
 
-// The bytes of an answer as text.
-fn shown(bytes: &[u8]) -> &str {
-    str::from_utf8(bytes).unwrap_or("no text")
-}
+const START: &[u8] = b"(class p (use see))(type a)(type b)(typeattribute s)";
 
-// Bytes that may be absent, as text.
-fn shown_if(bytes: Option<&[u8]>) -> Option<&str> {
-    Some(shown(bytes?))
-}
+// A rule of an attribute that holds a, and a rule of a to itself.
+const OLD: &[u8] = b"(typeattributeset s (a))(allow s b (p (use)))(allow a self (p (use)))";
 
-// The accesses of a policy.
-fn table_of(rt: &impl Abort, alloc: Global, policy: &Rc<Resolved>) -> Table {
-    let counters = counted(rt, alloc, policy);
-    counters.table(alloc, policy).expect(rt, "memory")
-}
-
-// The changes from one policy to another.
-fn between(rt: &impl Abort, alloc: Global, old: &Rc<Resolved>, new: &Rc<Resolved>) -> Changes {
-    let mut counters = counted(rt, alloc, old);
-    bring(rt, alloc, &mut counters, old, new)
-}
+// The attribute holds b, so the same rule gives another access; the other rule is one of another
+// kind.
+const NEW: &[u8] = b"(typeattributeset s (b))(allow s b (p (use)))(auditallow a self (p (use)))";
 
 // Texts of three accesses in two rows, and of two in one row.
-const START: &[u8] = b"(class p (use see))(type a)(type b)";
-
 const THREE: &[u8] = b"(allow b a (p (use)))(allow a b (p (use see)))";
 
 const TWO: &[u8] = b"(allow b a (p (see use)))";
 
-// An access of the class p that is allowed: its source, its target and its permission.
-type Access<'a> = Option<(&'a str, &'a str, &'a str)>;
+// An access of the class p: its kind, its source, its target and its permission.
+type Access = (RuleKind, &'static [u8], &'static [u8], &'static [u8]);
 
-fn access<'a>(atom: Option<Atom<'a>>) -> Access<'a> {
-    let atom = atom?;
-    if atom.kind != RuleKind::Allow || shown(atom.class) != "p" {
-        return None;
+const OF_OLD: &[Access] = &[(Allow, b"a", b"a", b"use"), (Allow, b"a", b"b", b"use")];
+
+const OF_NEW: &[Access] = &[
+    (Allow, b"b", b"b", b"use"),
+    (AuditAllow, b"a", b"a", b"use"),
+];
+
+const SEE: Access = (Allow, b"a", b"b", b"see");
+
+const USE: Access = (Allow, b"a", b"b", b"use");
+
+const BACK: Access = (Allow, b"b", b"a", b"use");
+
+const SEE_BACK: Access = (Allow, b"b", b"a", b"see");
+
+// The text of a policy, in parts, and its accesses.
+type Told = (&'static [&'static [u8]], &'static [Access]);
+
+// Two policies, the accesses that go and that come from one to the other, and whether the types a
+// and b change as members of the attribute s.
+type Case = (Told, Told, &'static [Access], &'static [Access], bool);
+
+const FIRST: Told = (&[START, OLD], OF_OLD);
+
+const SECOND: Told = (&[START, NEW], OF_NEW);
+
+const OF_THREE: Told = (&[START, THREE], &[SEE, USE, BACK]);
+
+const OF_TWO: Told = (&[START, TWO], &[SEE_BACK, BACK]);
+
+const CASES: [Case; 3] = [
+    (FIRST, SECOND, OF_OLD, OF_NEW, true),
+    ((&[], &[]), OF_THREE, &[], &[SEE, USE, BACK], false),
+    (OF_THREE, OF_TWO, &[SEE, USE], &[SEE_BACK], false),
+];
+
+fn is_access(found: Option<Atom<'_>>, want: Option<&Access>) -> bool {
+    let Some(want) = want else {
+        return found.is_none();
+    };
+    let (kind, source, target, permission) = *want;
+    found
+        == Some(Atom {
+            kind,
+            source,
+            target,
+            class: b"p",
+            permission,
+        })
+}
+
+fn are_changes(changes: &Changes, gone: &[Access], come: &[Access]) -> bool {
+    for i in 0..5usize {
+        if !is_access(changes.removed(i), gone.get(i))
+            || !is_access(changes.added(i), come.get(i))
+        {
+            return false;
+        }
     }
-    Some((
-        shown(atom.source),
-        shown(atom.target),
-        shown(atom.permission),
-    ))
+    (changes.removed_len(), changes.added_len()) == (gone.len() as u128, come.len() as u128)
 }
 
-const SEE: Access<'static> = Some(("a", "b", "see"));
-
-const USE: Access<'static> = Some(("a", "b", "use"));
-
-const BACK: Access<'static> = Some(("b", "a", "use"));
-
-const SEE_BACK: Access<'static> = Some(("b", "a", "see"));
-
-// The first four accesses of a table.
-fn accesses(table: &Table) -> [Access<'_>; 4] {
-    [
-        access(table.get(0)),
-        access(table.get(1)),
-        access(table.get(2)),
-        access(table.get(3)),
-    ]
+fn is_table(table: &Table, want: &[Access]) -> bool {
+    for i in 0..5usize {
+        if !is_access(table.get(i), want.get(i)) {
+            return false;
+        }
+    }
+    table.len() == want.len() as u128 && table.is_empty() == want.is_empty()
 }
 
-// The first four accesses that came, and that went.
-fn added(changes: &Changes) -> [Access<'_>; 4] {
-    [
-        access(changes.added(0)),
-        access(changes.added(1)),
-        access(changes.added(2)),
-        access(changes.added(3)),
-    ]
-}
-
-fn removed(changes: &Changes) -> [Access<'_>; 4] {
-    [
-        access(changes.removed(0)),
-        access(changes.removed(1)),
-        access(changes.removed(2)),
-        access(changes.removed(3)),
-    ]
-}
-
-fn are_changes(
-    changes: &Changes,
-    come: &[Access<'_>; 4],
-    gone: &[Access<'_>; 4],
-    lengths: (u128, u128),
-) -> bool {
-    added(changes) == *come
-        && removed(changes) == *gone
-        && (changes.added_len(), changes.removed_len()) == lengths
-}
-
-// All three accesses, the first two of them, the only one that comes, and none.
-const ALL: [Access<'static>; 4] = [SEE, USE, BACK, None];
-
-const BOTH: [Access<'static>; 4] = [SEE, USE, None, None];
-
-const ONLY: [Access<'static>; 4] = [SEE_BACK, None, None, None];
-
-const NONE: [Access<'static>; 4] = [None; 4];
-
-fn are_three(table: &Table) -> bool {
-    !table.is_empty() && table.len() == 3 && accesses(table) == ALL
-}
-
-// Whether all three accesses come where none was.
-fn have_come(rt: &impl Abort, alloc: Global, three: &Rc<Resolved>) -> bool {
-    let changes = between(rt, alloc, &shared(rt, alloc, &[]), three);
-    are_changes(&changes, &ALL, &NONE, (3, 0))
-}
-
-// Whether one comes and two go.
-fn have_changed(
+// Whether those accesses are in the table of a policy's counters.
+fn has_table(
     rt: &impl Abort,
     alloc: Global,
-    three: &Rc<Resolved>,
-    two: &Rc<Resolved>,
+    counters: &Counters,
+    policy: &Rc<Resolved>,
+    want: &[Access],
+) -> bool
+    requires { IsNow (rc_value policy.now) counters.now }
+{
+    is_table(&counters.table(alloc, policy).expect(rt, "memory"), want)
+}
+
+// Whether the types a and b have changed as members of the attribute s or haven't, and steps are
+// pending or aren't.
+fn is_changed(counters: &Counters, are_moved: bool, is_pending: bool) -> bool {
+    (counters.has_changed(b"s", b"a") == are_moved)
+        & (counters.has_changed(b"s", b"b") == are_moved)
+        & (counters.is_pending() == is_pending)
+        & !counters.has_changed(b"s", b"s")
+}
+
+// Whether a case is so of its two policies, and all is as before when the counters are taken back.
+fn are_brought(
+    rt: &impl Abort,
+    alloc: Global,
+    old: &Rc<Resolved>,
+    new: &Rc<Resolved>,
+    case: &Case,
 ) -> bool {
-    let changes = between(rt, alloc, three, two);
-    are_changes(&changes, &ONLY, &BOTH, (1, 2))
+    let ((_, before), (_, after), gone, come, are_moved) = *case;
+    let mut counters = counted(rt, alloc, old);
+    let was = has_table(rt, alloc, &counters, old, before);
+    let changed = are_changes(&bring(rt, alloc, &mut counters, old, new), gone, come);
+    let is = is_changed(&counters, are_moved, true) & has_table(rt, alloc, &counters, new, after);
+    take_back(&mut counters, old);
+    let is_back = is_changed(&counters, false, false);
+    was & changed & is & is_back & has_table(rt, alloc, &counters, old, before)
 }
 
-#[test]
-fn accesses_and_changes_by_place(rt: HostRuntime) {
-    let alloc = rt.alloc();
-    assert!(&rt; Table::empty(alloc).is_empty());
-    let three = shared(&rt, alloc, &[START, THREE]);
-    let two = shared(&rt, alloc, &[START, TWO]);
-    assert!(&rt; are_three(&table_of(&rt, alloc, &three)));
-    assert!(&rt; have_come(&rt, alloc, &three));
-    assert!(&rt; have_changed(&rt, alloc, &three, &two));
+fn is_case(rt: &impl Abort, alloc: Global, case: &Case) -> bool {
+    let old = shared(rt, alloc, case.0.0);
+    let new = shared(rt, alloc, case.1.0);
+    are_brought(rt, alloc, &old, &new, case)
 }
 
-// A row of the class p: its source, its target, how many permissions it has, and the first three of them.
-type SeenRow<'a> = (&'a str, &'a str, usize, [Option<&'a str>; 3]);
+// A row of the class p: its source, its target and its permissions.
+type SeenRow = (&'static [u8], &'static [u8], &'static [&'static [u8]]);
 
-fn row_seen<'a>(row: &Row<'a>) -> SeenRow<'a> {
-    let permissions = [
-        shown_if(row.permissions.get(0)),
-        shown_if(row.permissions.get(1)),
-        shown_if(row.permissions.get(2)),
-    ];
-    (
-        shown(row.source),
-        shown(row.target),
-        row.permissions.len(),
-        permissions,
-    )
-}
+const ROWS: [SeenRow; 2] = [(b"a", b"b", &[b"see", b"use"]), (b"b", b"a", &[b"use"])];
 
-// A row by its place.
-fn row_at<'r>(rows: &'r Rows, i: usize) -> Option<SeenRow<'r>> {
-    let row = rows.get(i)?;
-    if row.kind != RuleKind::Allow || shown(row.class) != "p" {
-        return None;
+fn is_row(row: &Row<'_>, want: &SeenRow) -> bool {
+    let (source, target, permissions) = *want;
+    for i in 0..4usize {
+        if row.permissions.get(i) != permissions.get(i).copied() {
+            return false;
+        }
     }
-    Some(row_seen(&row))
-}
-
-const FIRST: SeenRow<'static> = ("a", "b", 2, [Some("see"), Some("use"), None]);
-
-const SECOND: SeenRow<'static> = ("b", "a", 1, [Some("use"), None, None]);
-
-fn are_rows(rows: &Rows) -> bool {
-    rows.len() == 2
-        && !rows.is_empty()
-        && row_at(rows, 0) == Some(FIRST)
-        && row_at(rows, 1) == Some(SECOND)
-        && row_at(rows, 2) == None
+    row.permissions.len() == permissions.len()
+        && (row.kind, row.source, row.target) == (Allow, source, target)
+        && row.class == b"p".as_slice()
 }
 
 // The line of the second row, the lines of both, and the listing.
-const WRITTEN: &str = "allow b a:p { use };\nallow a b:p { see use };\nallow b a:p { use };\n\
+const WRITTEN: &[u8] = b"allow b a:p { use };\nallow a b:p { see use };\nallow b a:p { use };\n\
 allow a b:p { see use };\nallow b a:p { use };\n";
 
-// Whether the rows and the listing of a table are written so.
-fn are_written(sink: &mut MemorySink, table: &Table, rows: &Rows) -> bool {
-    let Some(second) = rows.get(1) else {
+// Whether there are those two rows, and they and the listing of their table are written so.
+fn are_rows(sink: &mut MemorySink, table: &Table, rows: &Rows) -> bool {
+    let (Some(first), Some(second)) = (rows.get(0), rows.get(1)) else {
         return false;
     };
     let line = write_row_line(sink, &second);
     let (both, listing) = (rows.write(sink), table.write_listing(sink));
-    line == Ok(()) && both == Ok(2) && listing == Ok(2) && shown(sink.bytes()) == WRITTEN
+    let is_written = line == Ok(()) && both == Ok(2) && listing == Ok(2);
+    is_row(&first, &ROWS[0])
+        && is_row(&second, &ROWS[1])
+        && (rows.get(2).is_none() && rows.len() == 2 && !rows.is_empty())
+        && (is_written && sink.bytes() == WRITTEN)
+}
+
+// Whether the table of three accesses has those rows.
+fn has_rows(rt: &impl Abort, alloc: Global) -> bool {
+    let three = shared(rt, alloc, &[START, THREE]);
+    let counters = counted(rt, alloc, &three);
+    let table = counters.table(alloc, &three).expect(rt, "memory");
+    let rows = table.rows(alloc).expect(rt, "memory");
+    are_rows(&mut MemorySink::new(alloc), &table, &rows)
 }
 
 #[test]
-fn rows_by_place_and_their_lines(rt: HostRuntime) {
-    let alloc = rt.alloc();
-    let table = table_of(&rt, alloc, &shared(&rt, alloc, &[START, THREE]));
-    let rows = table.rows(alloc).expect(&rt, "memory");
-    let same = are_rows(&rows);
-    assert!(rt; same);
-    let mut sink = MemorySink::new(alloc);
-    let same = are_written(&mut sink, &table, &rows);
+fn accesses_changes_and_rows(rt: HostRuntime) {
+    for (n, case) in CASES.iter().enumerate() {
+        let same = is_case(&rt, rt.alloc(), case);
+        assert!(rt; same, "case {n}");
+    }
+    let same = Table::empty(rt.alloc()).is_empty() && has_rows(&rt, rt.alloc());
     assert!(rt; same);
 }

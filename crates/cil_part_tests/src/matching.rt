@@ -99,7 +99,7 @@ fn places_of(text: &[u8], same: bool) -> &'static [Option<usize>] {
 }
 
 // Whether the statements of two texts behind the start are the same, or aren't.
-fn is_same(rt: &impl Abort, alloc: Global, texts: &(&[u8], &[u8], bool), rules: bool) -> bool {
+fn is_same(rt: &impl Abort, alloc: Global, texts: &Two<'_>, rules: bool) -> bool {
     let (old, new, same) = *texts;
     let (ahead, back) = (places_of(old, same), places_of(new, same));
     let (old, new): (&[&[u8]], &[&[u8]]) = (&[START, old], &[START, new]);
@@ -111,28 +111,21 @@ const SAME: &[Option<usize>] = &[Some(0), None];
 
 const NONE: &[Option<usize>] = &[None, None];
 
-// Two set statements behind the start, and whether they are the same.
-const SETS: &[(&[u8], &[u8], bool)] = &[
-    (
-        b"(typeattributeset s (a))",
-        b"(typeattributeset s (a))",
-        true,
-    ),
-    (
-        b"(typeattributeset s (a))",
-        b"(typeattributeset s (b))",
-        false,
-    ),
-    (
-        b"(typeattributeset s (a))",
-        b"(typeattributeset n (a))",
-        false,
-    ),
-    (
-        b"(typeattributeset s (a))",
-        b" (typeattributeset s (a))",
-        false,
-    ),
+// Two texts behind the start, each of one statement or of none, and whether their statements are
+// the same.
+type Two<'t> = (&'t [u8], &'t [u8], bool);
+
+const SET: &[u8] = b"(typeattributeset s (a))";
+
+const ALONE: &[u8] = b"(typeattributeset s a)";
+
+const LIST: &[u8] = b"(typeattributeset s (a b))";
+
+const SETS: &[Two<'static>] = &[
+    (SET, SET, true),
+    (SET, b"(typeattributeset s (b))", false),
+    (SET, b"(typeattributeset n (a))", false),
+    (SET, b" (typeattributeset s (a))", false),
     // The same offset on another line.
     (
         b" (typeattributeset s (a))",
@@ -140,49 +133,21 @@ const SETS: &[(&[u8], &[u8], bool)] = &[
         true,
     ),
     // An alias leads to its type.
-    (
-        b"(typeattributeset s (a))",
-        b"(typeattributeset s (c))",
-        true,
-    ),
-    (b"(typeattributeset s (a))", b"", false),
-    (b"", b"(typeattributeset s (a))", false),
+    (SET, b"(typeattributeset s (c))", true),
+    (SET, b"", false),
+    (b"", SET, false),
     (b"", b"", false),
     // One name alone, and one name in a list.
-    (b"(typeattributeset s a)", b"(typeattributeset s a)", true),
-    (b"(typeattributeset s a)", b"(typeattributeset s b)", false),
-    (b"(typeattributeset s a)", b"(typeattributeset s n)", false),
-    (
-        b"(typeattributeset s a)",
-        b"(typeattributeset s (a))",
-        false,
-    ),
-    (
-        b"(typeattributeset s (a))",
-        b"(typeattributeset s a)",
-        false,
-    ),
+    (ALONE, ALONE, true),
+    (ALONE, b"(typeattributeset s b)", false),
+    (ALONE, b"(typeattributeset s n)", false),
+    (ALONE, SET, false),
+    (SET, ALONE, false),
     // Lists of two names.
-    (
-        b"(typeattributeset s (a b))",
-        b"(typeattributeset s (a b))",
-        true,
-    ),
-    (
-        b"(typeattributeset s (a b))",
-        b"(typeattributeset s (a a))",
-        false,
-    ),
-    (
-        b"(typeattributeset s (a b))",
-        b"(typeattributeset s (a))",
-        false,
-    ),
-    (
-        b"(typeattributeset s (a b))",
-        b"(typeattributeset s (or a b))",
-        false,
-    ),
+    (LIST, LIST, true),
+    (LIST, b"(typeattributeset s (a a))", false),
+    (LIST, SET, false),
+    (LIST, b"(typeattributeset s (or a b))", false),
 ];
 
 // Policies, and the places of their set statements.
@@ -218,75 +183,32 @@ const SET_PLACES: &[Places<'static>] = &[
     ),
 ];
 
-#[test]
-fn set_statements_of_two_policies(rt: HostRuntime) {
-    for texts in SETS {
-        assert!(&rt; is_same(&rt, rt.alloc(), texts, false));
-    }
-    for places in SET_PLACES {
-        assert!(&rt; are_placed(&rt, rt.alloc(), places, false));
-    }
-}
+const RULE: &[u8] = b"(allow a b (p (see use)))";
 
-// Two rules behind the start, and whether they are the same.
-const RULES: &[(&[u8], &[u8], bool)] = &[
-    (
-        b"(allow a b (p (see use)))",
-        b"(allow a b (p (see use)))",
-        true,
-    ),
-    (
-        b"(allow a b (p (see use)))",
-        b"(auditallow a b (p (see use)))",
-        false,
-    ),
-    (
-        b"(allow a b (p (see use)))",
-        b"(allow b b (p (see use)))",
-        false,
-    ),
-    (
-        b"(allow a b (p (see use)))",
-        b"(allow s b (p (see use)))",
-        false,
-    ),
-    (
-        b"(allow a b (p (see use)))",
-        b"(allow a a (p (see use)))",
-        false,
-    ),
-    (
-        b"(allow a b (p (see use)))",
-        b"(allow a self (p (see use)))",
-        false,
-    ),
+const OF_X: &[u8] = b"(type x)(allow x b (p (use)))";
+
+const OF_Y: &[u8] = b"(type y)(allow y b (p (use)))";
+
+const BESIDE_Y: &[u8] = b"(type y)(allow a b (p (use)))";
+
+const RULES: &[Two<'static>] = &[
+    (RULE, RULE, true),
+    (RULE, b"(auditallow a b (p (see use)))", false),
+    (RULE, b"(allow b b (p (see use)))", false),
+    (RULE, b"(allow s b (p (see use)))", false),
+    (RULE, b"(allow a a (p (see use)))", false),
+    (RULE, b"(allow a self (p (see use)))", false),
     (
         b"(allow a self (p (see use)))",
         b"(allow a self (p (see use)))",
         true,
     ),
-    (
-        b"(allow a b (p (see use)))",
-        b"(allow a b (q (see use)))",
-        false,
-    ),
-    (
-        b"(allow a b (p (see use)))",
-        b"(allow a b (p (see)))",
-        false,
-    ),
+    (RULE, b"(allow a b (q (see use)))", false),
+    (RULE, b"(allow a b (p (see)))", false),
     (b"(allow a b (p (see)))", b"(allow a b (p (use)))", false),
     // The order of the permissions counts.
-    (
-        b"(allow a b (p (see use)))",
-        b"(allow a b (p (use see)))",
-        false,
-    ),
-    (
-        b"(allow a b (p (see use)))",
-        b" (allow a b (p (see use)))",
-        false,
-    ),
+    (RULE, b"(allow a b (p (use see)))", false),
+    (RULE, b" (allow a b (p (see use)))", false),
     // The same offset on another line.
     (
         b" (allow a b (p (see use)))",
@@ -294,40 +216,16 @@ const RULES: &[(&[u8], &[u8], bool)] = &[
         true,
     ),
     // An alias leads to its type.
-    (
-        b"(allow a b (p (see use)))",
-        b"(allow c b (p (see use)))",
-        true,
-    ),
-    (b"(allow a b (p (see use)))", b"", false),
-    (b"", b"(allow a b (p (see use)))", false),
+    (RULE, b"(allow c b (p (see use)))", true),
+    (RULE, b"", false),
+    (b"", RULE, false),
     (b"", b"", false),
     // A name that goes, and one that comes.
-    (
-        b"(type x)(allow x b (p (use)))",
-        b"(type x)(allow x b (p (use)))",
-        true,
-    ),
-    (
-        b"(type x)(allow x b (p (use)))",
-        b"(type y)(allow y b (p (use)))",
-        false,
-    ),
-    (
-        b"(type y)(allow y b (p (use)))",
-        b"(type x)(allow x b (p (use)))",
-        false,
-    ),
-    (
-        b"(type x)(allow x b (p (use)))",
-        b"(type y)(allow a b (p (use)))",
-        false,
-    ),
-    (
-        b"(type y)(allow a b (p (use)))",
-        b"(type x)(allow x b (p (use)))",
-        false,
-    ),
+    (OF_X, OF_X, true),
+    (OF_X, OF_Y, false),
+    (OF_Y, OF_X, false),
+    (OF_X, BESIDE_Y, false),
+    (BESIDE_Y, OF_X, false),
 ];
 
 const TWO_RULES: &[&[u8]] = &[START, b"(allow a b (p (use)))(allow b s (q (see)))"];
@@ -403,12 +301,22 @@ const RULE_PLACES: &[Places<'static>] = &[
     ),
 ];
 
+// Policies, and whether their rules are looked at, or their set statements.
+const TABLES: [(&[Two<'static>], &[Places<'static>], bool); 2] = [
+    (SETS, SET_PLACES, false),
+    (RULES, RULE_PLACES, true),
+];
+
 #[test]
-fn rules_of_two_policies(rt: HostRuntime) {
-    for texts in RULES {
-        assert!(&rt; is_same(&rt, rt.alloc(), texts, true));
-    }
-    for places in RULE_PLACES {
-        assert!(&rt; are_placed(&rt, rt.alloc(), places, true));
+fn statements_of_two_policies(rt: HostRuntime) {
+    for (texts, places, rules) in TABLES {
+        for (n, two) in texts.iter().enumerate() {
+            let same = is_same(&rt, rt.alloc(), two, rules);
+            assert!(rt; same, "texts {n}, rules {rules}");
+        }
+        for (n, places) in places.iter().enumerate() {
+            let same = are_placed(&rt, rt.alloc(), places, rules);
+            assert!(rt; same, "places {n}, rules {rules}");
+        }
     }
 }

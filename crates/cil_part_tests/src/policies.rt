@@ -71,23 +71,23 @@ pub fn shared(rt: &impl Abort, alloc: Global, m: &[&[u8]]) -> Rc<Resolved> {
     Rc::new(alloc, policy(rt, alloc, m)).expect(rt, "memory")
 }
 
-// Appends the declaration of a type by its number below 1000.
-fn push_type(rt: &impl Abort, text: &mut Vec<u8>, number: u16) {
+/// Appends a number below 1000 by three digits between two parts.
+pub fn push_numbered(rt: &impl Abort, text: &mut Vec<u8>, front: &[u8], number: u16, back: &[u8]) {
     let digits = [
         b'0' + (number / 100 % 10) as u8,
         b'0' + (number / 10 % 10) as u8,
         b'0' + (number % 10) as u8,
     ];
-    text.extend_from_slice(b"(type t").expect(rt, "memory");
-    text.extend_from_slice(&digits).expect(rt, "memory");
-    text.push(b')').expect(rt, "memory");
+    for part in [front, digits.as_slice(), back] {
+        text.extend_from_slice(part).expect(rt, "memory");
+    }
 }
 
 /// The declarations of the types t000, t001 and so on.
 pub fn types(rt: &impl Abort, alloc: Global, count: u16) -> Vec<u8> {
     let mut text = Vec::new(alloc);
     for number in 0..count {
-        push_type(rt, &mut text, number);
+        push_numbered(rt, &mut text, b"(type t", number, b")");
     }
     text
 }

@@ -21,16 +21,22 @@ pub fn are_changes(changes: &[Change], want: &[Changed]) -> bool {
     changes.len() == want.len()
 }
 
-// A step adds 1 to the counters of a line at the targets of a word that a mask has, or takes 1 away.
+// A step, or what is told between steps: what they changed, and where the steps were that `undo_into`
+// would take back; of a line and a word the counters of the first four targets of the word, its
+// targets whose counters are above 0 and those whose are 1, and the first word of the line.
 #[derive(Clone, Copy)]
 enum Step {
+    // Adds 1 to the counters of a line at the targets of a word that a mask has.
     Raise(u32, u32, u64),
+    // Takes 1 away.
     Lower(u32, u32, u64),
     Settle,
     Undo,
+    Told(&'static [Changed], &'static [(usize, usize)]),
+    Word(usize, usize, [u64; 4], (u64, u64), Option<usize>),
 }
 
-use Step::{Lower, Raise, Settle, Undo};
+use Step::{Lower, Raise, Settle, Told, Undo, Word};
 
 fn raise(
     rt: &impl Abort,
@@ -62,29 +68,6 @@ fn lower(rt: &impl Abort, lines: &mut RecordedLines, line: usize, word: usize, m
     }
 }
 
-fn take(rt: &impl Abort, alloc: Global, lines: &mut RecordedLines, step: Step) {
-    let mut ended = Vec::new(alloc);
-    match step {
-        Raise(line, word, mask) => raise(rt, alloc, lines, line as usize, word, mask),
-        Lower(line, word, mask) => lower(rt, lines, line as usize, word as usize, mask),
-        Settle => lines.settle_into(&mut ended),
-        Undo => lines.undo_into(&mut ended),
-    }
-}
-
-// Three lines after the first of these steps.
-fn lines_of(rt: &impl Abort, alloc: Global, steps: &[Step], n: usize) -> RecordedLines {
-    assert!(rt; n <= steps.len());
-    let mut lines = RecordedLines::new(alloc);
-    for _ in 0..3u32 {
-        lines.put_in(alloc).expect(rt, "memory");
-    }
-    for step in &steps[..n] {
-        take(rt, alloc, &mut lines, *step);
-    }
-    lines
-}
-
 // Whether these are the steps, each by its line and word.
 fn are_places(lines: &RecordedLines, want: &[(usize, usize)]) -> bool {
     for step in 0..lines.steps() {
@@ -96,25 +79,107 @@ fn are_places(lines: &RecordedLines, want: &[(usize, usize)]) -> bool {
     lines.steps() == want.len()
 }
 
-// The counters of the first targets of a word, its targets whose counters are above 0 and those whose are 1, and the first word of the
-// line.
-type Counted = (&'static [u64], u64, u64, Option<usize>);
+// Whether the first targets of a word have these counters.
+fn are_counts(lines: &RecordedLines, line: usize, word: usize, counts: &[u64; 4]) -> bool {
+    let first = word.saturating_mul(64);
+    for i in 0..4usize {
+        if lines.count(line, first.saturating_add(i)) != counts[i] {
+            return false;
+        }
+    }
+    true
+}
 
-const NOTHING: Counted = (&[0, 0, 0, 0], 0, 0, None);
+// Whether that is told of three lines.
+fn is_so(rt: &impl Abort, alloc: Global, lines: &RecordedLines, told: &Step) -> bool {
+    match told {
+        Told(changes, places) => {
+            let found = lines.changes(alloc).expect(rt, "memory");
+            are_changes(&found, changes)
+                & are_places(lines, places)
+                & (lines.is_pending() != places.is_empty())
+                & (lines.len() == 3)
+                & !lines.is_empty()
+        }
+        Word(line, word, counts, masks, next) => {
+            are_counts(lines, *line, *word, counts)
+                & ((lines.present(*line, *word), lines.single(*line, *word)) == *masks)
+                & (lines.next_present_word(*line, 0) == *next)
+        }
+        _ => false,
+    }
+}
+
+// Takes a step, or says whether what is told is so.
+fn take(rt: &impl Abort, alloc: Global, lines: &mut RecordedLines, step: &Step) -> bool {
+    match step {
+        Raise(line, word, mask) => raise(rt, alloc, lines, *line as usize, *word, *mask),
+        Lower(line, word, mask) => lower(rt, lines, *line as usize, *word as usize, *mask),
+        Settle => lines.settle_into(&mut Vec::new(alloc)),
+        Undo => lines.undo_into(&mut Vec::new(alloc)),
+        told => return is_so(rt, alloc, lines, told),
+    }
+    true
+}
+
+// The first step behind which something else is told of three lines, if there is one.
+fn wrong_step(rt: &impl Abort, alloc: Global, steps: &[Step]) -> Option<usize> {
+    let mut lines = RecordedLines::new(alloc);
+    for _ in 0..3u32 {
+        lines.put_in(alloc).expect(rt, "memory");
+    }
+    for n in 0..steps.len() {
+        if !take(rt, alloc, &mut lines, &steps[n]) {
+            return Some(n);
+        }
+    }
+    None
+}
+
+const FEW: &[Step] = &[
+    Told(&[], &[]),
+    Word(1, 0, [0; 4], (0, 0), None),
+    // There is no such line.
+    Word(7, 0, [0; 4], (0, 0), None),
+    Undo,
+    Settle,
+    Told(&[], &[]),
+];
 
 // Steps that are kept, and some behind them.
 const KEPT: &[Step] = &[
     Raise(1, 2, 0b0111),
     Raise(1, 2, 0b0110),
+    Told(&[(1, 2, 0b0111, 0)], &[(1, 2), (1, 2)]),
     Settle,
+    Told(&[], &[]),
+    Word(1, 2, [1, 2, 2, 0], (0b0111, 0b0001), Some(2)),
     Raise(1, 2, 0b1110),
     Lower(1, 2, 0b0011),
     Raise(2, 90, ALL),
+    Told(
+        &[(1, 2, 0b1000, 0b0001), (2, 90, ALL, 0)],
+        &[(1, 2), (1, 2), (2, 90)],
+    ),
+    Word(1, 2, [0, 2, 3, 1], (0b1110, 0b1000), Some(2)),
+    Word(2, 90, [1; 4], (ALL, ALL), Some(90)),
     Undo,
+    Told(&[], &[]),
+    Word(1, 2, [1, 2, 2, 0], (0b0111, 0b0001), Some(2)),
+    Word(2, 90, [0; 4], (0, 0), None),
 ];
 
-const KEPT_TWICE: &[Step] = &[Raise(0, 0, 0b11), Settle, Lower(0, 0, 0b01), Settle, Undo];
+// What is kept stays.
+const KEPT_TWICE: &[Step] = &[
+    Raise(0, 0, 0b11),
+    Settle,
+    Lower(0, 0, 0b01),
+    Settle,
+    Undo,
+    Word(0, 0, [0, 1, 0, 0], (0b10, 0b10), Some(0)),
+];
 
+// Changes stand in order and once.
 const MANY: &[Step] = &[
     Raise(0, 4, 0b0011),
     Raise(2, 1, 0b0101),
@@ -127,109 +192,39 @@ const MANY: &[Step] = &[
     Raise(0, 4, 0b0010),
     Raise(1, 0, 0b1000),
     Lower(1, 0, 0b1000),
+    Told(&CHANGES_OF_MANY, &PLACES_OF_MANY),
     Undo,
+    Told(&[], &[]),
+];
+
+const CHANGES_OF_MANY: [Changed; 3] = [(0, 4, 0, 0b0001), (0, 9, 0b0001, 0), (2, 1, 0b1000, 0)];
+
+const PLACES_OF_MANY: [(usize, usize); 8] = [
+    (2, 1),
+    (0, 9),
+    (2, 1),
+    (0, 4),
+    (0, 4),
+    (0, 4),
+    (1, 0),
+    (1, 0),
 ];
 
 const PLACED: &[Step] = &[
     Raise(1, 3, 0b01),
     Settle,
+    Told(&[], &[]),
     Raise(0, 7, 0b11),
     Lower(1, 3, 0b01),
+    Told(&[(0, 7, 0b11, 0), (1, 3, 0, 0b01)], &[(0, 7), (1, 3)]),
 ];
 
-// The first steps of some, what they changed, and where the steps were that `undo_into` would take back.
-type Stepped = (
-    &'static [Step],
-    usize,
-    &'static [Changed],
-    &'static [(usize, usize)],
-);
-
-const STEPS: &[Stepped] = &[
-    (&[], 0, &[], &[]),
-    (&[Undo, Settle], 2, &[], &[]),
-    (KEPT, 2, &[(1, 2, 0b0111, 0)], &[(1, 2), (1, 2)]),
-    (KEPT, 3, &[], &[]),
-    (
-        KEPT,
-        6,
-        &[(1, 2, 0b1000, 0b0001), (2, 90, ALL, 0)],
-        &[(1, 2), (1, 2), (2, 90)],
-    ),
-    (KEPT, 7, &[], &[]),
-    // Changes stand in order and once.
-    (
-        MANY,
-        11,
-        &[(0, 4, 0, 0b0001), (0, 9, 0b0001, 0), (2, 1, 0b1000, 0)],
-        &[
-            (2, 1),
-            (0, 9),
-            (2, 1),
-            (0, 4),
-            (0, 4),
-            (0, 4),
-            (1, 0),
-            (1, 0),
-        ],
-    ),
-    (MANY, 12, &[], &[]),
-    (PLACED, 2, &[], &[]),
-    (
-        PLACED,
-        4,
-        &[(0, 7, 0b11, 0), (1, 3, 0, 0b01)],
-        &[(0, 7), (1, 3)],
-    ),
-];
-
-// The first steps of some, a line and a word, and what is counted there.
-type Word = (&'static [Step], usize, usize, usize, Counted);
-
-const WORDS: &[Word] = &[
-    (&[], 0, 1, 0, NOTHING),
-    // There is no such line.
-    (&[], 0, 7, 0, NOTHING),
-    (KEPT, 3, 1, 2, (&[1, 2, 2, 0], 0b0111, 0b0001, Some(2))),
-    (KEPT, 6, 1, 2, (&[0, 2, 3, 1], 0b1110, 0b1000, Some(2))),
-    (KEPT, 6, 2, 90, (&[1, 1, 1, 1], ALL, ALL, Some(90))),
-    (KEPT, 7, 1, 2, (&[1, 2, 2, 0], 0b0111, 0b0001, Some(2))),
-    (KEPT, 7, 2, 90, NOTHING),
-    // What is kept stays.
-    (KEPT_TWICE, 5, 0, 0, (&[0, 1, 0, 0], 0b10, 0b10, Some(0))),
-];
-
-// Whether that is told of the lines after the steps.
-fn is_stepped(rt: &impl Abort, alloc: Global, stepped: &Stepped) -> bool {
-    let (steps, n, changes, places) = stepped;
-    let lines = lines_of(rt, alloc, steps, *n);
-    let found = lines.changes(alloc).expect(rt, "memory");
-    let are_told = are_changes(&found, changes) & are_places(&lines, places);
-    let is_pending = lines.is_pending() != places.is_empty();
-    are_told & is_pending & (lines.len() == 3) & !lines.is_empty()
-}
-
-// Whether that is counted in the word after the steps.
-fn is_counted(rt: &impl Abort, alloc: Global, counted: &Word) -> bool {
-    let (steps, n, line, word, (counts, present, single, next)) = counted;
-    let lines = lines_of(rt, alloc, steps, *n);
-    let first = word.saturating_mul(64);
-    for i in 0..4usize {
-        let count = lines.count(*line, first.saturating_add(i));
-        if counts.get(i) != Some(&count) {
-            return false;
-        }
-    }
-    let masks = (lines.present(*line, *word), lines.single(*line, *word));
-    masks == (*present, *single) && lines.next_present_word(*line, 0) == *next
-}
+const LISTS: [&[Step]; 5] = [FEW, KEPT, KEPT_TWICE, MANY, PLACED];
 
 #[test]
 fn steps_of_lines(rt: HostRuntime) {
-    for stepped in STEPS {
-        assert!(&rt; is_stepped(&rt, rt.alloc(), stepped));
-    }
-    for counted in WORDS {
-        assert!(&rt; is_counted(&rt, rt.alloc(), counted));
+    for (n, steps) in LISTS.iter().enumerate() {
+        let wrong = wrong_step(&rt, rt.alloc(), steps);
+        assert!(rt; wrong.is_none(), "list {n} at {wrong:?}");
     }
 }

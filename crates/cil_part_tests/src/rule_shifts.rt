@@ -237,16 +237,6 @@ fn is_shifted(rt: &impl Abort, alloc: Global, shift: &Shift<'_>) -> bool {
     is_behind & is_before & (found == *moved) & (changes.len() == *words)
 }
 
-// The lines that the first two rules are put into, and how many accesses they give.
-fn put(rt: &impl Abort, alloc: Global, shift: &Shift<'_>) -> (KeyedLines, u128) {
-    let first = reach(rt, alloc, &shift.0);
-    let second = reach(rt, alloc, &shift.1);
-    let mut lines = KeyedLines::new(alloc);
-    let one = put_rule(&mut lines, alloc, HEAD, &first).expect(rt, "memory");
-    let other = put_rule(&mut lines, alloc, HEAD, &second).expect(rt, "memory");
-    (lines, one.saturating_add(other))
-}
-
 // How many accesses a rule gives to sources and targets.
 fn given(rule: &Rule<'_>) -> usize {
     let targets = match rule.1 {
@@ -256,17 +246,23 @@ fn given(rule: &Rule<'_>) -> usize {
     rule.0.len().saturating_mul(targets).saturating_mul(2)
 }
 
-// Whether they are put in so, for good.
-fn is_put(rt: &impl Abort, alloc: Global, shift: &Shift<'_>) -> bool {
-    let (lines, found) = put(rt, alloc, shift);
-    let want = given(&shift.0).saturating_add(given(&shift.1));
-    found == want as u128 && !lines.is_pending() && are_counted(&lines, shift.5, false)
+// Whether the first two rules are put into lines for good, and give their accesses.
+fn is_put(rt: &impl Abort, alloc: Global, case: &Shift<'_>) -> bool {
+    let first = reach(rt, alloc, &case.0);
+    let second = reach(rt, alloc, &case.1);
+    let mut lines = KeyedLines::new(alloc);
+    let one = put_rule(&mut lines, alloc, HEAD, &first).expect(rt, "memory");
+    let other = put_rule(&mut lines, alloc, HEAD, &second).expect(rt, "memory");
+    let want = given(&case.0).saturating_add(given(&case.1));
+    (one.saturating_add(other) == want as u128)
+        & !lines.is_pending()
+        & are_counted(&lines, case.5, false)
 }
 
 #[test]
 fn rules_in_the_place_of_others(rt: HostRuntime) {
-    for shift in SHIFTS {
-        assert!(&rt; is_shifted(&rt, rt.alloc(), shift));
-        assert!(&rt; is_put(&rt, rt.alloc(), shift));
+    for (n, case) in SHIFTS.iter().enumerate() {
+        let same = is_shifted(&rt, rt.alloc(), case) && is_put(&rt, rt.alloc(), case);
+        assert!(rt; same, "case {n}");
     }
 }

@@ -232,37 +232,6 @@ const CASES: &[Case] = &[
     (TWICE, 5, &[128], &[], &[]),
 ];
 
-// Whether a listing of the lines has just the accesses of kinds to targets.
-fn has_listing(
-    rt: &impl Abort,
-    alloc: Global,
-    numbers: &[u32],
-    lines: &KeyedLines,
-    kinds: &[RuleKind],
-    targets: &[u32],
-) -> bool
-    requires { ArePresentNumbered numbers.now (count_now lines.now) }
-{
-    let found = accesses(alloc, lines, numbers).expect(rt, "memory");
-    are_listed(&found, kinds, targets)
-}
-
-// Whether just the accesses of kinds to some targets appeared, and to others went.
-fn has_changes(
-    rt: &impl Abort,
-    alloc: Global,
-    numbers: &[u32],
-    lines: &KeyedLines,
-    kinds: &[RuleKind],
-    targets: (&[u32], &[u32]),
-) -> bool
-    requires now { ArePresentNumbered numbers.now (count_now lines.now) }
-    requires before { ArePresentNumbered numbers.now (count_before lines.now) }
-{
-    let found = changes(alloc, lines, numbers, numbers).expect(rt, "memory");
-    are_listed(&found.added, kinds, targets.0) && are_listed(&found.removed, kinds, targets.1)
-}
-
 // How many accesses there are, how many appeared and how many went.
 fn counted(rt: &impl Abort, alloc: Global, lines: &KeyedLines) -> (u128, u128, u128) {
     let present = count_accesses(lines).expect(rt, "few");
@@ -275,28 +244,47 @@ fn product(kinds: &[RuleKind], targets: &[u32]) -> u128 {
     (kinds.len() as u128).saturating_mul(targets.len() as u128)
 }
 
+// Whether just those accesses are listed, appeared and went.
+fn are_told(
+    rt: &impl Abort,
+    alloc: Global,
+    numbers: &[u32],
+    lines: &KeyedLines,
+    told: (&Kinds, &Case),
+) -> bool
+    requires now { ArePresentNumbered numbers.now (count_now lines.now) }
+    requires before { ArePresentNumbered numbers.now (count_before lines.now) }
+{
+    let (_, ordered, listed) = *told.0;
+    let (_, _, present, added, removed) = *told.1;
+    let found = accesses(alloc, lines, numbers).expect(rt, "memory");
+    let changed = changes(alloc, lines, numbers, numbers).expect(rt, "memory");
+    are_listed(&found, listed, present)
+        && are_listed(&changed.added, ordered, added)
+        && are_listed(&changed.removed, ordered, removed)
+}
+
 // Whether a case is so for rules of some kinds.
 fn is_case(rt: &impl Abort, alloc: Global, kinds: &Kinds, case: &Case) -> bool {
-    let (coming, ordered, listed) = kinds;
-    let (steps, n, present, added, removed) = case;
-    assert!(rt; *n <= steps.len());
+    let (coming, ordered, _) = *kinds;
+    let (steps, n, present, added, removed) = *case;
+    assert!(rt; n <= steps.len());
     let numbers = numbers(rt, alloc);
-    let lines = lines_of(rt, alloc, &numbers, coming, &steps[..*n]);
+    let lines = lines_of(rt, alloc, &numbers, coming, &steps[..n]);
     let counts = (
         product(ordered, present),
         product(ordered, added),
         product(ordered, removed),
     );
-    counted(rt, alloc, &lines) == counts
-        && has_listing(rt, alloc, &numbers, &lines, listed, present)
-        && has_changes(rt, alloc, &numbers, &lines, ordered, (added, removed))
+    counted(rt, alloc, &lines) == counts && are_told(rt, alloc, &numbers, &lines, (kinds, case))
 }
 
 #[test]
 fn accesses_of_kinds(rt: HostRuntime) {
-    for kinds in KINDS {
-        for case in CASES {
-            assert!(&rt; is_case(&rt, rt.alloc(), kinds, case));
+    for (m, kinds) in KINDS.iter().enumerate() {
+        for (n, case) in CASES.iter().enumerate() {
+            let same = is_case(&rt, rt.alloc(), kinds, case);
+            assert!(rt; same, "kinds {m}, case {n}");
         }
     }
 }

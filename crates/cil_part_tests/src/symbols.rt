@@ -110,13 +110,6 @@ fn is_numbered(rt: &impl Abort, alloc: Global, policies: &Numbered<'_>) -> bool 
         && symbols.len() == locals.len().saturating_sub(1)
 }
 
-#[test]
-fn numbers_from_policy_to_policy(rt: HostRuntime) {
-    for policies in POLICIES {
-        assert!(&rt; is_numbered(&rt, rt.alloc(), policies));
-    }
-}
-
 // Names that come, and their numbers.
 const COME: &[(&[u8], usize)] = &[(b"b", 0), (b"a", 1), (b"b", 0), (b"c", 2), (b"a", 1)];
 
@@ -136,6 +129,11 @@ fn have_numbers(rt: &impl Abort, alloc: Global) -> bool {
 }
 
 #[test]
-fn names_by_numbers(rt: HostRuntime) {
-    assert!(&rt; have_numbers(&rt, rt.alloc()));
+fn numbers_from_policy_to_policy(rt: HostRuntime) {
+    for (n, policies) in POLICIES.iter().enumerate() {
+        let same = is_numbered(&rt, rt.alloc(), policies);
+        assert!(rt; same, "policies {n}");
+    }
+    let same = have_numbers(&rt, rt.alloc());
+    assert!(rt; same);
 }

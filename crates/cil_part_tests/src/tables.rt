@@ -83,9 +83,11 @@ const MANY: &[Counted<'static>] = &[
 
 #[test]
 fn counted_accesses(rt: HostRuntime) {
-    for (statements, kind, wanted) in COUNTS {
-        assert!(&rt; are_counted(&rt, rt.alloc(), statements, *kind, wanted));
+    for (n, (statements, kind, wanted)) in COUNTS.iter().enumerate() {
+        let same = are_counted(&rt, rt.alloc(), statements, *kind, wanted);
+        assert!(rt; same, "rules {n}");
     }
     let rules = many_rules(&rt, rt.alloc());
-    assert!(&rt; are_counted(&rt, rt.alloc(), &rules, RuleKind::Allow, MANY));
+    let same = are_counted(&rt, rt.alloc(), &rules, RuleKind::Allow, MANY);
+    assert!(rt; same);
 }

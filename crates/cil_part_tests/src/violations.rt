@@ -64,34 +64,24 @@ fn are_two(violations: &Violations) -> bool {
         && !violations.is_empty()
 }
 
-#[test]
-fn violations_by_place(rt: HostRuntime) {
-    let resolved = shared(&rt, rt.alloc(), &[START, RULES]);
-    assert!(&rt; are_two(&violations_of(&rt, rt.alloc(), &resolved)));
-}
-
-// Whether the report is written whole.
-fn is_whole(rt: &impl Abort, alloc: Global, violations: &Violations, want: &[u8]) -> bool {
+// Whether the report is written whole, and a sink that takes no more than 20 bytes has a beginning
+// of it.
+fn is_written(rt: &impl Abort, alloc: Global, violations: &Violations, want: &[u8]) -> bool {
     let mut sink = MemorySink::new(alloc);
     let written = violations.write(&mut sink).expect(rt, "a sink");
-    sink.bytes() == want && written == violations.len()
-}
-
-// Whether a sink that takes no more than 20 bytes has a beginning of it.
-fn is_cut(alloc: Global, violations: &Violations, want: &[u8]) -> bool {
     let mut short = MemorySink::with_limits(alloc, 7, 20);
     let failed = violations.write(&mut short).is_err();
-    want.starts_with(short.bytes()) && failed == (want.len() > 20)
+    (sink.bytes() == want)
+        & (written == violations.len())
+        & want.starts_with(short.bytes())
+        & (failed == (want.len() > 20))
 }
 
 // Whether the report of a policy is that one, whichever way it is found.
 fn is_report(rt: &impl Abort, alloc: Global, texts: &[&[u8]], want: &[u8]) -> bool {
     let resolved = shared(rt, alloc, texts);
-    let counted = violations_of(rt, alloc, &resolved);
-    let once = violations_once(rt, alloc, &resolved);
-    is_whole(rt, alloc, &counted, want)
-        && is_cut(alloc, &counted, want)
-        && is_whole(rt, alloc, &once, want)
+    is_written(rt, alloc, &violations_of(rt, alloc, &resolved), want)
+        && is_written(rt, alloc, &violations_once(rt, alloc, &resolved), want)
 }
 
 // Statements behind the start, and the report.
@@ -136,16 +126,6 @@ const NONE: &[&[u8]] = &[
     b"(neverallow s s (p (use)))(allow s s (p (see)))",
     b"(neverallow s s (p (use)))(auditallow s s (p (use)))",
 ];
-
-#[test]
-fn reports_of_violations(rt: HostRuntime) {
-    for (statements, want) in REPORTS {
-        assert!(&rt; is_report(&rt, rt.alloc(), &[START, statements], want));
-    }
-    for statements in NONE {
-        assert!(&rt; is_report(&rt, rt.alloc(), &[START, statements], b""));
-    }
-}
 
 // Names of a wide policy behind its types: the target w, and two attributes. So the number of a type is that of its name.
 const WIDE: &[u8] = b"(class x (y))(type w)(typeattribute u)(typeattribute v)";
@@ -227,20 +207,15 @@ const SHARED: &[Shared] = &[
     ),
 ];
 
-// Whether the violation of a place is one of that source and that target.
-fn is_between(violations: &Violations, place: usize, source: &[u8], target: &[u8]) -> bool {
-    match violations.get(place) {
-        Some(found) => found.source == source && found.target == target,
-        None => false,
-    }
-}
-
 // Whether there is a violation for each type, which is its source or its target, or both; w is the other.
 fn are_shared(violations: &Violations, types: &[&[u8]], source: bool, target: bool) -> bool {
     for i in 0..types.len() {
+        let Some(found) = violations.get(i) else {
+            return false;
+        };
         let source = if source { types[i] } else { b"w" };
         let target = if target { types[i] } else { b"w" };
-        if !is_between(violations, i, source, target) {
+        if found.source != source || found.target != target {
             return false;
         }
     }
@@ -249,20 +224,11 @@ fn are_shared(violations: &Violations, types: &[&[u8]], source: bool, target: bo
 
 // Whether it is so where these types are shared.
 fn is_crossed(rt: &impl Abort, alloc: Global, sets: &Shared, crossed: &Crossed) -> bool {
-    let (u, v, want) = sets;
-    let (rules, source, target) = crossed;
+    let (u, v, want) = *sets;
+    let (rules, source, target) = *crossed;
     let types = types(rt, alloc, 130);
     let resolved = shared(rt, alloc, &[&types, WIDE, u, v, rules]);
-    are_shared(&violations_of(rt, alloc, &resolved), want, *source, *target)
-}
-
-#[test]
-fn violations_at_the_edges_of_words(rt: HostRuntime) {
-    for sets in SHARED {
-        for crossed in CROSSED {
-            assert!(&rt; is_crossed(&rt, rt.alloc(), sets, crossed));
-        }
-    }
+    are_shared(&violations_of(rt, alloc, &resolved), want, source, target)
 }
 
 // Policies that come one after the other. The name z goes, a comes behind all, and b gets the symbol of z.
@@ -286,28 +252,55 @@ neverallow m:3:1 allow m:4:1 m a:p { see use };\n\
 neverallow m:3:1 allow m:4:1 m b:p { see use };\n\
 neverallow m:3:1 allow m:4:1 m m:p { see use };\n";
 
-// The violations of the third policy, reached from the second, and then those of the second again.
-fn brought(rt: &impl Abort, alloc: Global) -> (Violations, Violations) {
+// Whether those of the third policy, reached from the second, and then those of the second again
+// are reported in the order of names.
+fn are_brought(
+    rt: &impl Abort,
+    alloc: Global,
+    first: &Rc<Resolved>,
+    second: &Rc<Resolved>,
+    third: &Rc<Resolved>,
+) -> bool {
+    let mut counters = counted(rt, alloc, first);
+    bring(rt, alloc, &mut counters, first, second);
+    keep(&mut counters, second);
+    bring(rt, alloc, &mut counters, second, third);
+    let found = counters.violations(alloc, third).expect(rt, "memory");
+    take_back(&mut counters, second);
+    let back = counters.violations(alloc, second).expect(rt, "memory");
+    is_written(rt, alloc, &found, THIRD_REPORT) && is_written(rt, alloc, &back, SECOND_REPORT)
+}
+
+fn are_behind_others(rt: &impl Abort, alloc: Global) -> bool {
     let first = shared(rt, alloc, &[FIRST]);
     let second = shared(rt, alloc, &[SECOND]);
     let third = shared(rt, alloc, &[THIRD]);
-    let mut counters = counted(rt, alloc, &first);
-    bring(rt, alloc, &mut counters, &first, &second);
-    keep(&mut counters, &second);
-    bring(rt, alloc, &mut counters, &second, &third);
-    let found = counters.violations(alloc, &third).expect(rt, "memory");
-    take_back(&mut counters, &second);
-    let back = counters.violations(alloc, &second).expect(rt, "memory");
-    (found, back)
-}
-
-// Whether both are reported in the order of names.
-fn are_brought(rt: &impl Abort, alloc: Global) -> bool {
-    let (found, back) = brought(rt, alloc);
-    is_whole(rt, alloc, &found, THIRD_REPORT) && is_whole(rt, alloc, &back, SECOND_REPORT)
+    are_brought(rt, alloc, &first, &second, &third)
 }
 
 #[test]
-fn violations_behind_other_policies(rt: HostRuntime) {
-    assert!(&rt; are_brought(&rt, rt.alloc()));
+fn reports_of_violations(rt: HostRuntime) {
+    for (n, (statements, want)) in REPORTS.iter().enumerate() {
+        let same = is_report(&rt, rt.alloc(), &[START, statements], want);
+        assert!(rt; same, "report {n}");
+    }
+    for (n, statements) in NONE.iter().enumerate() {
+        let same = is_report(&rt, rt.alloc(), &[START, statements], b"");
+        assert!(rt; same, "none {n}");
+    }
+}
+
+#[test]
+fn violations_by_place(rt: HostRuntime) {
+    for (n, sets) in SHARED.iter().enumerate() {
+        for (m, crossed) in CROSSED.iter().enumerate() {
+            let same = is_crossed(&rt, rt.alloc(), sets, crossed);
+            assert!(rt; same, "sets {n}, rules {m}");
+        }
+    }
+    let resolved = shared(&rt, rt.alloc(), &[START, RULES]);
+    let same = are_two(&violations_of(&rt, rt.alloc(), &resolved));
+    assert!(rt; same);
+    let same = are_behind_others(&rt, rt.alloc());
+    assert!(rt; same);
 }

@@ -1,6 +1,6 @@
 //! Faults: where they are, and how they are printed for a programmer.
 
-use crate::policies::{Told, is_refused};
+use crate::policies::{Told, outcome};
 use crate::shown::shown;
 use cil_names::Seed;
 use cil_parse::parse;
@@ -53,16 +53,6 @@ fn is_refused_text(alloc: Global, faulty: &Faulty) -> bool {
 
 const TWICE: Told = (41, "m", (15, 2, 7), "a");
 
-#[test]
-fn places_of_faults(rt: HostRuntime) {
-    for faulty in FAULTY {
-        let same = is_refused_text(rt.alloc(), faulty);
-        assert!(rt; same);
-    }
-    let same = is_refused(&rt, rt.alloc(), b"(type a)\n(type a)", b"", &TWICE);
-    assert!(rt; same);
-}
-
 const AT: Place = Place {
     offset: 9,
     line: 2,
@@ -88,6 +78,17 @@ fn is_printed<T: Display>(alloc: Global, fault: &T, want: &str) -> bool {
         Ok(printed) => printed.as_str() == want,
         Err(_) => false,
     }
+}
+
+#[test]
+fn places_of_faults(rt: HostRuntime) {
+    for faulty in FAULTY {
+        let same = is_refused_text(rt.alloc(), faulty);
+        assert!(rt; same, "code {}", faulty.1);
+    }
+    let refused = outcome(&rt, rt.alloc(), b"(type a)\n(type a)", b"", &TWICE);
+    let same = refused.err() == Some(true);
+    assert!(rt; same);
 }
 
 #[test]

@@ -15,8 +15,8 @@ use cil_resolve::{Joined, NamedModule, PolicyFault, Resolved, join, resolve};
 use std::alloc::{AllocError, Global};
 use std::process::Abort;
 
-// The parsed module of a text that the store takes.
-fn module_of(rt: &impl Abort, alloc: Global, text: &[u8]) -> ParsedModule
+/// The parsed module of a text that the store takes.
+pub fn module_of(rt: &impl Abort, alloc: Global, text: &[u8]) -> ParsedModule
     ensures { (text : List ℕ) × IsParsed text result }
 {
     assert!(rt; text.len() <= 16_777_216, "too long a text");
@@ -83,25 +83,6 @@ fn are_in_order(modules: &[NamedModule<'_>]) -> bool {
     }
 }
 
-#[test]
-fn modules_are_joined_in_the_order_of_their_names(rt: HostRuntime) {
-    let module = module_of(&rt, rt.alloc(), b"(type b)(type b)");
-    let joined = unsorted(rt.alloc(), &module, &module).expect(&rt, "memory");
-    let same = are_in_order(joined.modules.as_slice());
-    assert!(rt; same);
-}
-
-// Their policy, where no name is declared again.
-fn bound<'m>(rt: &impl Abort, alloc: Global, joined: &Joined<'m>) -> Policy<'m>
-    requires { (modules : List Module) × AreSpelt joined.now.modules.items modules }
-    ensures { (policy : List Placed) × IsBoundTo result joined.now.modules.items policy }
-{
-    match Policy::of(alloc, joined).expect(rt, "memory") {
-        Joining::Once(policy) => policy,
-        Joining::Twice(_) => panic!(rt; "a name is declared again"),
-    }
-}
-
 const FIRST: &[u8] = b"(type t)(class c (p))(block b (type u)(allow t u (c (p))))
 (optional o (type v)(allow v .t (c (p))))";
 
@@ -135,50 +116,44 @@ const BOUND: [Kept; 2] = [
     ),
 ];
 
-// What the references of the statement of a place are bound to.
-fn references<'p>(policy: &'p Policy<'_>, place: usize) -> &'p [Option<u32>] {
-    if place < policy.bound.len() {
-        policy.bound.get(place)
-    } else {
-        &[]
-    }
-}
-
 // Whether so many statements are bound, and some of them to these.
 fn is_bound(policy: &Policy<'_>, len: usize, rows: &[Bound]) -> bool {
     for (place, want) in rows {
-        if references(policy, *place) != *want {
+        if *place >= policy.bound.len() || policy.bound.get(*place) != *want {
             return false;
         }
     }
     policy.bound.len() == len
 }
 
-// Whether a policy without the optionals that a row leaves out is bound as the row says.
+// Whether the policy without the optionals that a row leaves out is bound as the row says.
 fn is_kept(rt: &impl Abort, alloc: Global, joined: &Joined<'_>, row: &Kept) -> bool
     requires { (modules : List Module) × AreSpelt joined.now.modules.items modules }
 {
-    let (marks, len, rows) = row;
-    let policy = bound(rt, alloc, joined);
+    let (marks, len, rows) = *row;
+    let Joining::Once(policy) = Policy::of(alloc, joined).expect(rt, "memory") else {
+        panic!(rt; "a name is declared again")
+    };
     let kept = policy.restrict(alloc, joined, marks).expect(rt, "memory");
-    is_bound(&kept, *len, rows)
+    is_bound(&kept, len, rows)
+}
+
+// Whether all is bound, and the rest without an optional.
+fn are_bound(rt: &impl Abort, alloc: Global) -> bool {
+    let m = module_of(rt, alloc, FIRST);
+    let n = module_of(rt, alloc, SECOND);
+    let joined = joined(alloc, &m, &n).expect(rt, "memory");
+    is_kept(rt, alloc, &joined, &BOUND[0]) && is_kept(rt, alloc, &joined, &BOUND[1])
 }
 
 #[test]
-fn references_are_bound(rt: HostRuntime) {
-    let alloc = rt.alloc();
-    let (m, n) = (module_of(&rt, alloc, FIRST), module_of(&rt, alloc, SECOND));
-    let joined = joined(alloc, &m, &n).expect(&rt, "memory");
-    let [all, few] = BOUND;
-    let same = is_kept(&rt, alloc, &joined, &all) && is_kept(&rt, alloc, &joined, &few);
+fn modules_are_joined_and_bound(rt: HostRuntime) {
+    let module = module_of(&rt, rt.alloc(), b"(type b)(type b)");
+    let joined = unsorted(rt.alloc(), &module, &module).expect(&rt, "memory");
+    let same = are_in_order(joined.modules.as_slice());
+    assert!(rt; same, "the order of modules");
+    let same = are_bound(&rt, rt.alloc());
     assert!(rt; same);
-}
-
-/// What the modules m and n of two texts resolve to.
-pub fn resolved(rt: &impl Abort, alloc: Global, m: &[u8], n: &[u8]) -> Resolved {
-    let (m, n) = (module_of(rt, alloc, m), module_of(rt, alloc, n));
-    let joined = joined(alloc, &m, &n).expect(rt, "memory");
-    resolve(alloc, &joined).expect(rt, "a policy")
 }
 
 /// The code and the module of a fault, its place by offset, line and column, and its word.
@@ -199,12 +174,28 @@ fn is_told(fault: &PolicyFault<'_>, want: &Told) -> bool {
     }
 }
 
-/// Whether that is the first fault of the policy of the modules m and n of two texts.
-pub fn is_refused(rt: &impl Abort, alloc: Global, m: &[u8], n: &[u8], want: &Told) -> bool {
-    let (m, n) = (module_of(rt, alloc, m), module_of(rt, alloc, n));
+/// What the modules m and n of two texts resolve to, or whether that is the first fault of their
+/// policy.
+pub fn outcome(
+    rt: &impl Abort,
+    alloc: Global,
+    m: &[u8],
+    n: &[u8],
+    want: &Told,
+) -> Result<Resolved, bool> {
+    let m = module_of(rt, alloc, m);
+    let n = module_of(rt, alloc, n);
     let joined = joined(alloc, &m, &n).expect(rt, "memory");
     match resolve(alloc, &joined) {
-        Ok(_) => false,
-        Err(fault) => is_told(&fault, want),
+        Ok(policy) => Ok(policy),
+        Err(fault) => Err(is_told(&fault, want)),
     }
+}
+
+/// What the modules m and n of two texts resolve to.
+pub fn resolved(rt: &impl Abort, alloc: Global, m: &[u8], n: &[u8]) -> Resolved {
+    let Ok(policy) = outcome(rt, alloc, m, n, &(0, "", (0, 0, 0), "")) else {
+        panic!(rt; "a policy has a fault")
+    };
+    policy
 }

@@ -1,10 +1,7 @@
 //! What small policies resolve to.
 
 use crate::policies::resolved;
-use crate::shown::{shown, shown_if};
-use cil_resolve::{
-    ClassView, Element, ElementView, Meter, NameView, Resolved, RuleView, SetView, TargetView,
-};
+use cil_resolve::{Element, ElementView, Meter, NameView, Resolved, RuleView, SetView, TargetView};
 use cil_text::RuleKind;
 
 const CLASS_AND_TYPE: &[u8] = b"(class p (use))(type a)";
@@ -13,18 +10,6 @@ const RULE: &[u8] = b"(allow a a (p (use)))";
 
 const SETS: &[u8] = b"(type a)(type b)(typeattribute s)(typeattribute n)\
 (typeattributeset n (not (s)))(typeattributeset s (a))";
-
-// The module, the name and the offset of a type or an attribute.
-fn name_seen<'a>(view: Option<NameView<'a>>) -> Option<(&'a str, &'a str, u32)> {
-    let view = view?;
-    Some((shown(view.module), shown(view.name), view.at.offset))
-}
-
-// The name of a class, and how many permissions it has.
-fn class_seen<'a>(view: Option<ClassView<'a>>) -> Option<(&'a str, usize)> {
-    let view = view?;
-    Some((shown(view.name), view.permissions))
-}
 
 // How many types, attributes, classes, rules and optionals that drop there are, and set statements and names.
 fn lengths(policy: &Resolved) -> [usize; 7] {
@@ -39,53 +24,49 @@ fn lengths(policy: &Resolved) -> [usize; 7] {
     ]
 }
 
+// Whether a type is that one of the module m.
+fn is_type(view: Option<NameView<'_>>, name: &[u8], offset: u32) -> bool {
+    match view {
+        Some(view) => {
+            view.module == b"m".as_slice() && view.name == name && view.at.offset == offset
+        }
+        None => false,
+    }
+}
+
 // What is known of a class and a type.
 fn has_class_and_type(policy: &Resolved) -> bool {
-    let names = [
-        name_seen(policy.type_at(0)),
-        name_seen(policy.type_at(1)),
-        name_seen(policy.attribute_at(0)),
-        name_seen(policy.dropped_at(0)),
-    ];
+    let Some(class) = policy.class_at(0) else {
+        return false;
+    };
     lengths(policy) == [1, 0, 1, 1, 0, 0, 3]
-        && names == [Some(("m", "a", 15)), None, None, None]
-        && class_seen(policy.class_at(0)) == Some(("p", 1))
-        && shown_if(policy.class_permission(0, 0)) == Some("use")
+        && is_type(policy.type_at(0), b"a", 15)
+        && policy.type_at(1).is_none()
+        && policy.attribute_at(0).is_none()
+        && policy.dropped_at(0).is_none()
+        && class.name == b"p".as_slice()
+        && class.permissions == 1
+        && policy.class_permission(0, 0) == Some(b"use".as_slice())
 }
 
-fn element_seen<'a>(element: ElementView<'a>) -> &'a str {
-    match element {
-        ElementView::Type(name) => shown(name),
-        ElementView::Attribute(_) => "an attribute",
-    }
+// Whether a rule of the module n allows a accesses to a by the class p and one permission.
+fn is_rule(view: &RuleView<'_>) -> bool {
+    let a = b"a".as_slice();
+    matches!(view.source, ElementView::Type(name) if name == a)
+        && matches!(view.target, TargetView::Element(ElementView::Type(name)) if name == a)
+        && view.module == b"n".as_slice()
+        && view.class == b"p".as_slice()
+        && view.kind == RuleKind::Allow
+        && view.permissions == 1
 }
-
-fn target_seen<'a>(target: TargetView<'a>) -> &'a str {
-    match target {
-        TargetView::Element(element) => element_seen(element),
-        TargetView::Itself => "self",
-    }
-}
-
-// A rule: its module, its kind, its source and its target where these are types, its class, and how many permissions it names.
-type Rule<'a> = (&'a str, RuleKind, &'a str, &'a str, &'a str, usize);
-
-fn rule_seen<'a>(view: Option<RuleView<'a>>) -> Option<Rule<'a>> {
-    let view = view?;
-    let (source, target) = (element_seen(view.source), target_seen(view.target));
-    let (module, class) = (shown(view.module), shown(view.class));
-    Some((module, view.kind, source, target, class, view.permissions))
-}
-
-const RULE_SEEN: Rule<'static> = ("n", RuleKind::Allow, "a", "a", "p", 1);
 
 // What is known of a rule: the names are a, p and use, and the rule's are numbers of these.
 fn has_rule(policy: &Resolved) -> bool {
-    let Some(rule) = policy.rules().first() else {
+    let (Some(rule), Some(view)) = (policy.rules().first(), policy.rule_at(0)) else {
         return false;
     };
-    rule_seen(policy.rule_at(0)) == Some(RULE_SEEN)
-        && shown_if(policy.rule_permission(0, 0)) == Some("use")
+    is_rule(&view)
+        && policy.rule_permission(0, 0) == Some(b"use".as_slice())
         && policy.rules().len() == 1
         && rule.source == Element::Type(0)
 }
@@ -99,42 +80,43 @@ fn a_rule_beside_a_class_and_a_type(rt: HostRuntime) {
     assert!(rt; names.len() == 3);
 }
 
-// The module, the attribute and the offset of a set statement, and how many names it has.
-fn set_seen<'a>(view: Option<SetView<'a>>) -> Option<(&'a str, &'a str, u32, usize)> {
-    let view = view?;
-    let (module, attribute) = (shown(view.module), shown(view.attribute));
-    Some((module, attribute, view.at.offset, view.names))
+// Whether a set statement of the module m and of one name sets that attribute there.
+fn is_set(view: Option<SetView<'_>>, attribute: &[u8], offset: u32) -> bool {
+    match view {
+        Some(view) => {
+            view.module == b"m".as_slice()
+                && view.attribute == attribute
+                && view.at.offset == offset
+                && view.names == 1
+        }
+        None => false,
+    }
 }
 
 // Of two set statements the first depends on the second.
 fn has_sets(policy: &Resolved) -> bool {
-    let sets = [
-        set_seen(policy.set_at(0)),
-        set_seen(policy.set_at(1)),
-        set_seen(policy.set_at(2)),
-    ];
-    let numbers = [
-        policy.set_attribute(0),
-        policy.attribute_number(0),
-        policy.type_number(1),
-    ];
     lengths(policy) == [2, 2, 1, 0, 0, 2, 6]
-        && sets == [Some(("m", "s", 80, 1)), Some(("m", "n", 50, 1)), None]
-        && numbers == [Some(4), Some(4), Some(1)]
+        && is_set(policy.set_at(0), b"s", 80)
+        && is_set(policy.set_at(1), b"n", 50)
+        && policy.set_at(2).is_none()
+        && policy.set_attribute(0) == Some(4)
+        && policy.attribute_number(0) == Some(4)
+        && policy.type_number(1) == Some(1)
         && policy.set_names(0).first().copied() == Some(Element::Type(0))
 }
 
-// Names, some of which are there, by their numbers.
+// Names, some of which are there, by their numbers, and the set statements told apart.
 fn has_numbers(policy: &Resolved) -> bool {
-    let numbers = [
-        policy.number(b"a"),
-        policy.number(b"use"),
-        policy.number(b"us"),
-        policy.number(b"z"),
-    ];
     policy.names_len() > 4
-        && shown(policy.name(4)) == "s"
-        && numbers == [Some(0), Some(5), None, None]
+        && policy.name(4) == b"s".as_slice()
+        && policy.number(b"a") == Some(0)
+        && policy.number(b"use") == Some(5)
+        && policy.number(b"us") == None
+        && policy.number(b"z") == None
+        && !policy.may_hold_any(0)
+        && policy.may_hold_any(1)
+        && policy.is_same_set(0, policy, 0)
+        && !policy.is_same_set(0, policy, 1)
 }
 
 // Whether a set statement holds a type that no attribute has.
@@ -153,17 +135,10 @@ fn evaluated(policy: &Resolved) -> ([bool; 3], u128, u128) {
     (held, meter.evaluations(), meter.adjustments())
 }
 
-fn are_told_apart(policy: &Resolved) -> bool {
-    !policy.may_hold_any(0)
-        && policy.may_hold_any(1)
-        && policy.is_same_set(0, policy, 0)
-        && !policy.is_same_set(0, policy, 1)
-}
-
 #[test]
 fn set_statements_in_the_order_of_dependence(rt: HostRuntime) {
     let policy = resolved(&rt, rt.alloc(), SETS, b"(class p (use))");
-    let same = has_sets(&policy) && has_numbers(&policy) && are_told_apart(&policy);
+    let same = has_sets(&policy) && has_numbers(&policy);
     assert!(rt; same);
     let same = evaluated(&policy) == ([true, false, true], 3, 0);
     assert!(rt; same);

@@ -69,22 +69,6 @@ fn seen<'a>(word: &Word<'a>) -> Name<'a> {
     (shown(word.text), word.at.offset)
 }
 
-fn target_seen<'a>(target: &Target<'a>) -> Name<'a> {
-    match target {
-        Target::Itself => ("self", 0),
-        Target::Named(word) => seen(word),
-    }
-}
-
-fn rule_word(kind: RuleKind) -> &'static str {
-    match kind {
-        RuleKind::Allow => "allow",
-        RuleKind::AuditAllow => "auditallow",
-        RuleKind::DontAudit => "dontaudit",
-        RuleKind::NeverAllow => "neverallow",
-    }
-}
-
 fn form(statement: &Statement<'_>) -> &'static str {
     match statement {
         Statement::Block { .. } => "block",
@@ -98,7 +82,12 @@ fn form(statement: &Statement<'_>) -> &'static str {
         Statement::Class { .. } => "class",
         Statement::ClassCommon { .. } => "classcommon",
         Statement::ClassOrder { .. } => "classorder",
-        Statement::Rule { kind, .. } => rule_word(*kind),
+        Statement::Rule { kind, .. } => match kind {
+            RuleKind::Allow => "allow",
+            RuleKind::AuditAllow => "auditallow",
+            RuleKind::DontAudit => "dontaudit",
+            RuleKind::NeverAllow => "neverallow",
+        },
     }
 }
 
@@ -121,7 +110,13 @@ fn names<'a>(statement: &Statement<'a>) -> [Name<'a>; 3] {
             target,
             class,
             ..
-        } => [seen(source), target_seen(target), seen(class)],
+        } => {
+            let target = match target {
+                Target::Itself => ("self", 0),
+                Target::Named(word) => seen(word),
+            };
+            [seen(source), target, seen(class)]
+        }
     }
 }
 
@@ -157,6 +152,16 @@ fn is_said(statement: &Statement<'_>, said: &Said<'_>) -> bool {
         }
     }
     form(statement) == word
+}
+
+// Whether statements are of such forms and names.
+fn are_said(found: &[Statement<'_>], want: &[Said<'_>]) -> bool {
+    for (statement, want) in found.iter().zip(want) {
+        if !is_said(statement, want) {
+            return false;
+        }
+    }
+    found.len() == want.len()
 }
 
 // The statements of a text.
@@ -212,30 +217,12 @@ const OF_BLOCK: &[Said<'static>] = &[("optional", &[("b", 19)], &[]), ("type", &
 
 const OF_OPTIONAL: &[Said<'static>] = &[("type", &[("c", 27)], &[])];
 
-// The statements inside a block or an optional.
-fn body<'s, 'a>(statement: &'s Statement<'a>) -> &'s [Statement<'a>] {
-    match statement {
-        Statement::Block { body, .. } | Statement::Optional { body, .. } => body.as_slice(),
-        _ => &[],
-    }
-}
-
-// Where a rule begins.
-fn place(statement: &Statement<'_>) -> Option<(u32, u32, u32)> {
-    match statement {
-        Statement::Rule { at, .. } => Some((at.offset, at.line, at.column)),
+// Where the first of some statements begins, if it is a rule.
+fn rule_place(found: &[Statement<'_>]) -> Option<(u32, u32, u32)> {
+    match found.first() {
+        Some(Statement::Rule { at, .. }) => Some((at.offset, at.line, at.column)),
         _ => None,
     }
-}
-
-// Whether statements are of such forms and names.
-fn are_said(found: &[Statement<'_>], want: &[Said<'_>]) -> bool {
-    for (statement, want) in found.iter().zip(want) {
-        if !is_said(statement, want) {
-            return false;
-        }
-    }
-    found.len() == want.len()
 }
 
 // Texts, what their statements are, and where the first of these begins, if it is a rule.
@@ -244,21 +231,21 @@ const TEXTS: &[(&[u8], &[Said<'static>], Option<(u32, u32, u32)>)] = &[
     (LISTS_TEXT, OF_LISTS, Some((0, 1, 1))),
 ];
 
-// Whether the first of some statements is a rule that begins there, or isn't a rule.
-fn begins_at(found: &[Statement<'_>], at: Option<(u32, u32, u32)>) -> bool {
-    match found.first() {
-        Some(first) => place(first) == at,
-        None => false,
+#[test]
+fn statements_and_their_names(rt: HostRuntime) {
+    for (i, (text, want, at)) in TEXTS.iter().enumerate() {
+        let module = shaped(&rt, rt.alloc(), text);
+        let found = module.statements.as_slice();
+        let same = are_said(found, want) && rule_place(found) == *at;
+        assert!(rt; same, "text {i}");
     }
 }
 
-#[test]
-fn statements_and_their_names(rt: HostRuntime) {
-    for (text, want, at) in TEXTS {
-        let module = shaped(&rt, rt.alloc(), text);
-        let found = module.statements.as_slice();
-        let same = are_said(found, want) && begins_at(found, *at);
-        assert!(rt; same);
+// The statements inside a block or an optional.
+fn body<'s, 'a>(statement: &'s Statement<'a>) -> &'s [Statement<'a>] {
+    match statement {
+        Statement::Block { body, .. } | Statement::Optional { body, .. } => body.as_slice(),
+        _ => &[],
     }
 }
 
@@ -273,59 +260,44 @@ fn is_nested(found: &[Statement<'_>], in_block: &[Said<'_>], in_optional: &[Said
     are_said(body(block), in_block) && are_said(body(optional), in_optional)
 }
 
+// Whether an expression is that name at that place.
+fn is_name(expr: &Expr<'_>, name: Name<'_>) -> bool {
+    matches!(expr, Expr::Name(word) if seen(word) == name)
+}
+
+// Whether the first statement sets an attribute by `(and (or b all) (xor (not c) ((all) d)))`, by
+// name and place.
+fn is_set(found: &[Statement<'_>]) -> bool {
+    let Some(Statement::TypeAttributeSet { expr, .. }) = found.first() else {
+        return false;
+    };
+    let Expr::And(either, one) = expr else {
+        return false;
+    };
+    let (Expr::Or(b, every), Expr::Xor(but, union)) = (&**either, &**one) else {
+        return false;
+    };
+    let (Expr::Not(c), Expr::Union(elements)) = (&**but, &**union) else {
+        return false;
+    };
+    let [first, second] = elements.as_slice() else {
+        return false;
+    };
+    matches!(&**every, Expr::All)
+        && matches!(first, Expr::All)
+        && is_name(b, ("b", 29))
+        && is_name(c, ("c", 46))
+        && is_name(second, ("d", 56))
+}
+
+const SET_TEXT: &[u8] = b"(typeattributeset a (and (or b all) (xor (not c) ((all) d))))";
+
 #[test]
 fn statements_within_statements(rt: HostRuntime) {
     let module = shaped(&rt, rt.alloc(), NESTED_TEXT);
     let same = is_nested(module.statements.as_slice(), OF_BLOCK, OF_OPTIONAL);
     assert!(rt; same);
-}
-
-// Whether the statement of a place sets an attribute by `(and (or b all) (xor (not c) ((all) d)))`, by name and place.
-fn is_set(module: &Module<'_>, place: usize) -> bool {
-    match module.statements.get(place) {
-        Some(Statement::TypeAttributeSet { expr, .. }) => is_and(expr),
-        _ => false,
-    }
-}
-
-fn is_and(expr: &Expr<'_>) -> bool {
-    matches!(expr, Expr::And(left, right) if is_or(left) && is_xor(right))
-}
-
-fn is_or(expr: &Expr<'_>) -> bool {
-    matches!(expr, Expr::Or(left, right) if is_name(left, ("b", 29)) && is_all(right))
-}
-
-fn is_xor(expr: &Expr<'_>) -> bool {
-    matches!(expr, Expr::Xor(left, right) if is_not(left) && is_union(right))
-}
-
-fn is_not(expr: &Expr<'_>) -> bool {
-    matches!(expr, Expr::Not(only) if is_name(only, ("c", 46)))
-}
-
-fn is_union(expr: &Expr<'_>) -> bool {
-    match expr {
-        Expr::Union(elements) => match elements.as_slice() {
-            [first, second] => is_all(first) && is_name(second, ("d", 56)),
-            _ => false,
-        },
-        _ => false,
-    }
-}
-
-fn is_all(expr: &Expr<'_>) -> bool {
-    matches!(expr, Expr::All)
-}
-
-fn is_name(expr: &Expr<'_>, name: Name<'_>) -> bool {
-    matches!(expr, Expr::Name(word) if seen(word) == name)
-}
-
-#[test]
-fn an_expression_with_each_operator(rt: HostRuntime) {
-    let text = b"(typeattributeset a (and (or b all) (xor (not c) ((all) d))))";
-    let module = shaped(&rt, rt.alloc(), text);
-    let same = is_set(&module, 0);
+    let module = shaped(&rt, rt.alloc(), SET_TEXT);
+    let same = is_set(module.statements.as_slice());
     assert!(rt; same);
 }

@@ -80,23 +80,24 @@ const CASES: &[Case] = &[
 
 const GOOD: &[u8] = b"(class p (use))(type a)(allow a a (p (use)))(neverallow a a (p (use)))";
 
-// Asserts what the program does with words, where its source gives so many bytes and its sinks take so many.
-fn assert_done<R: Files + RandomSource + Abort>(rt: &R, alloc: Global, case: &Case) {
+// Whether the program does that with words, where its source gives so many bytes and its sinks
+// take so many.
+fn is_done<R: Files + RandomSource + Abort>(rt: &R, alloc: Global, case: &Case) -> bool {
     let (words, given, printed, told, want) = *case;
     let mut source = MemorySource::with_limits(SCRIPT, 7, given);
     let mut out = MemorySink::with_limits(alloc, 3, printed);
     let mut err = MemorySink::with_limits(alloc, 3, told);
     let status = command(rt, alloc, words, &mut source, &mut out, &mut err);
-    let found = (status, shown(out.bytes()), shown(err.bytes()));
-    assert_eq!(rt; found, want, "at {words:?}");
+    (status, shown(out.bytes()), shown(err.bytes())) == want
 }
 
 #[test]
 fn devices_that_fail(rt: HostRuntime) {
     assert!(rt; fs::write(&rt, "failing_devices.cil", GOOD).is_ok());
     assert!(rt; fs::write(&rt, "failing_devices", b"(type").is_ok());
-    for case in CASES {
-        assert_done(&rt, rt.alloc(), case);
+    for (n, case) in CASES.iter().enumerate() {
+        let same = is_done(&rt, rt.alloc(), case);
+        assert!(rt; same, "case {n}");
     }
     assert!(rt; fs::remove_file(&rt, "failing_devices").is_ok());
     assert!(rt; fs::remove_file(&rt, "failing_devices.cil").is_ok());
@@ -108,36 +109,40 @@ const BASE: &[u8] = b"(class p (use))(type a)(neverallow a a (p (use)))";
 
 const PATHS: &[&str] = &["refused_growths_a.cil", "refused_growths_b.cil"];
 
-// Whether a growth was refused while files were read, from the nth on, and what came of them.
-fn read_at(rt: &impl Files, alloc: &Refusing<Global>, nth: u64) -> (bool, &'static str) {
+// Whether a growth was refused from the nth on, and whether what was asked for came to what it has
+// to then.
+type Told = (bool, bool);
+
+// Of files that are read.
+fn read_at(rt: &impl Files, alloc: &Refusing<Global>, nth: u64) -> Told {
     alloc.refuse_from(nth);
     let before = alloc.refused();
-    let said = match read_files(rt, alloc, PATHS) {
-        Ok(_) => "read",
-        Err(ReadFault::Memory) => "memory",
-        Err(ReadFault::Unreadable(_)) => "unreadable",
+    let (is_read, is_memory) = match read_files(rt, alloc, PATHS) {
+        Ok(_) => (true, false),
+        Err(ReadFault::Memory) => (false, true),
+        Err(ReadFault::Unreadable(_)) => (false, false),
     };
-    (alloc.refused() > before, said)
+    if alloc.refused() > before {
+        (true, is_memory)
+    } else {
+        (false, is_read)
+    }
 }
 
-#[test]
-fn growths_that_are_refused_while_files_are_read(rt: HostRuntime) {
-    assert!(rt; fs::write(&rt, "refused_growths_a.cil", RULE).is_ok());
-    assert!(rt; fs::write(&rt, "refused_growths_b.cil", BASE).is_ok());
-    let alloc = Refusing::new(rt.alloc());
-    let mut refused = 0;
-    for nth in 1..1000 {
-        let (is_refused, said) = read_at(&rt, &alloc, nth);
-        if !is_refused {
-            assert_eq!(rt; said, "read");
-            break;
+// How many growths are refused in turn until files are read, or the first that doesn't end as it
+// has to.
+fn refused_reads(rt: &impl Files, alloc: Global) -> Result<u64, u64> {
+    let alloc = Refusing::new(alloc);
+    for nth in 1..1000u64 {
+        let (is_refused, is_so) = read_at(rt, &alloc, nth);
+        if !is_so {
+            return Err(nth);
         }
-        assert_eq!(rt; said, "memory", "at {nth}");
-        refused = nth;
+        if !is_refused {
+            return Ok(nth - 1);
+        }
     }
-    assert!(rt; refused > 1 && refused < 999);
-    assert!(rt; fs::remove_file(&rt, "refused_growths_a.cil").is_ok());
-    assert!(rt; fs::remove_file(&rt, "refused_growths_b.cil").is_ok());
+    Err(1000)
 }
 
 const ENTRIES: &[Entry<'static>] = &[
@@ -163,8 +168,8 @@ const REPORTS: &[(Report, u8, &str)] = &[
     ),
 ];
 
-// Whether a growth was refused while entries were compiled, from the nth on. Asserts what comes of them.
-fn is_refused_at(rt: &impl Abort, heap: Global, report: &(Report, u8, &str), nth: u64) -> bool {
+// Of entries that are compiled.
+fn compiled_at(heap: Global, report: &(Report, u8, &str), nth: u64) -> Told {
     let (report, status, printed) = *report;
     let seed = Seed::fixed();
     let asked = Asked { report, seed };
@@ -175,23 +180,37 @@ fn is_refused_at(rt: &impl Abort, heap: Global, report: &(Report, u8, &str), nth
     let ended = compile_entries(&alloc, ENTRIES, asked, &mut out, &mut err);
     let found = (ended, shown(out.bytes()), shown(err.bytes()));
     if alloc.refused() > 0 {
-        assert_eq!(rt; found, (Ok(1), "", "refused 60 memory\n"), "at {nth}");
-        return true;
+        (true, found == (Ok(1), "", "refused 60 memory\n"))
+    } else {
+        (false, found == (Ok(status), printed, ""))
     }
-    assert_eq!(rt; found, (Ok(status), printed, ""));
-    false
+}
+
+// How many growths are refused in turn until entries are compiled, or the first that doesn't end
+// as it has to.
+fn refused_compilations(heap: Global, report: &(Report, u8, &str)) -> Result<u64, u64> {
+    for nth in 1..10_000u64 {
+        let (is_refused, is_so) = compiled_at(heap, report, nth);
+        if !is_so {
+            return Err(nth);
+        }
+        if !is_refused {
+            return Ok(nth - 1);
+        }
+    }
+    Err(10_000)
 }
 
 #[test]
-fn growths_that_are_refused_while_entries_are_compiled(rt: HostRuntime) {
+fn growths_that_are_refused(rt: HostRuntime) {
+    assert!(rt; fs::write(&rt, "refused_growths_a.cil", RULE).is_ok());
+    assert!(rt; fs::write(&rt, "refused_growths_b.cil", BASE).is_ok());
+    let refused = refused_reads(&rt, rt.alloc());
+    assert!(rt; refused.unwrap_or(0) > 1, "{refused:?}");
     for report in REPORTS {
-        let mut refused = 0;
-        for nth in 1..10_000 {
-            if !is_refused_at(&rt, rt.alloc(), report, nth) {
-                break;
-            }
-            refused = nth;
-        }
-        assert!(rt; refused > 1 && refused < 9_999);
+        let refused = refused_compilations(rt.alloc(), report);
+        assert!(rt; refused.unwrap_or(0) > 1, "{refused:?}");
     }
+    assert!(rt; fs::remove_file(&rt, "refused_growths_a.cil").is_ok());
+    assert!(rt; fs::remove_file(&rt, "refused_growths_b.cil").is_ok());
 }

@@ -8,14 +8,6 @@ use cil_stream::{MemorySink, SinkFault, SourceFault};
 use std::alloc::Global;
 use std::fmt::Display;
 
-#[test]
-fn the_line_of_the_greatest_number(rt: HostRuntime) {
-    let mut sink = MemorySink::new(rt.alloc());
-    let is_written = write_script_line(&mut sink, u64::MAX).is_ok();
-    let same = is_written && shown(sink.bytes()) == "script 18446744073709551616\n";
-    assert!(rt; same);
-}
-
 // Whether a fault is printed so.
 fn is_printed<T: Display>(alloc: Global, fault: &T, want: &str) -> bool {
     match format!(in alloc; "{fault}") {
@@ -25,8 +17,12 @@ fn is_printed<T: Display>(alloc: Global, fault: &T, want: &str) -> bool {
 }
 
 #[test]
-fn printed_faults(rt: HostRuntime) {
+fn greatest_number_and_printed_faults(rt: HostRuntime) {
     let alloc = rt.alloc();
+    let mut sink = MemorySink::new(alloc);
+    let is_written = write_script_line(&mut sink, u64::MAX).is_ok();
+    let same = is_written && shown(sink.bytes()) == "script 18446744073709551616\n";
+    assert!(rt; same);
     let (read, write) = (
         SessionFault::from(SourceFault),
         SessionFault::from(SinkFault),

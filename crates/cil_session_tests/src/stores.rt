@@ -1,6 +1,5 @@
 //! What a store says of names.
 
-use crate::shown::shown_if;
 use cil_store::{Compiled, Edit, Plain, Store};
 
 // Edits that a store takes: m has two texts, and n is disabled.
@@ -24,21 +23,21 @@ const TAKEN: &[Edit<'static>] = &[
 ];
 
 // Names, the text that counts of each, and whether it is disabled.
-const STATES: &[(&[u8], Option<&str>, bool)] = &[
-    (b"m", Some(";"), false),
+const STATES: &[(&[u8], Option<&[u8]>, bool)] = &[
+    (b"m", Some(b";"), false),
     (b"n", None, true),
     (b"q", None, false),
 ];
 
-fn is_named(store: &Store, name: &[u8], active: Option<&str>, is_disabled: bool) -> bool {
-    shown_if(store.active(name)) == active && store.is_disabled(name) == is_disabled
+fn is_named(store: &Store, name: &[u8], active: Option<&[u8]>, is_disabled: bool) -> bool {
+    store.active(name) == active && store.is_disabled(name) == is_disabled
 }
 
 // Whether n alone is disabled.
 fn has_disabled(store: &Store) -> bool {
     store.disabled_len() == 1
-        && shown_if(store.disabled(0)) == Some("n")
-        && shown_if(store.disabled(1)) == None
+        && store.disabled(0) == Some(b"n".as_slice())
+        && store.disabled(1) == None
 }
 
 #[test]
