@@ -4,7 +4,7 @@ ghost use Rattle.std.specs.Prelude.{◌≡◌, OnOk};
 ghost use Rattle.cil_table_updates.specs.Common.{evaluations_in, IsShort, AreLowered, AreMoved, AreRaised, CountAtLeast, NoneRises, RiseAtMost, StaysBefore, Adjusts, gives_it, replaces, shifts, given_as, given_by, HaveHeads, IsKnown, IsRuleOf};
 
 use crate::policy::Policy;
-use cil_keyed_lines::{KeyedLines, SymbolKey};
+use cil_keyed_lines::KeyedLines;
 use cil_resolve::{Meter, NumberedRule};
 use cil_rule_reach::{permission_symbols, rule_reach, symbol_of};
 use cil_rule_shifts::{Reach, RuleHead, shift_rule};

@@ -6,7 +6,7 @@ ghost use Rattle.cil_table_updates.specs.Common.{evaluations_in, below, AreLower
 use crate::changed_rows::ChangedRows;
 use crate::moves::{PolicyRule, put_rule, replace_rule, take_rule};
 use crate::policy::Policy;
-use cil_keyed_lines::{KeyedLines, SymbolKey};
+use cil_keyed_lines::KeyedLines;
 use cil_matching::RuleMatching;
 use cil_resolve::Meter;
 use std::alloc::{AllocError, Allocator, Global};
