@@ -62,13 +62,13 @@ abbrev pub steps_in : {A : Type 0} → Counters A → ℕ
 steps_in c = member_rows.steps_in c.rows + access_tables.steps_in c.tables
 
 -- There are no steps: the counters of these symbols are these, now and before.
-pub record AreReset {A : Type 0} (names : List (List ℕ)) (s : PolicySymbols A) (members : ℕ → ℕ → ℕ) (counts : SymbolKey → ℕ → ℕ) (c : Counters A) : Type 0 where
+pub record AreReset {A : Type 0} (symbols : List (List ℕ)) (s : PolicySymbols A) (rows : ℕ → ℕ → ℕ) (counts : SymbolKey → ℕ → ℕ) (c : Counters A) : Type 0 where
   pub none : steps_in c ≡ 0
-  pub names : c.names ≡ names
+  pub names : c.names ≡ symbols
   pub policy : c.policy ≡ s
   pub next : c.next ≡ None
-  pub members : (a t : ℕ) → member_rows.count_now c.rows a t ≡ members a t
-  pub members_before : (a t : ℕ) → member_rows.count_before c.rows a t ≡ members a t
+  pub members : (a t : ℕ) → member_rows.count_now c.rows a t ≡ rows a t
+  pub members_before : (a t : ℕ) → member_rows.count_before c.rows a t ≡ rows a t
   pub accesses : (key : SymbolKey) (t : ℕ) → access_tables.count_now c.tables key t ≡ counts key t
   pub accesses_before : (key : SymbolKey) (t : ℕ) → access_tables.count_before c.tables key t ≡ counts key t
 
