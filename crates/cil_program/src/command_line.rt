@@ -164,8 +164,10 @@ fn answer_compile<F: TextFiles, W: Sink, E: Sink>(
         Report::Listing
     };
     let asked = Asked { report, seed };
-    let paths = words.get_strs(FILES).unwrap_or(&[]);
-    compile_files(from, alloc, paths, asked, out, err)
+    match words.get_strs(FILES) {
+        Some(paths) => compile_files(from, alloc, paths, asked, out, err),
+        None => compile_files(from, alloc, &[], asked, out, err),
+    }
 }
 
 fn flush_both<W: Sink, E: Sink>(out: &mut W, err: &mut E) -> Result<(), SinkFault>
