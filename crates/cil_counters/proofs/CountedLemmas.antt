@@ -1,7 +1,7 @@
 -- The counters of a policy, when names come and when nothing has a name.
 use Rattle.cil_counters.proofs.Common.{◌≡◌, ◌↔◌, ◌||◌, inl, inr, true≢false, ℕ, ◌+◌, ◌<◌, ◌≤◌, ◌&&◌, Bool, true, false, List, [], ◌∷◌, length, cond, count_by, bytes_eq, nat_lt, slice_get, refl, sym, ap, ◌∙◌, subst, arith, zero-add, IsTrue, cases_lt, sum_by-cons, slice_get-get_or, slice_get_past, AreTheSame, HasSoundSets, SetStatement, AreNumbersOf, SymbolKey, meaning_in, sets_in, Resolved, AreCounts, atom_of, is_named, name_at, AreMembersOf, count_named, symbols_now, AreReset, AreSettled, AreSymbolsOf, AreTakenBack, IsCounted, IsCountedBy, IsNow, WasBefore}
 use Rattle.std.proofs.Math.Bool.{and-false}
-use Rattle.cil_specs.specs.Meaning.{Meaning, is_in, keeps_type, gives as rule_gives}
+use Rattle.cil_specs.specs.Meaning.{Meaning, is_in, gives as rule_gives}
 use Rattle.cil_member_updates.specs.Counts.{gives_member}
 use Rattle.cil_member_updates.proofs.CountLemmas.{counted-member}
 use Rattle.cil_member_updates.specs.Given.{gives, holds, is_of, of_name}

@@ -1,5 +1,5 @@
 -- What the counters of a policy tell by full names.
-use Rattle.cil_counters.proofs.Common.{◌≡◌, ℕ, ◌+◌, ◌<◌, ◌==◌, ◌&&◌, ◌||◌, Bool, true, false, List, [], ◌∷◌, length, map, cond, count_by, bytes_eq, nat_lt, slice_get, slice_index_or, Option, None, Some, position, refl, sym, ap, ◌∙◌, inl, inr, true≢false, zero-add, list_all, list_any, cases_Bool, lt-ltb, ltb-true, list_any_at, sum_by-cons, get_or_from_slice_get, slice_get_within, bytes_eq-Decides, AreTheSame, has_name, aims, count_of, keeps_type, is_member, keeps_attribute, HasSoundSets, kind_index, at_itself, at_element, rule_kind_of, RuleKind, SymbolKey, is_rule_below, meaning_in, name_in, sets_in, Resolved, found-name, symbol-of, atom_of, is_named, name_at, and-first, and-second, atom_with, count_at, has_at, IsCounted}
+use Rattle.cil_counters.proofs.Common.{◌≡◌, ℕ, ◌+◌, ◌<◌, ◌==◌, ◌&&◌, ◌||◌, Bool, true, false, List, [], ◌∷◌, length, map, cond, count_by, bytes_eq, nat_lt, slice_index_or, Option, None, Some, position, refl, sym, ap, ◌∙◌, inl, inr, true≢false, zero-add, list_all, list_any, cases_Bool, lt-ltb, ltb-true, list_any_at, sum_by-cons, get_or_from_slice_get, slice_get_within, bytes_eq-Decides, AreTheSame, has_name, aims, count_of, keeps_type, is_member, keeps_attribute, HasSoundSets, kind_index, at_itself, at_element, rule_kind_of, RuleKind, SymbolKey, is_rule_below, meaning_in, name_in, sets_in, Resolved, found-name, symbol-of, atom_of, is_named, name_at, and-first, and-second, atom_with, count_at, has_at, IsCounted}
 use Rattle.std.proofs.Math.Bool.{and-false}
 use Rattle.cil_specs.specs.Meaning.{gives, holds}
 use Rattle.cil_specs.specs.Rule as spec
