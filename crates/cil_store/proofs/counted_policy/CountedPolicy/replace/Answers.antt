@@ -11,7 +11,8 @@ settle-requires g c = subst (λ r. IsNow r c.update-updated.new.self) c.resolved
 
 pub returns-clause-changes : goal.returns-clause-changes
 returns-clause-changes g c =
-    let (before, after) = (c.args.meter.now, c.update-updated.new.meter) in
+    let before = c.args.meter.now in
+    let after = c.update-updated.new.meter in
     let done = c.in-Ok.ensures in
     subst (λ r. AreCountedChanges (meaning_in r) (meaning_in c.args.prepared.policy) before after c.in-Ok.changes) (c.resolved-old.ensures ∙ c.self.view_is)
     (subst (λ r. AreCountedChanges (meaning_in c.resolved-old.result.now) (meaning_in r) before after c.in-Ok.changes) c.resolved-new.ensures

@@ -11,7 +11,8 @@ settle-requires g c = subst (λ r. IsNow r c.update_counted-updated.new.self) c.
 
 pub returns-clause-changes : goal.returns-clause-changes
 returns-clause-changes g c =
-    let (before, after) = (c.args.meter.now, c.update_counted-updated.new.meter) in
+    let before = c.args.meter.now in
+    let after = c.update_counted-updated.new.meter in
     let done = c.in-Ok.ensures in
     let some = done.changes in
     subst (λ r. CountsSome (AreCountedChanges (meaning_in r) (meaning_in c.args.prepared.policy) before after) c.in-Ok.counts) (c.resolved-old.ensures ∙ c.self.view_is)

@@ -16,7 +16,8 @@ returns-clause-changes g c =
     let inside : Store = c.self.inside.store in
     let new : Store = c.replace-changes.new.store in
     let to : Store = c.args.prepared.store in
-    let (before, after) = (c.args.meter.now, c.replace-changes.new.meter) in
+    let before = c.args.meter.now in
+    let after = c.replace-changes.new.meter in
     subst (λ s. IfOk c.replace-changes.result (AreCountedBetween s new before after)) c.self.view_is
     (told-after inside new to (meaning_in c.in_ok-policy.policy) (meaning_in c.args.prepared.policy)
     (subst (IsMeaningOf inside) (sym c.in_ok-policy.ensures.ok) c.self.invariant) c.requires (λ m n changes. AreCountedChanges m n before after changes)

@@ -17,7 +17,8 @@ returns-in-Some-clause-changes g c =
     let inside : Store = c.self.inside.store in
     let new : Store = c.replace_counted-counts.new.store in
     let to : Store = c.args.prepared.store in
-    let (before, after) = (c.args.meter.now, c.replace_counted-counts.new.meter) in
+    let before = c.args.meter.now in
+    let after = c.replace_counted-counts.new.meter in
     let kept : c.self.inside.policy ≡ Some c.in-Some.policy = sym c.take.ensures.value ∙ c.in-Some.is in
     subst (λ s. IfOk c.replace_counted-counts.result (CountsSome (AreCountedBetween s new before after))) c.self.view_is
     (told-counted inside new to (meaning_in c.in-Some.policy) (meaning_in c.args.prepared.policy)
@@ -28,7 +29,8 @@ pub returns-in_ok-loaded-in-None-clause-changes : goal.returns-in_ok-loaded-in-N
 returns-in_ok-loaded-in-None-clause-changes g c =
     let inside : Store = c.self.inside.store in
     let to : Store = c.args.prepared.store in
-    let (before, after) = (c.args.meter.now, c.load_counted.new.meter) in
+    let before = c.args.meter.now in
+    let after = c.load_counted.new.meter in
     let counts = c.in_ok-loaded-in-None.loaded.counts in
     let none : c.self.inside.policy ≡ None = sym c.take.ensures.value ∙ c.in-None.is in
     subst (λ s. CountsSome (AreCountedBetween s to before after) counts) c.self.view_is
