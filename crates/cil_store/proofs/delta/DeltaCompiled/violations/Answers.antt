@@ -8,4 +8,4 @@ pub returns-in_ok-empty-in-None : goal.returns-in_ok-empty-in-None
 returns-in_ok-empty-in-None g c =
     let self = c.self.inside in
     let kept = means-at c.self.view_is c.self.invariant in
-    violations-of-store (λ found. found) c.violations-in-None.result c.args.self.now self.policy _ kept (c.in_ok-empty-in-None.ensures ∙ ap meaning_kept (sym c.in-None.is)) c.violations-in-None.ensures
+    violations-of-store (λ found. found) c.violations-in-None-2.result c.args.self.now self.policy _ kept (c.in_ok-empty-in-None.ensures ∙ ap meaning_kept (sym c.in-None.is)) c.violations-in-None-2.ensures
