@@ -11,7 +11,7 @@ pub use Rattle.cil_specs.specs.Meaning.{Meaning, Means, count_of, gives, is_in_t
 pub use Rattle.cil_specs.specs.Report.{AreAtoms, AreChanges, AreRows, Changes, Row, is_listed, name_cmp, names_rise}
 pub use Rattle.cil_specs.specs.Rule.{Atom, Declared, Rule, SetStatement}
 pub use Rattle.cil_store.specs.Calls.{call_of, reply_of}
-pub use Rattle.cil_store.specs.Counted.{AreCountedBetween, AreCountedChanges, IsCountedTo, IsKept, counted_meaning, meaning_kept}
+pub use Rattle.cil_store.specs.Counted.{AreCountedBetween, AreCountedChanges, AreCountersOf, meaning_kept}
 pub use Rattle.cil_store.specs.Edits.{edit_of, name_of, priority_of, refusal_of, store_refusal_of}
 pub use Rattle.cil_store.specs.Refusing.{AreRefused, AreStopped, IsRefusalOf, IsRefusalOfPolicy, IsRefusedBatch, IsRefusedEdit, IsRefusedPolicy, IsRefusedText}
 pub use Rattle.cil_store.specs.Stored.{AreParsedOf, AreSized, entry_of}
@@ -36,6 +36,5 @@ pub use Rattle.std.specs.List.Sorted.{IsPartitionPoint, IsPartitionedBy, IsPermu
 unfoldable pub use Rattle.std.specs.List.Sorted.{IsStrictlySortedBy}
 pub use Rattle.std.specs.Option.{MatchOption, is_some, option_map}
 pub use Rattle.std.specs.Ordering.{is_lt, nat_cmp, ordering_reverse, ordering_then}
-pub use Rattle.std.specs.Rc.{rc_value}
 pub use Rattle.std.specs.declared.cmp.Ordering.{Ordering}
 pub use Rattle.std.specs.declared.cmp.Ordering.TheVariants.{Equal, Greater, Less}

@@ -33,6 +33,10 @@ policy-refused (Found kind module_name at word) refusal store modules are first 
 pub store-meaning : (store : Store) (modules : List Module) (meaning : Meaning) → AreModules (active store) modules → (kept : Optionals) × Means (joined modules) kept meaning → IsMeaningOf store meaning
 store-meaning store modules meaning are means = record { policy = joined modules; kept = means.0; is_policy = (modules, are, refl); means = means.1 }
 
+-- what a store means, the same store does
+pub means-at : {store same : Store} {meaning : Meaning} → store ≡ same → IsMeaningOf store meaning → IsMeaningOf same meaning
+means-at {meaning = meaning} is meant = subst (λ s. IsMeaningOf s meaning) is meant
+
 -- an edit that the store refuses
 pub store-refused : (store : Store) (edit : Edit) (refusal meant : Refusal) → store_refusal store edit ≡ Some meant → IsRefusalOf refusal meant → IsRefusedEdit store edit refusal
 store-refused store edit refusal meant is (inl memory) = inl memory

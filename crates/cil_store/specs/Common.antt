@@ -8,7 +8,7 @@ pub use Rattle.cil_specs.specs.Report.{AreAtoms, Changes, Row, name_cmp, row_lin
 pub use Rattle.cil_specs.specs.Violations.{AreViolations, Violation, violations_text}
 pub use Rattle.cil_store.specs.Admitted.{IsAdmitted, admitted_edit}
 pub use Rattle.cil_store.specs.Calls.{IsCountedStep, IsRefusedStep, batch_reply, call_of, reply_of}
-pub use Rattle.cil_store.specs.Counted.{AreCountedBetween, IsKept, IsKeptWhere, IsUncounted, counted_meaning, meaning_kept}
+pub use Rattle.cil_store.specs.Counted.{AreCountedBetween, AreCountedChanges, AreCountersOf, IsUncounted, meaning_kept}
 pub use Rattle.cil_store.specs.Edits.{edit_of, fault_code, name_of, priority_of, refusal_of, store_refusal_of}
 pub use Rattle.cil_store.specs.Refusing.{AreRefused, AreStopped, IsRefusalOf, IsRefusalOfPolicy, IsRefusalOfText, IsRefusedBatch, IsRefusedEdit, IsRefusedPolicy, IsRefusedText}
 pub use Rattle.cil_store.specs.Stored.{AreParsedOf, entry_of}
@@ -18,4 +18,3 @@ pub use Rattle.cil_store_specs.specs.Store.{IsStore, Store, active, active_text,
 pub use Rattle.cil_stream.specs.Device.{Gains, GainsFront, HasFailed}
 pub use Rattle.std.specs.List.{list_all, list_any, prefix_len}
 pub use Rattle.std.specs.Ordering.{is_lt}
-pub use Rattle.std.specs.Rc.{rc_value}

@@ -2,21 +2,11 @@
 
 ghost use Rattle.std.specs.Prelude.{◌≡◌, [], map, IfErr, IfOk, OnErr, OnOk};
 ghost use Rattle.std.specs.Rc.{rc_value};
-ghost use Rattle.cil_specs.specs.Meaning.{count_of, is_in_table, meaning_of};
+ghost use Rattle.cil_specs.specs.Meaning.{count_of};
 ghost use Rattle.cil_specs.specs.Members.{is_member};
-ghost use Rattle.cil_specs.specs.Report.{AreAtoms};
-ghost use Rattle.cil_specs.specs.Violations.{AreViolations};
-ghost use Rattle.cil_counters.specs.ChangeCounts.{CountsSome};
-ghost use Rattle.cil_counters.specs.Counted.{steps_in, IsNow, WasBefore};
-ghost use Rattle.cil_resolve.specs.Resolved.{meaning_in};
+ghost use Rattle.cil_counters.specs.Counted.{IsNow};
 ghost use Rattle.cil_rules.specs.Atoms.{atom_of};
-ghost use Rattle.cil_rules.specs.Rows.{listed};
-ghost use Rattle.cil_store_specs.specs.Next.{AreTaken, IsMeaningOf, install_of};
-ghost use Rattle.cil_store_specs.specs.Store.{empty};
-ghost use Rattle.cil_store.specs.Counted.{counted_meaning, AreCountedChanges, IsKept};
-ghost use Rattle.cil_store.specs.Edits.{refusal_of};
-ghost use Rattle.cil_store.specs.Refusing.{AreRefused};
-ghost use Rattle.cil_store.specs.Stored.{entry_of};
+ghost use Rattle.cil_store.specs.Common.{is_in_table, meaning_of, AreAtoms, AreViolations, CountsSome, meaning_in, listed, AreTaken, IsMeaningOf, install_of, empty, AreCountedChanges, AreCountersOf, refusal_of, AreRefused, entry_of};
 
 use crate::batch::{installs, judge};
 use crate::dropped::Dropped;
@@ -30,163 +20,211 @@ use cil_resolve::{Meter, Resolved, resolved_sets_are_in_order};
 use cil_rules::{Atom, Changes, Table};
 use cil_violations::Violations;
 use std::alloc::{AllocError, Allocator, Global};
+use std::marker::Model;
 use std::rc::Rc;
 
-/// A policy that a counted one is brought to: resolved, with the optionals that drop.
+/// A resolved policy that can be shared, with the optionals that drop. Contracts see it as the
+/// resolved policy.
 #[derive(Drop)]
-pub struct NextPolicy<A: Allocator = Global> {
-    pub resolved: Rc<Resolved<A>, A>,
-    pub dropped: Dropped<A>,
-    ghost are_dropped: { dropped ≡ (meaning_in (rc_value resolved)).dropped },
+pub struct SharedPolicy<A: Allocator = Global> {
+    resolved: Rc<Resolved<A>, A>,
+    dropped: Dropped<A>,
 }
 
-impl<A: Allocator + Copy> NextPolicy<A> {
+impl<A: Allocator> Model for SharedPolicy<A> {
+    ghost use Rattle.std.specs.Prelude.{◌≡◌};
+    ghost use Rattle.std.specs.Coded.{codes};
+    ghost use Rattle.std.specs.Rc.{rc_value};
+    ghost use Rattle.std.proofs.Props.{props};
+    ghost use Rattle.cil_resolve.specs.Resolved.{meaning_in};
+    ghost use Rattle.cil_resolve.specs.declared.resolved.Resolved.{Resolved};
+
+    ghost Value = { Resolved A };
+
+    ghost coded = { Prim.hlevel (codes, props) };
+
+    ghost view = { λ p. rc_value p.resolved };
+
+    ghost invariant = { λ p. p.dropped ≡ (meaning_in (rc_value p.resolved)).dropped };
+}
+
+impl<A: Allocator + Copy> SharedPolicy<A> {
     /// A resolved policy with the optionals that drop.
     pub fn of(alloc: A, resolved: Resolved<A>) -> Result<Self, AllocError>
-        ensures { IfOk result (λ next. rc_value next.resolved ≡ resolved) }
+        ensures { IfOk result (λ policy. policy ≡ resolved) }
     {
         let dropped = Dropped::of(alloc, &resolved)?;
         let resolved = Rc::new(alloc, resolved)?;
-        Ok(NextPolicy { resolved, dropped })
+        Ok(SharedPolicy { resolved, dropped })
     }
 
-    /// The same policy, which is shared.
+    /// The same policy, which is shared. Out of memory stands also where no more owners can be
+    /// counted.
     pub fn share(&self, alloc: A) -> Result<Self, AllocError>
-        ensures { IfOk result (λ next. rc_value next.resolved ≡ rc_value self.now.resolved) }
+        ensures { IfOk result (λ policy. policy ≡ self.now) }
     {
         let dropped = self.dropped.copied(alloc)?;
-        Ok(NextPolicy {
+        Ok(SharedPolicy {
             resolved: self.resolved.clone()?,
             dropped,
         })
     }
+
+    /// The optionals that drop.
+    fn dropped(&self, alloc: A) -> Result<Dropped<A>, AllocError>
+        ensures { IfOk result (λ dropped. dropped ≡ (meaning_in self.now).dropped) }
+    {
+        self.dropped.copied(alloc)
+    }
 }
 
-/// A store that nothing is against, with its policy. What memory it needs is taken, but for that of the counters.
+impl<A: Allocator> SharedPolicy<A> {
+    /// The policy.
+    pub fn resolved(&self) -> &Resolved<A>
+        ensures { result.now ≡ self.now }
+    {
+        &self.resolved
+    }
+
+    /// The policy, for one more owner.
+    pub fn shared(&self) -> &Rc<Resolved<A>, A>
+        ensures { rc_value result.now ≡ self.now }
+    {
+        &self.resolved
+    }
+}
+
+/// A store that nothing is against, with its policy. What memory it needs is taken, but for that
+/// of the counters.
 #[derive(Drop)]
 pub struct Prepared<A: Allocator = Global> {
     pub store: Store<A>,
-    pub next: NextPolicy<A>,
+    pub policy: SharedPolicy<A>,
 }
 
 impl<A: Allocator + Copy> Prepared<A> {
-    /// The store that entries lead to, each of which is installed in turn in an empty store, whose tables of names are hashed by a seed.
-    /// The policy is judged once, at the end.
+    /// The store that entries lead to, each of which is installed in turn in an empty store, whose
+    /// tables of names are hashed by a seed. The policy is judged once, at the end.
     pub fn of(alloc: A, seed: Seed, entries: &[Entry<'_>]) -> Result<Self, Refusal<A>>
         ensures taken { IfOk result (λ prepared.
             AreTaken empty (map install_of (map entry_of entries.now)) prepared.store) }
-        ensures means { IfOk result (λ prepared. IsMeaningOf prepared.store
-            (meaning_in (rc_value prepared.next.resolved))) }
+        ensures means { IfOk result (λ prepared.
+            IsMeaningOf prepared.store (meaning_in prepared.policy)) }
         ensures err { IfErr result (λ refusal.
             AreRefused empty (map install_of (map entry_of entries.now)) (refusal_of refusal)) }
     {
         let edits = installs(alloc, entries)?;
         let judged = judge(alloc, &Store::new(alloc, seed), &edits)?;
-        let next = NextPolicy::of(alloc, judged.resolved)?;
+        let policy = SharedPolicy::of(alloc, judged.resolved)?;
         Ok(Prepared {
             store: judged.store,
-            next,
+            policy,
         })
     }
 }
 
-/// A policy that was loaded with its counters, and how many accesses it has more than that of no statement.
+/// A policy that was loaded with its counters, and how many accesses it has more than that of no
+/// statement.
 #[derive(Drop)]
 pub struct Loaded<A: Allocator = Global> {
     pub policy: CountedPolicy<A>,
     pub counts: ChangeCounts,
 }
 
-/// A resolved policy, the optionals that drop, and its counters: for each attribute and type how many set statements make the one a
-/// member of the other, and for each access how many rules give it.
+/// A resolved policy with its counters: for each attribute and type how many set statements make
+/// the one a member of the other, and for each access how many rules give it. Contracts see it as
+/// the resolved policy.
 #[derive(Drop)]
 pub struct CountedPolicy<A: Allocator = Global> {
-    resolved: Rc<Resolved<A>, A>,
-    dropped: Dropped<A>,
+    policy: SharedPolicy<A>,
     counters: Counters<A>,
+}
+
+impl<A: Allocator> Model for CountedPolicy<A> {
+    ghost use Rattle.std.specs.Coded.{codes};
+    ghost use Rattle.std.proofs.Props.{props};
+    ghost use Rattle.cil_resolve.specs.declared.resolved.Resolved.{Resolved};
+    ghost use Rattle.cil_store.specs.Counted.{AreCountersOf};
+
+    ghost Value = { Resolved A };
+
+    ghost coded = { Prim.hlevel (codes, props) };
+
+    ghost view = { λ p. p.policy };
+
+    ghost invariant = { λ p. AreCountersOf p.policy p.counters };
+}
+
+/// Keeps the steps of counters, and puts the policy to which they lead in place of another.
+fn settle<A: Allocator>(
+    policy: &mut SharedPolicy<A>,
+    counters: &mut Counters<A>,
+    next: SharedPolicy<A>,
+)
+    requires { IsNow next counters.old }
+    ensures policy { policy.new ≡ next }
+    ensures counters { AreCountersOf policy.new counters.new }
+{
+    counters.settle();
+    *policy = next;
 }
 
 impl<A: Allocator + Copy> CountedPolicy<A> {
     /// The policy of no statement. The tables of the names to come are hashed by a seed.
     pub fn empty(alloc: A, seed: Seed) -> Result<Self, AllocError>
-        ensures kept { IfOk result IsKept }
-        ensures meaning { IfOk result (λ policy. counted_meaning policy ≡ meaning_of [] []) }
-        ensures settled { IfOk result (λ policy. steps_in policy.counters ≡ 0) }
+        ensures { IfOk result (λ policy. meaning_in policy ≡ meaning_of [] []) }
     {
-        let next = NextPolicy::of(alloc, resolve_nothing(alloc)?)?;
-        resolved_sets_are_in_order(&next.resolved);
-        let counters = Counters::none(alloc, seed, &next.resolved)?;
-        Ok(CountedPolicy {
-            resolved: next.resolved,
-            dropped: next.dropped,
-            counters,
-        })
+        let policy = SharedPolicy::of(alloc, resolve_nothing(alloc)?)?;
+        let nothing = policy.resolved();
+        resolved_sets_are_in_order(nothing);
+        let counters = Counters::none(alloc, seed, nothing)?;
+        Ok(CountedPolicy { policy, counters })
     }
 
-    /// Brings the counters of the policy of no statement to those of another one, and answers how many changes there are. After an out of
-    /// memory they are of no use.
-    fn load(
-        &mut self,
-        alloc: A,
-        next: &Resolved<A>,
-        meter: &mut Meter,
-    ) -> Result<ChangeCounts, AllocError>
-        requires kept { IsKept self.old }
-        requires none { counted_meaning self.old ≡ meaning_of [] [] }
-        requires settled { steps_in self.old.counters ≡ 0 }
-        ensures now { OnOk result (IsNow next.now self.new.counters) }
-        ensures changes { IfOk result (CountsSome (AreCountedChanges (meaning_of [] []) (meaning_in next.now) meter.old meter.new)) }
-    {
-        resolved_sets_are_in_order(&self.resolved);
-        self.counters
-            .load_counted(alloc, &self.resolved, next, meter)
-    }
-
-    /// Counts a policy from nothing. The counters can't be led back: an out of memory gives them up.
+    /// Counts a policy from nothing, and answers how many changes there are. The counters can't be
+    /// led back: an out of memory gives them up.
     pub fn load_counted(
         alloc: A,
         seed: Seed,
-        next: NextPolicy<A>,
+        next: SharedPolicy<A>,
         meter: &mut Meter,
     ) -> Result<Loaded<A>, AllocError>
-        ensures kept { IfOk result (λ loaded. IsKept loaded.policy) }
-        ensures changes { IfOk result (λ loaded. CountsSome (AreCountedChanges (meaning_of [] [])
-            (meaning_in (rc_value next.resolved)) meter.old meter.new) loaded.counts) }
-        ensures meaning { IfOk result (λ loaded.
-            counted_meaning loaded.policy ≡ meaning_in (rc_value next.resolved)) }
+        ensures policy { IfOk result (λ loaded. loaded.policy ≡ next) }
+        ensures changes { IfOk result (λ loaded. CountsSome
+            (AreCountedChanges (meaning_of [] []) (meaning_in next) meter.old meter.new)
+            loaded.counts) }
     {
-        let mut policy = CountedPolicy::empty(alloc, seed)?;
-        let counts = policy.load(alloc, &next.resolved, meter)?;
-        policy.settle_on(next);
-        Ok(Loaded { policy, counts })
-    }
-
-    /// Brings the counters of the policy of no statement to those of another one. After an out of memory they are of no use.
-    fn fill(&mut self, alloc: A, next: &Resolved<A>) -> Result<(), AllocError>
-        requires kept { IsKept self.old }
-        requires none { counted_meaning self.old ≡ meaning_of [] [] }
-        requires settled { steps_in self.old.counters ≡ 0 }
-        ensures { OnOk result (IsNow next.now self.new.counters) }
-    {
-        resolved_sets_are_in_order(&self.resolved);
-        self.counters
-            .load(alloc, &self.resolved, next, &mut Meter::new())
+        let CountedPolicy {
+            mut policy,
+            mut counters,
+        } = CountedPolicy::empty(alloc, seed)?;
+        let nothing = policy.resolved();
+        resolved_sets_are_in_order(nothing);
+        let counts = counters.load_counted(alloc, nothing, next.resolved(), meter)?;
+        settle(&mut policy, &mut counters, next);
+        Ok(Loaded {
+            policy: CountedPolicy { policy, counters },
+            counts,
+        })
     }
 
     /// A policy with counters of its own, which are loaded from nothing.
-    pub fn load_anew(alloc: A, seed: Seed, next: &NextPolicy<A>) -> Result<Self, AllocError>
-        ensures kept { IfOk result IsKept }
-        ensures meaning { IfOk result (λ policy. counted_meaning policy ≡ meaning_in (rc_value next.now.resolved)) }
+    pub fn load_anew(alloc: A, seed: Seed, next: &SharedPolicy<A>) -> Result<Self, AllocError>
+        ensures { IfOk result (λ policy. policy ≡ next.now) }
     {
         let next = next.share(alloc)?;
-        let mut policy = CountedPolicy::empty(alloc, seed)?;
-        policy.fill(alloc, &next.resolved)?;
-        policy.settle_on(next);
-        Ok(policy)
+        let CountedPolicy {
+            mut policy,
+            mut counters,
+        } = CountedPolicy::empty(alloc, seed)?;
+        let meter = &mut Meter::new();
+        counters.load(alloc, policy.resolved(), next.resolved(), meter)?;
+        settle(&mut policy, &mut counters, next);
+        Ok(CountedPolicy { policy, counters })
     }
 
-    /// Brings the counters to those of another policy, and puts it and its store in place of this one and its own. An out of memory leaves
-    /// all as it was but the meter.
+    /// Brings the counters to those of another policy, and puts it and its store in place of this
+    /// one and its own. An out of memory leaves all as it was but the meter.
     pub fn replace(
         &mut self,
         alloc: A,
@@ -194,23 +232,22 @@ impl<A: Allocator + Copy> CountedPolicy<A> {
         prepared: Prepared<A>,
         meter: &mut Meter,
     ) -> Result<Changes<A>, AllocError>
-        requires { IsKept self.old }
-        ensures kept { IsKept self.new }
-        ensures changes { IfOk result (AreCountedChanges (counted_meaning self.old)
-            (meaning_in (rc_value prepared.next.resolved)) meter.old meter.new) }
-        ensures meaning { OnOk result (counted_meaning self.new ≡ meaning_in (rc_value prepared.next.resolved)) }
+        ensures changes { IfOk result (AreCountedChanges
+            (meaning_in self.old) (meaning_in prepared.policy) meter.old meter.new) }
+        ensures policy { OnOk result (self.new ≡ prepared.policy) }
         ensures store { OnOk result (store.new ≡ prepared.store) }
+        ensures err_policy { OnErr result (self.new ≡ self.old) }
         ensures err_store { OnErr result (store.new ≡ store.old) }
-        ensures err_meaning { OnErr result (counted_meaning self.new ≡ counted_meaning self.old) }
     {
-        let updated = self
-            .counters
-            .update(alloc, &self.resolved, &prepared.next.resolved, meter);
+        let old = self.policy.shared();
+        let new = prepared.policy.shared();
+        let updated = self.counters.update(alloc, old, new, meter);
         let Ok(changes) = updated else {
             self.counters.undo();
             return Err(AllocError);
         };
-        self.take_over(store, prepared);
+        settle(&mut self.policy, &mut self.counters, prepared.policy);
+        *store = prepared.store;
         Ok(changes)
     }
 
@@ -222,90 +259,64 @@ impl<A: Allocator + Copy> CountedPolicy<A> {
         prepared: Prepared<A>,
         meter: &mut Meter,
     ) -> Result<ChangeCounts, AllocError>
-        requires { IsKept self.old }
-        ensures kept { IsKept self.new }
-        ensures changes { IfOk result (CountsSome (AreCountedChanges (counted_meaning self.old)
-            (meaning_in (rc_value prepared.next.resolved)) meter.old meter.new)) }
-        ensures meaning { OnOk result (counted_meaning self.new ≡ meaning_in (rc_value prepared.next.resolved)) }
+        ensures changes { IfOk result (CountsSome (AreCountedChanges
+            (meaning_in self.old) (meaning_in prepared.policy) meter.old meter.new)) }
+        ensures policy { OnOk result (self.new ≡ prepared.policy) }
         ensures store { OnOk result (store.new ≡ prepared.store) }
+        ensures err_policy { OnErr result (self.new ≡ self.old) }
         ensures err_store { OnErr result (store.new ≡ store.old) }
-        ensures err_meaning { OnErr result (counted_meaning self.new ≡ counted_meaning self.old) }
     {
-        let updated = self
-            .counters
-            .update_counted(alloc, &self.resolved, &prepared.next.resolved, meter);
+        let old = self.policy.resolved();
+        let new = prepared.policy.resolved();
+        let updated = self.counters.update_counted(alloc, old, new, meter);
         let Ok(counts) = updated else {
             self.counters.undo();
             return Err(AllocError);
         };
-        self.take_over(store, prepared);
-        Ok(counts)
-    }
-
-    /// Puts the policy to which the counters were brought in place of this one.
-    fn settle_on(&mut self, next: NextPolicy<A>)
-        requires { IsNow (rc_value next.resolved) self.old.counters }
-        ensures kept { IsKept self.new }
-        ensures meaning { counted_meaning self.new ≡ meaning_in (rc_value next.resolved) }
-    {
-        self.counters.settle();
-        self.resolved = next.resolved;
-        self.dropped = next.dropped;
-    }
-
-    /// Puts the policy to which the counters were brought in place of this one, and its store in place of another.
-    fn take_over(&mut self, store: &mut Store<A>, prepared: Prepared<A>)
-        requires { IsNow (rc_value prepared.next.resolved) self.old.counters }
-        ensures kept { IsKept self.new }
-        ensures store { store.new ≡ prepared.store }
-        ensures meaning { counted_meaning self.new ≡ meaning_in (rc_value prepared.next.resolved) }
-    {
+        settle(&mut self.policy, &mut self.counters, prepared.policy);
         *store = prepared.store;
-        self.settle_on(prepared.next);
+        Ok(counts)
     }
 
     /// The accesses that its rules give, but for those of neverallow, which a listing doesn't have.
     pub fn table(&self, alloc: A) -> Result<Table<A>, AllocError>
-        requires { IsKept self.now }
-        ensures { IfOk result (λ table. AreAtoms (listed (is_in_table (counted_meaning self.now))) table) }
+        ensures { IfOk result (λ table.
+            AreAtoms (listed (is_in_table (meaning_in self.now))) table) }
     {
-        self.counters.table(alloc, &self.resolved)
+        self.counters.table(alloc, self.policy.shared())
     }
 
     /// The optionals that drop.
     pub fn dropped(&self, alloc: A) -> Result<Dropped<A>, AllocError>
-        requires { IsKept self.now }
-        ensures { IfOk result (λ dropped. dropped ≡ (counted_meaning self.now).dropped) }
+        ensures { IfOk result (λ dropped. dropped ≡ (meaning_in self.now).dropped) }
     {
-        self.dropped.copied(alloc)
+        self.policy.dropped(alloc)
     }
 
     /// Its violations.
     pub fn violations(&self, alloc: A) -> Result<Violations<A>, AllocError>
-        requires { IsKept self.now }
-        ensures { IfOk result (AreViolations (counted_meaning self.now)) }
+        ensures { IfOk result (AreViolations (meaning_in self.now)) }
     {
-        self.counters.violations(alloc, &self.resolved)
+        self.counters.violations(alloc, self.policy.shared())
     }
 }
 
 impl<A: Allocator> CountedPolicy<A> {
     /// Whether a type is a member of an attribute, by full names. It takes no memory.
     pub fn has(&self, attribute: &[u8], ty: &[u8]) -> bool
-        requires { IsKept self.now }
-        ensures { result ≡ is_member (counted_meaning self.now) attribute.now ty.now }
+        ensures { result ≡ is_member (meaning_in self.now) attribute.now ty.now }
     {
-        counters_tell_members(&self.resolved, &self.counters);
+        counters_tell_members(self.policy.resolved(), &self.counters);
         self.counters.has(attribute, ty)
     }
 
     /// How many of its rules give an access. It takes no memory.
     pub fn count(&self, access: &Atom<'_>) -> u64
-        requires { IsKept self.now }
-        ensures { result ≡ count_of (counted_meaning self.now) (atom_of access.now) }
+        ensures { result ≡ count_of (meaning_in self.now) (atom_of access.now) }
     {
-        counters_tell_accesses(&self.resolved, &self.counters);
-        self.resolved.rules_len();
+        let policy = self.policy.resolved();
+        counters_tell_accesses(policy, &self.counters);
+        policy.rules_len();
         self.counters.count(
             access.kind,
             access.source,

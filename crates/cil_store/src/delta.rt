@@ -1,11 +1,11 @@
 //! The engine that changes its counters in place.
 
 ghost use Rattle.std.specs.Prelude.{◌≡◌, false, map, IfErr, IfOk, OnErr, OnOk};
-ghost use Rattle.cil_store.specs.Common.{rc_value, Meaning, is_in_table, AreAtoms, CountsSome, meaning_in, listed, AreTaken, IsMeaningOf, Of, accepts, install_of, is_too_long, a_batch, an_edit, Step, empty, batch_reply, IsCountedStep, IsRefusedStep, counted_meaning, meaning_kept, AreCountedBetween, IsKept, IsKeptWhere, IsUncounted, edit_of, refusal_of, AreRefused, IsRefusedBatch, entry_of};
+ghost use Rattle.cil_store.specs.Common.{Meaning, is_in_table, AreAtoms, CountsSome, meaning_in, listed, AreTaken, IsMeaningOf, Of, accepts, install_of, is_too_long, a_batch, an_edit, Step, empty, batch_reply, IsCountedStep, IsRefusedStep, meaning_kept, AreCountedBetween, IsUncounted, edit_of, refusal_of, AreRefused, IsRefusedBatch, entry_of};
 
 use crate::batch::judge_batch;
 use crate::compiled::{Compiled, WriteFault};
-use crate::counted_policy::{CountedPolicy, NextPolicy, Prepared};
+use crate::counted_policy::{CountedPolicy, Prepared, SharedPolicy};
 use crate::dropped::Dropped;
 use crate::edit::Edit;
 use crate::entry::Entry;
@@ -32,14 +32,15 @@ pub struct Delta<A: Allocator = Global> {
 }
 
 impl<A: Allocator> Model for Delta<A> {
+    ghost use Rattle.cil_store_specs.specs.Next.{IsMeaningOf};
     ghost use Rattle.cil_store_specs.specs.Store.{Store};
-    ghost use Rattle.cil_store.specs.Counted.{IsCountedTo};
+    ghost use Rattle.cil_store.specs.Counted.{meaning_kept};
 
     ghost Value = { Store };
 
     ghost view = { λ d. d.store };
 
-    ghost invariant = { λ d. IsCountedTo d.store d.policy };
+    ghost invariant = { λ d. IsMeaningOf d.store (meaning_kept d.policy) };
 }
 
 /// Takes out the policy that is kept, or makes that of no statement where none is.
@@ -48,9 +49,7 @@ fn take_policy<A: Allocator + Copy>(
     seed: Seed,
     policy: &mut Option<CountedPolicy<A>>,
 ) -> Result<CountedPolicy<A>, AllocError>
-    requires { IsKeptWhere policy.old }
-    ensures kept { IfOk result IsKept }
-    ensures meaning { IfOk result (λ taken. counted_meaning taken ≡ meaning_kept policy.old) }
+    ensures ok { IfOk result (λ taken. meaning_in taken ≡ meaning_kept policy.old) }
     ensures err { OnErr result (policy.new ≡ policy.old) }
 {
     match policy.take() {
@@ -87,7 +86,7 @@ impl<A: Allocator + Copy> Delta<A> {
             AreRefused empty (map install_of (map entry_of entries.now)) (refusal_of refusal)) }
     {
         let prepared = Prepared::of(alloc, seed, entries)?;
-        let loaded = CountedPolicy::load_counted(alloc, seed, prepared.next, &mut Meter::new())?;
+        let loaded = CountedPolicy::load_counted(alloc, seed, prepared.policy, &mut Meter::new())?;
         Ok(Delta {
             alloc,
             seed,
@@ -102,7 +101,7 @@ impl<A: Allocator + Copy> Delta<A> {
         prepared: Prepared<A>,
         meter: &mut Meter,
     ) -> Result<Changes<A>, AllocError>
-        requires { IsMeaningOf prepared.store (meaning_in (rc_value prepared.next.resolved)) }
+        requires { IsMeaningOf prepared.store (meaning_in prepared.policy) }
         ensures ok { OnOk result (self.new ≡ prepared.store) }
         ensures changes { IfOk result (AreCountedBetween self.old self.new meter.old meter.new) }
         ensures err { OnErr result (self.new ≡ self.old) }
@@ -120,7 +119,7 @@ impl<A: Allocator + Copy> Delta<A> {
         prepared: Prepared<A>,
         meter: &mut Meter,
     ) -> Result<ChangeCounts, AllocError>
-        requires { IsMeaningOf prepared.store (meaning_in (rc_value prepared.next.resolved)) }
+        requires { IsMeaningOf prepared.store (meaning_in prepared.policy) }
         ensures ok { OnOk result (self.new ≡ prepared.store) }
         ensures changes { IfOk result (CountsSome (AreCountedBetween self.old self.new meter.old meter.new)) }
         ensures err { OnErr result (self.new ≡ self.old) }
@@ -135,7 +134,7 @@ impl<A: Allocator + Copy> Delta<A> {
                 let loaded = CountedPolicy::load_counted(
                     self.alloc,
                     self.seed,
-                    prepared.next,
+                    prepared.policy,
                     meter,
                 )?;
                 self.store = prepared.store;
@@ -146,17 +145,15 @@ impl<A: Allocator + Copy> Delta<A> {
     }
 
     /// A policy with counters of its own, which are loaded from nothing.
-    pub(crate) fn load_anew(&self, next: &NextPolicy<A>) -> Result<CountedPolicy<A>, AllocError>
-        ensures kept { IfOk result IsKept }
-        ensures meaning { IfOk result (λ policy. counted_meaning policy ≡ meaning_in (rc_value next.now.resolved)) }
+    pub(crate) fn load_anew(&self, next: &SharedPolicy<A>) -> Result<CountedPolicy<A>, AllocError>
+        ensures { IfOk result (λ policy. policy ≡ next.now) }
     {
         CountedPolicy::load_anew(self.alloc, self.seed, next)
     }
 
     /// Puts a policy of the store in place of the one that is kept.
     pub(crate) fn put(&mut self, policy: CountedPolicy<A>)
-        requires kept { IsKept policy }
-        requires meaning { IsMeaningOf self.old (counted_meaning policy) }
+        requires { IsMeaningOf self.old (meaning_in policy) }
         ensures { self.new ≡ self.old }
     {
         self.policy = Some(policy);
@@ -167,15 +164,15 @@ impl<A: Allocator + Copy> Delta<A> {
         ensures short { OnOk result (is_too_long (map edit_of edits.now) ≡ false) }
         ensures meant { OnOk result ((before : Meaning) × IsMeaningOf self.now before) }
         ensures taken { IfOk result (λ prepared. AreTaken self.now (map edit_of edits.now) prepared.store) }
-        ensures means { IfOk result (λ prepared. IsMeaningOf prepared.store
-            (meaning_in (rc_value prepared.next.resolved))) }
+        ensures means { IfOk result (λ prepared.
+            IsMeaningOf prepared.store (meaning_in prepared.policy)) }
         ensures err { IfErr result (λ refusal. IsRefusedBatch self.now (map edit_of edits.now) (refusal_of refusal)) }
     {
         let judged = judge_batch(self.alloc, &self.store, edits)?;
-        let next = NextPolicy::of(self.alloc, judged.resolved)?;
+        let policy = SharedPolicy::of(self.alloc, judged.resolved)?;
         Ok(Prepared {
             store: judged.store,
-            next,
+            policy,
         })
     }
 

@@ -83,7 +83,7 @@ impl<A: Allocator + Copy> Compiled<A> for Plain<A> {
 
     fn batch(&mut self, edits: &[Edit<'_>]) -> Result<Changes<A>, Refusal<A>> {
         let prepared = self.delta.prepare(edits)?;
-        let anew = self.delta.load_anew(&prepared.next)?;
+        let anew = self.delta.load_anew(&prepared.policy)?;
         let changes = self.delta.replace(prepared, &mut Meter::new())?;
         self.delta.put(anew);
         Ok(changes)

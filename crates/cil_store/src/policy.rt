@@ -1,10 +1,10 @@
 //! Entries that are compiled at once.
 
 ghost use Rattle.std.specs.Prelude.{◌≡◌, ◌≤◌, List, IfErr, IfOk, IsErrOf, OnErr, flat_map, length, map};
-ghost use Rattle.cil_store.specs.Common.{rc_value, HasFailed, Gains, GainsFront, is_in_table, AreAtoms, Row, row_line, Violation, AreViolations, violations_text, meaning_in, listed, Of, accepts, install_of, AreRowsOf, AreViolationsOf, empty, refusal_of, AreRefused, entry_of};
+ghost use Rattle.cil_store.specs.Common.{HasFailed, Gains, GainsFront, is_in_table, AreAtoms, Row, row_line, Violation, AreViolations, violations_text, meaning_in, listed, Of, accepts, install_of, AreRowsOf, AreViolationsOf, empty, refusal_of, AreRefused, entry_of};
 
 use crate::compiled::WriteFault;
-use crate::counted_policy::{CountedPolicy, NextPolicy, Prepared};
+use crate::counted_policy::{CountedPolicy, Prepared, SharedPolicy};
 use crate::entry::Entry;
 use crate::modules::Store;
 use crate::refusal::Refusal;
@@ -24,11 +24,10 @@ pub struct Policy<A: Allocator = Global> {
     alloc: A,
     seed: Seed,
     store: Store<A>,
-    next: NextPolicy<A>,
+    policy: SharedPolicy<A>,
 }
 
 impl<A: Allocator> Model for Policy<A> {
-    ghost use Rattle.std.specs.Rc.{rc_value};
     ghost use Rattle.cil_resolve.specs.Resolved.{meaning_in};
     ghost use Rattle.cil_store_specs.specs.Next.{IsMeaningOf};
     ghost use Rattle.cil_store_specs.specs.Store.{Store};
@@ -37,32 +36,33 @@ impl<A: Allocator> Model for Policy<A> {
 
     ghost view = { λ p. p.store };
 
-    ghost invariant = { λ p. IsMeaningOf p.store (meaning_in (rc_value p.next.resolved)) };
+    ghost invariant = { λ p. IsMeaningOf p.store (meaning_in p.policy) };
 }
 
 /// The accesses that a listing of a policy has, counted from nothing.
 fn table_of<A: Allocator + Copy>(
     alloc: A,
     seed: Seed,
-    next: &NextPolicy<A>,
+    policy: &SharedPolicy<A>,
 ) -> Result<Table<A>, AllocError>
-    ensures { IfOk result (λ table. AreAtoms (listed (is_in_table (meaning_in (rc_value next.now.resolved)))) table) }
+    ensures { IfOk result (λ table.
+        AreAtoms (listed (is_in_table (meaning_in policy.now))) table) }
 {
-    let policy = CountedPolicy::load_anew(alloc, seed, next)?;
-    policy.table(alloc)
+    let counted = CountedPolicy::load_anew(alloc, seed, policy)?;
+    counted.table(alloc)
 }
 
 /// The violations of a policy. No access is counted.
 fn violations_of<A: Allocator + Copy>(
     alloc: A,
     seed: Seed,
-    next: &NextPolicy<A>,
+    policy: &SharedPolicy<A>,
 ) -> Result<Violations<A>, AllocError>
-    ensures { IfOk result (AreViolations (meaning_in (rc_value next.now.resolved))) }
+    ensures { IfOk result (AreViolations (meaning_in policy.now)) }
 {
     let nothing = resolve_nothing(alloc)?;
     resolved_sets_are_in_order(&nothing);
-    violations_at_once(alloc, seed, &nothing, &next.resolved)
+    violations_at_once(alloc, seed, &nothing, policy.shared())
 }
 
 impl<A: Allocator + Copy> Policy<A> {
@@ -78,7 +78,7 @@ impl<A: Allocator + Copy> Policy<A> {
             alloc,
             seed,
             store: prepared.store,
-            next: prepared.next,
+            policy: prepared.policy,
         })
     }
 
@@ -93,7 +93,7 @@ impl<A: Allocator + Copy> Policy<A> {
         ensures failed { IsErrOf result WriteFault.Sink → HasFailed (W.failures sink.old) (W.failures sink.new) }
         ensures counted { W.failures sink.old ≤ W.failures sink.new }
     {
-        let Ok(table) = table_of(self.alloc, self.seed, &self.next) else {
+        let Ok(table) = table_of(self.alloc, self.seed, &self.policy) else {
             return Err(WriteFault::Memory);
         };
         match table.write_listing(sink) {
@@ -115,7 +115,7 @@ impl<A: Allocator + Copy> Policy<A> {
         ensures failed { IsErrOf result WriteFault.Sink → HasFailed (W.failures sink.old) (W.failures sink.new) }
         ensures counted { W.failures sink.old ≤ W.failures sink.new }
     {
-        let Ok(violations) = violations_of(self.alloc, self.seed, &self.next) else {
+        let Ok(violations) = violations_of(self.alloc, self.seed, &self.policy) else {
             return Err(WriteFault::Memory);
         };
         match violations.write(sink) {

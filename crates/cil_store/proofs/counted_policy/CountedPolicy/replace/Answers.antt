@@ -1,22 +1,19 @@
-use Rattle.cil_store.proofs.Common.{rc_value, meaning_in, AreCountedChanges}
-use Rattle.cil_store.proofs.CountedPolicyLemmas.{kept-back}
+use Rattle.cil_store.proofs.Common.{◌∙◌, subst, rc_value, IsNow, WasBefore, meaning_in, AreCountedChanges}
+use Rattle.cil_store.proofs.CountedPolicyLemmas.{taken-back}
 use Rattle.cil_store.proofs.counted_policy.CountedPolicy.replace.Goals as goal
 
-pub returns-in_default-clause-kept : goal.returns-in_default-clause-kept
-returns-in_default-clause-kept g c =
-    kept-back (record { resolved = c.args.self.now.resolved; dropped = c.args.self.now.dropped; counters = c.update-updated.new.self }) c.undo.new.self c.requires.are_dropped
-    c.in_default.ensures.before c.undo.ensures
+pub invariant_of-self : goal.invariant_of-self
+invariant_of-self g c =
+    taken-back c.self.inside.policy c.update-updated.new.self c.undo.new.self (subst (λ r. WasBefore r c.update-updated.new.self) c.shared-old.ensures c.in_default.ensures.before) c.undo.ensures
 
-pub take_over-requires : goal.take_over-requires
-take_over-requires g c = c.in-Ok.ensures.now
+pub settle-requires : goal.settle-requires
+settle-requires g c = subst (λ r. IsNow r c.update-updated.new.self) c.shared-new.ensures c.in-Ok.ensures.now
 
 pub returns-clause-changes : goal.returns-clause-changes
 returns-clause-changes g c =
-    let old = rc_value c.args.self.now.resolved in
-    let new = rc_value c.args.prepared.next.resolved in
-    let are : AreCountedChanges (meaning_in old) (meaning_in new) c.args.meter.now c.update-updated.new.meter c.in-Ok.changes = record {
-      are_changes = c.in-Ok.ensures.changes;
-      evaluations = c.in-Ok.ensures.evaluations;
-      adjustments = c.in-Ok.ensures.adjustments;
-    } in
-    are
+    let before = c.args.meter.now in
+    let after = c.update-updated.new.meter in
+    let done = c.in-Ok.ensures in
+    subst (λ r. AreCountedChanges (meaning_in r) (meaning_in c.args.prepared.policy) before after c.in-Ok.changes) (c.shared-old.ensures ∙ c.self.view_is)
+    (subst (λ r. AreCountedChanges (meaning_in (rc_value c.shared-old.result.now)) (meaning_in r) before after c.in-Ok.changes) c.shared-new.ensures
+    (record { are_changes = done.changes; evaluations = done.evaluations; adjustments = done.adjustments }))

@@ -16,4 +16,4 @@ returns-clause-taken g c =
     (subst (λ (s : Store). AreTaken s (map edit_of c.deref.result.now) new) c.new.ensures c.in_ok-judged.ensures.taken)
 
 pub returns-clause-means : goal.returns-clause-means
-returns-clause-means g c = subst (λ r. IsMeaningOf c.in_ok-judged.judged.store (meaning_in r)) (sym c.in_ok-next.ensures) c.in_ok-judged.ensures.means
+returns-clause-means g c = subst (λ r. IsMeaningOf c.in_ok-judged.judged.store (meaning_in r)) (sym c.in_ok-policy.ensures) c.in_ok-judged.ensures.means

@@ -1,5 +1,5 @@
-use Rattle.cil_store.proofs.Common.{map, refl, sym, subst, rc_value, err_from_is_err_and, meaning_in, IsMeaningOf, Step, a_batch, changed_by, out_of_memory, Store, edit_of, refusal_of}
-use Rattle.cil_store.proofs.StepLemmas.{made-step, refused-step}
+use Rattle.cil_store.proofs.Common.{map, refl, sym, subst, err_from_is_err_and, meaning_in, Step, a_batch, changed_by, out_of_memory, Store, edit_of, refusal_of}
+use Rattle.cil_store.proofs.StepLemmas.{made-step, means-at, refused-step}
 use Rattle.cil_store.proofs.delta.Delta.batch_counted_metered.Goals as goal
 
 pub returns-in_err-next-clause-err : goal.returns-in_err-next-clause-err
@@ -22,9 +22,9 @@ returns-clause-ok g c =
     let prepared = c.in_ok-next.ensures in
     let to : Store = c.in_ok-next.next.store in
     let (before, meant) = prepared.meant in
-    let after = meaning_in (rc_value c.in_ok-next.next.next.resolved) in
+    let after = meaning_in c.in_ok-next.next.policy in
     let some = c.in_ok-counts.ensures.changes in
-    let are = some.those before after meant (subst (λ (s : Store). IsMeaningOf s after) (sym c.in_ok-counts.ensures.ok) prepared.means) in
+    let are = some.those before after meant (means-at (sym c.in_ok-counts.ensures.ok) prepared.means) in
     let step = made-step store to edits before after some.changes prepared.short prepared.taken meant prepared.means are.are_changes in
     record {
       changes = some.changes;

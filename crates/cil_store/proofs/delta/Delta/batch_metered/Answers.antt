@@ -1,5 +1,5 @@
-use Rattle.cil_store.proofs.Common.{map, refl, sym, subst, rc_value, err_from_is_err_and, meaning_in, IsMeaningOf, Step, a_batch, changed_by, out_of_memory, Store, edit_of, refusal_of}
-use Rattle.cil_store.proofs.StepLemmas.{made-step, refused-step}
+use Rattle.cil_store.proofs.Common.{map, refl, sym, subst, err_from_is_err_and, meaning_in, Step, a_batch, changed_by, out_of_memory, Store, edit_of, refusal_of}
+use Rattle.cil_store.proofs.StepLemmas.{made-step, means-at, refused-step}
 use Rattle.cil_store.proofs.delta.Delta.batch_metered.Goals as goal
 
 pub returns-in_err-prepared-clause-step : goal.returns-in_err-prepared-clause-step
@@ -22,8 +22,8 @@ returns-clause-step g c =
     let prepared = c.in_ok-prepared.ensures in
     let to : Store = c.in_ok-prepared.prepared.store in
     let (before, meant) = prepared.meant in
-    let after = meaning_in (rc_value c.in_ok-prepared.prepared.next.resolved) in
+    let after = meaning_in c.in_ok-prepared.prepared.policy in
     let changes = c.in_ok-changes.changes in
-    let are = c.in_ok-changes.ensures.changes before after meant (subst (λ (s : Store). IsMeaningOf s after) (sym c.in_ok-changes.ensures.ok) prepared.means) in
+    let are = c.in_ok-changes.ensures.changes before after meant (means-at (sym c.in_ok-changes.ensures.ok) prepared.means) in
     let step = made-step store to edits before after changes prepared.short prepared.taken meant prepared.means are.are_changes in
     subst (λ (s : Store). Step store (a_batch edits) (changed_by changes) s) (sym c.in_ok-changes.ensures.ok) step

@@ -1,4 +1,4 @@
-use Rattle.cil_store.proofs.Common.{refl, sym, subst, err_from_is_err_and, rc_value, meaning_in, IsMeaningOf, all_good, Store}
+use Rattle.cil_store.proofs.Common.{refl, sym, subst, err_from_is_err_and, meaning_in, IsMeaningOf, all_good, Store}
 use Rattle.cil_store.proofs.delta.Delta.of.Goals as goal
 
 pub returns-in_err-prepared-clause-err : goal.returns-in_err-prepared-clause-err
@@ -9,12 +9,9 @@ returns-in_err-prepared-clause-err g c =
 pub invariant_of-result : goal.invariant_of-result
 invariant_of-result g c =
     let to : Store = c.in_ok-prepared.prepared.store in
-    record {
-      is_meaning = subst (IsMeaningOf to) (sym c.in_ok-loaded.ensures.meaning) c.in_ok-prepared.ensures.means;
-      is_kept = c.in_ok-loaded.ensures.kept;
-    }
+    subst (λ r. IsMeaningOf to (meaning_in r)) (sym c.in_ok-loaded.ensures.policy) c.in_ok-prepared.ensures.means
 
 pub returns-clause-ok : goal.returns-clause-ok
 returns-clause-ok g c =
     let to : Store = c.in_ok-prepared.prepared.store in
-    all_good to (meaning_in (rc_value c.in_ok-prepared.prepared.next.resolved)) c.in_ok-prepared.ensures.taken c.in_ok-prepared.ensures.means refl
+    all_good to (meaning_in c.in_ok-prepared.prepared.policy) c.in_ok-prepared.ensures.taken c.in_ok-prepared.ensures.means refl

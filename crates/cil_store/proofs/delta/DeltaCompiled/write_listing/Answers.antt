@@ -1,28 +1,29 @@
-use Rattle.cil_store.proofs.Common.{subst, arith, is_in_table, gains-none, listed, rows_of, are-rows, rows-listed, meaning_kept, IsCountedTo}
+use Rattle.cil_store.proofs.Common.{arith, is_in_table, gains-none, listed, rows_of, are-rows, rows-listed, meaning_kept}
 use Rattle.cil_store_specs.proofs.AllAtoms.{all-atoms}
+use Rattle.cil_store.proofs.StepLemmas.{means-at}
 use Rattle.cil_store.proofs.delta.DeltaCompiled.write_listing.Goals as goal
 
 -- nothing is written of a listing for which there is no memory
 pub returns-in_default-clause-err : goal.returns-in_default-clause-err
 returns-in_default-clause-err g c =
     let self = c.self.inside in
-    let counted = subst (λ s. IsCountedTo s self.policy) c.self.view_is c.self.invariant in
+    let kept = means-at c.self.view_is c.self.invariant in
     let meaning = meaning_kept self.policy in
     let (atoms, are) = all-atoms meaning in
-    (rows_of atoms, (meaning, counted.is_meaning, are-rows (is_in_table meaning) atoms are), (0, omega arith, gains-none (g.W.Sink.taken c.args.sink.now)))
+    (rows_of atoms, (meaning, kept, are-rows (is_in_table meaning) atoms are), (0, omega arith, gains-none (g.W.Sink.taken c.args.sink.now)))
 
 pub returns-in-Ok-write_listing-clause-ok : goal.returns-in-Ok-write_listing-clause-ok
 returns-in-Ok-write_listing-clause-ok g c =
     let self = c.self.inside in
-    let counted = subst (λ s. IsCountedTo s self.policy) c.self.view_is c.self.invariant in
+    let kept = means-at c.self.view_is c.self.invariant in
     let meaning = meaning_kept self.policy in
-    let written = c.in-Ok-write_listing.ensures.ok (listed (is_in_table meaning)) (c.in-Ok.ensures meaning counted.is_meaning) in
-    (written.0, (meaning, counted.is_meaning, rows-listed (is_in_table meaning) written.0 written.1), written.2, written.3)
+    let written = c.in-Ok-write_listing.ensures.ok (listed (is_in_table meaning)) (c.in-Ok.ensures meaning kept) in
+    (written.0, (meaning, kept, rows-listed (is_in_table meaning) written.0 written.1), written.2, written.3)
 
 pub returns-clause-err : goal.returns-clause-err
 returns-clause-err g c =
     let self = c.self.inside in
-    let counted = subst (λ s. IsCountedTo s self.policy) c.self.view_is c.self.invariant in
+    let kept = means-at c.self.view_is c.self.invariant in
     let meaning = meaning_kept self.policy in
-    let written = c.in-Err.ensures.err (listed (is_in_table meaning)) (c.in-Ok.ensures meaning counted.is_meaning) in
-    (written.0, (meaning, counted.is_meaning, rows-listed (is_in_table meaning) written.0 written.1), written.2)
+    let written = c.in-Err.ensures.err (listed (is_in_table meaning)) (c.in-Ok.ensures meaning kept) in
+    (written.0, (meaning, kept, rows-listed (is_in_table meaning) written.0 written.1), written.2)

@@ -1,5 +1,5 @@
-use Rattle.cil_store.proofs.Common.{◌∙◌, map, refl, sym, subst, rc_value, err_from_is_err_and, meaning_in, IsMeaningOf, Step, a_batch, changed_by, out_of_memory, Store, edit_of, refusal_of, IsRefusedBatch}
-use Rattle.cil_store.proofs.StepLemmas.{made-step, refused-step}
+use Rattle.cil_store.proofs.Common.{◌∙◌, map, refl, sym, subst, err_from_is_err_and, meaning_in, IsMeaningOf, Step, a_batch, changed_by, out_of_memory, Store, edit_of, refusal_of, IsRefusedBatch}
+use Rattle.cil_store.proofs.StepLemmas.{made-step, means-at, refused-step}
 use Rattle.cil_store.proofs.plain.PlainCompiled.batch.Goals as goal
 
 pub returns-in_err-prepared : goal.returns-in_err-prepared
@@ -22,11 +22,10 @@ returns-in_err-changes g c =
 pub replace-requires : goal.replace-requires
 replace-requires g c = c.in_ok-prepared.ensures.means
 
-pub put-requires-clause-meaning : goal.put-requires-clause-meaning
-put-requires-clause-meaning g c =
+pub put-requires : goal.put-requires
+put-requires g c =
     let new : Store = c.replace.new.self in
-    let after = meaning_in (rc_value c.in_ok-prepared.prepared.next.resolved) in
-    subst (IsMeaningOf new) (sym c.in_ok-anew.ensures.meaning) (subst (λ (s : Store). IsMeaningOf s after) (sym c.in_ok-changes.ensures.ok) c.in_ok-prepared.ensures.means)
+    subst (λ r. IsMeaningOf new (meaning_in r)) (sym c.in_ok-anew.ensures) (means-at (sym c.in_ok-changes.ensures.ok) c.in_ok-prepared.ensures.means)
 
 pub returns : goal.returns
 returns g c =
@@ -36,9 +35,9 @@ returns g c =
     let prepared = c.in_ok-prepared.ensures in
     let to : Store = c.in_ok-prepared.prepared.store in
     let (before, meant) = prepared.meant in
-    let after = meaning_in (rc_value c.in_ok-prepared.prepared.next.resolved) in
+    let after = meaning_in c.in_ok-prepared.prepared.policy in
     let changes = c.in_ok-changes.changes in
-    let are = c.in_ok-changes.ensures.changes before after meant (subst (λ (s : Store). IsMeaningOf s after) (sym c.in_ok-changes.ensures.ok) prepared.means) in
+    let are = c.in_ok-changes.ensures.changes before after meant (means-at (sym c.in_ok-changes.ensures.ok) prepared.means) in
     let step = made-step inside to edits before after changes prepared.short prepared.taken meant prepared.means are.are_changes in
     subst (λ (s : Store). Step s (a_batch edits) (changed_by changes) c.put.new.self) c.self.view_is
     (subst (λ (s : Store). Step inside (a_batch edits) (changed_by changes) s) (sym c.put.ensures)

@@ -1,5 +1,6 @@
-use Rattle.cil_store.proofs.Common.{sym, subst, IsMeaningOf, Store}
+use Rattle.std.proofs.Common.{sym}
+use Rattle.cil_store.proofs.StepLemmas.{means-at}
 use Rattle.cil_store.proofs.plain.PlainCompiled.count.Goals as goal
 
 pub returns : goal.returns
-returns g c meaning meant = c.count.ensures meaning (subst (λ (s : Store). IsMeaningOf s meaning) (sym c.self.view_is) meant)
+returns g c meaning meant = c.count.ensures meaning (means-at (sym c.self.view_is) meant)

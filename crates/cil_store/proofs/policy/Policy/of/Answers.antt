@@ -1,4 +1,4 @@
-use Rattle.cil_store.proofs.Common.{refl, err_from_is_err_and, rc_value, meaning_in, all_good, Store}
+use Rattle.cil_store.proofs.Common.{refl, err_from_is_err_and, meaning_in, all_good, Store}
 use Rattle.cil_store.proofs.policy.Policy.of.Goals as goal
 
 pub returns-in_err-prepared-clause-err : goal.returns-in_err-prepared-clause-err
@@ -12,4 +12,4 @@ invariant_of-result g c = c.in_ok-prepared.ensures.means
 pub returns-clause-ok : goal.returns-clause-ok
 returns-clause-ok g c =
     let to : Store = c.in_ok-prepared.prepared.store in
-    all_good to (meaning_in (rc_value c.in_ok-prepared.prepared.next.resolved)) c.in_ok-prepared.ensures.taken c.in_ok-prepared.ensures.means refl
+    all_good to (meaning_in c.in_ok-prepared.prepared.policy) c.in_ok-prepared.ensures.taken c.in_ok-prepared.ensures.means refl
