@@ -1,4 +1,5 @@
-use Rattle.cil_store.proofs.Common.{◌∙◌, subst, rc_value, IsNow, WasBefore, meaning_in, AreCountedChanges}
+use Rattle.cil_store.proofs.Common.{◌∙◌, subst, IsNow, WasBefore, meaning_in, AreCountedChanges}
+use Rattle.std.specs.Rc.{rc_value}
 use Rattle.cil_store.proofs.CountedPolicyLemmas.{taken-back}
 use Rattle.cil_store.proofs.counted_policy.CountedPolicy.replace.Goals as goal
 
