@@ -1,8 +1,8 @@
 //! The line of the greatest number, and how faults are printed for a programmer.
 
 use crate::shown::shown;
-use cil_program::script::reply::write_script_line;
 use cil_program::script::outcome::SessionFault;
+use cil_program::script::reply::write_script_line;
 use cil_store::WriteFault;
 use cil_stream::{MemorySink, SinkFault, SourceFault};
 use std::alloc::Global;
