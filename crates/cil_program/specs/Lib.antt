@@ -8,4 +8,6 @@ pub mod Reply
 pub mod Session
 pub mod Laws
 pub mod CommandLine
+pub mod Conditionals
+pub mod ByNames
 pub mod Program

@@ -1,13 +1,20 @@
 -- The program's command line, as `clap` reads it.
-use Rattle.std.specs.Prelude.{◌≡◌, ◌⊎◌, ℕ, List, [], true, Option, Some, codes, unwrap_or}
+use Rattle.std.specs.Prelude.{◌≡◌, ◌⊎◌, ℕ, List, [], true, Option, None, Some, codes, unwrap_or}
 use Rattle.cil_stream.specs.Device.{Gains, GainsFront, HasFailed}
 use Rattle.clap.specs.Lexer.{usize_max}
-use Rattle.clap.specs.Walk.{Row, Rule, Text, all_of, one_of}
+use Rattle.clap.specs.Walk.{Row, Rule, Text, all_of, first_of, one_of}
 use Rattle.clap.specs.Simple.{App, new_app, new_rule, on_top, with_rule, with_subcommand}
-use Rattle.clap.specs.declared.builder.action.ArgAction.TheVariants.{Append, SetTrue}
+use Rattle.clap.specs.declared.builder.action.ArgAction.TheVariants.{Append, Set, SetTrue}
+use Rattle.cil_store_specs.specs.Next.{for_memory}
+use Rattle.cil_store_specs.specs.Script.{refusal_line}
+use Rattle.cil_program.specs.ByNames.{AnswersByNames}
 use Rattle.cil_program.specs.CommandLine.{CompilesFiles, Content, Written}
+use Rattle.cil_program.specs.Conditionals.{Conditionals, Foreign, by_names, conditionals_by, foreign_by, misused, misuse_text, refused}
 use Rattle.cil_program.specs.declared.command_line.compile.Report.{Report}
 use Rattle.cil_program.specs.declared.command_line.compile.Report.TheVariants.{Listing, Violations}
+use Rattle.cil_program.specs.declared.command_line.conditionals.Misuse.{Misuse}
+use Rattle.cil_program.specs.declared.command_line.conditionals.Misuse.TheVariants.{OtherBooleans}
+use Rattle.cil_program.specs.declared.command_line.foreign.Wanted.TheVariants.{Compiled, Projections}
 
 abbrev pub session_app : App
 session_app = new_app (codes "session")
@@ -19,14 +26,24 @@ violations_rule = record (new_rule (codes "violations")) { long = Some (codes "v
 abbrev pub files_rule : Rule
 files_rule = record (new_rule (codes "FILE")) { required = true; range = Some (record { start_inclusive = 1; end_inclusive = usize_max }); action = Some Append }
 
+-- how statements outside the language are taken, and conditional ones
+abbrev pub foreign_rule : Rule
+foreign_rule = record (new_rule (codes "foreign")) { long = Some (codes "foreign"); action = Some Set; value_names = 1 }
+
+abbrev pub booleans_rule : Rule
+booleans_rule = record (new_rule (codes "booleans")) { long = Some (codes "booleans"); action = Some Set; value_names = 1 }
+
 abbrev pub compile_app : App
-compile_app = with_rule (with_rule (new_app (codes "compile")) violations_rule) files_rule
+compile_app = with_rule (with_rule (with_rule (with_rule (new_app (codes "compile")) violations_rule) foreign_rule) booleans_rule) files_rule
+
+abbrev pub project_app : App
+project_app = with_rule (with_rule (new_app (codes "project")) booleans_rule) files_rule
 
 abbrev pub bare_program : App
 bare_program = on_top (λ s. record s { has_version = true; subcommand_required = true }) (new_app (codes "cilsem"))
 
 abbrev pub program_app : App
-program_app = with_subcommand (with_subcommand bare_program session_app.top) compile_app.top
+program_app = with_subcommand (with_subcommand (with_subcommand bare_program session_app.top) compile_app.top) project_app.top
 
 -- the files among what was found behind `compile`
 abbrev pub files_asked : List Row → List Text
@@ -40,22 +57,62 @@ IsReportFor text report = (text ≡ Some (codes "true") → report ≡ Violation
 abbrev pub IsReportAsked : List Row → Report → Type 0
 IsReportAsked rows report = IsReportFor (one_of (codes "violations") rows) report
 
+-- how statements outside the language are taken, by what was found behind `compile`
+abbrev pub foreign_asked : List Row → Foreign
+foreign_asked rows = foreign_by (first_of (codes "foreign") rows) (first_of (codes "booleans") rows)
+
+-- and conditional ones, by what was found behind `project`
+abbrev pub conditionals_asked : List Row → Option Conditionals
+conditionals_asked rows = conditionals_by (first_of (codes "booleans") rows)
+
+-- What is told where words of the command line have no meaning: why; or that memory ran out before that was found.
+pub data TellsMisuse (misuse : Misuse) (printed told : List ℕ) (status : ℕ) : Type 0 where
+  is_misuse : printed ≡ [] → told ≡ misuse_text misuse → status ≡ 2 → TellsMisuse misuse printed told status
+  lacks_memory_for_it : printed ≡ [] → told ≡ refusal_line for_memory → status ≡ 1 → TellsMisuse misuse printed told status
+
+-- what is to be printed and told of files that are compiled, by how statements outside the language are taken, and the exit status
+abbrev pub IsCompiled : Foreign → (List ℕ → Content) → List (List ℕ) → Report → List ℕ → List ℕ → ℕ → Type 0
+IsCompiled refused content paths report printed told status = CompilesFiles content paths report printed told status
+IsCompiled (by_names conditionals) content paths report printed told status = AnswersByNames content paths conditionals (Compiled report) printed told status
+IsCompiled (misused misuse) content paths report printed told status = TellsMisuse misuse printed told status
+
+-- and of files that are projected, by how conditional statements are taken
+abbrev pub IsProjected : Option Conditionals → (List ℕ → Content) → List (List ℕ) → List ℕ → List ℕ → ℕ → Type 0
+IsProjected (Some conditionals) content paths printed told status = AnswersByNames content paths conditionals Projections printed told status
+IsProjected None content paths printed told status = TellsMisuse OtherBooleans printed told status
+
 -- by what was found behind `compile` this is to be printed and told, and this is the exit status
 abbrev pub IsToBeWritten : (List ℕ → Content) → List Row → List ℕ → List ℕ → ℕ → Type 0
 IsToBeWritten content rows printed told status =
     (report : Report) × IsReportAsked rows report
-    × CompilesFiles content (files_asked rows) report printed told status
+    × IsCompiled (foreign_asked rows) content (files_asked rows) report printed told status
+
+-- and by what was found behind `project`
+abbrev pub IsToBePrinted : (List ℕ → Content) → List Row → List ℕ → List ℕ → ℕ → Type 0
+IsToBePrinted content rows printed told status = IsProjected (conditionals_asked rows) content (files_asked rows) printed told status
+
+-- What is to be written was written; or a sink failed, and a beginning was written.
+abbrev pub IsAnswered :
+    (List ℕ → List ℕ → ℕ → Type 0) → Written → Written → Written → Written → ℕ → Type 0
+IsAnswered IsMeant out new_out err new_err status =
+    ((printed : List ℕ) × (told : List ℕ)
+    × Gains out.taken new_out.taken printed × Gains err.taken new_err.taken told
+    × IsMeant printed told status)
+    ⊎ ((status ≡ 3)
+    × (HasFailed out.failures new_out.failures ⊎ HasFailed err.failures new_err.failures)
+    × ((printed : List ℕ) × (told : List ℕ) × (meant : ℕ)
+    × GainsFront out.taken new_out.taken printed × GainsFront err.taken new_err.taken told
+    × IsMeant printed told meant))
 
 -- What was found behind `compile` is answered: the files were compiled and the report written; or
 -- a sink failed, and a beginning was written.
 abbrev pub AnswersCompile :
     (List ℕ → Content) → List Row → Written → Written → Written → Written → ℕ → Type 0
 AnswersCompile content rows out new_out err new_err status =
-    ((printed : List ℕ) × (told : List ℕ)
-    × Gains out.taken new_out.taken printed × Gains err.taken new_err.taken told
-    × IsToBeWritten content rows printed told status)
-    ⊎ ((status ≡ 3)
-    × (HasFailed out.failures new_out.failures ⊎ HasFailed err.failures new_err.failures)
-    × ((printed : List ℕ) × (told : List ℕ) × (meant : ℕ)
-    × GainsFront out.taken new_out.taken printed × GainsFront err.taken new_err.taken told
-    × IsToBeWritten content rows printed told meant))
+    IsAnswered (IsToBeWritten content rows) out new_out err new_err status
+
+-- So is what was found behind `project`.
+abbrev pub AnswersProject :
+    (List ℕ → Content) → List Row → Written → Written → Written → Written → ℕ → Type 0
+AnswersProject content rows out new_out err new_err status =
+    IsAnswered (IsToBePrinted content rows) out new_out err new_err status

@@ -1,25 +1,47 @@
 //! The command line: what its words ask for, and the exit status.
 
-ghost use Rattle.std.specs.Prelude.{◌≡◌, ◌≢◌, ◌⊎◌, ◌≤◌, ℕ, true, List, Result, Some, codes, map, IfOk, OnErr, OnOk};
-ghost use Rattle.cil_program.specs.Common.{Row, found_of, kind_of, rows_of, subcommand_of, takes, OutOfMemory, Gains, GainsFront, HasFailed, for_memory, refusal_line, AsksSession, AnswersSession, CompilesFiles, LacksMemory, exit_status_of, unreadable_line, untold, AnswersCompile, IsToBeWritten, program_app};
+ghost use Rattle.std.specs.Prelude.{◌≡◌, ◌≢◌, ◌⊎◌, ◌≤◌, ℕ, true, List, Result, Some, codes, map, option_map, IfOk, OnErr, OnOk};
+ghost use Rattle.cil_store_specs.specs.Next.{Refusal};
+ghost use Rattle.cil_program.specs.Common.{Row, found_of, kind_of, rows_of, subcommand_of, takes, OutOfMemory, Gains, GainsFront, HasFailed, for_memory, refusal_line, AsksSession, AnswersSession, CompilesFiles, LacksMemory, exit_status_of, unreadable_line, untold, AnswersByNames, AnswersCompile, AnswersProject, AnswersProjected, IsRefusalBy, IsReportAsked, IsToBePrinted, IsToBeWritten, conditionals_asked, conditionals_in, files_asked, foreign_asked, foreign_in, misuse_text, program_app};
+ghost use Rattle.cil_program.specs.declared.command_line.foreign.Wanted.TheVariants.{Compiled, Projections};
 ghost use Rattle.cil_program.specs.declared.command_line.compile.Report.{Report};
 ghost use Rattle.cil_program.specs.declared.script.outcome.SessionFault.{SessionFault};
 ghost use Rattle.cil_program.specs.declared.script.outcome.Status.{Status};
 
 pub mod compile;
+pub mod conditionals;
 pub mod files;
+pub mod foreign;
+mod notes;
 mod words;
 
 use crate::command_line::compile::{Asked, Report, compile_entries, refuse_for_memory};
+use crate::command_line::conditionals::{
+    Conditionals,
+    Foreign,
+    Misuse,
+    conditionals_by,
+    foreign_by,
+};
 use crate::command_line::files::{ReadFault, TextFiles, entries_of, read_files};
-use crate::command_line::words::{COMPILE, FILES, VIOLATIONS, matches_of};
+use crate::command_line::foreign::{NotProjected, Projected, Wanted, project_files};
+use crate::command_line::notes::{write_not_projected, write_note, write_texts};
+use crate::command_line::words::{
+    BOOLEANS,
+    COMPILE,
+    FILES,
+    FOREIGN,
+    PROJECT,
+    VIOLATIONS,
+    matches_of,
+};
 use crate::script::outcome::{SessionFault, Status};
 use crate::script::session::session;
 use cil_store::{Delta, Seed};
 use cil_stream::{Sink, SinkFault, Source, write_all, write_pieces};
 use clap::error::ErrorKind;
 use clap::{ArgMatches, Error};
-use std::alloc::{Allocator, Global};
+use std::alloc::{AllocError, Allocator, Global};
 use std::convert::AsStr;
 use std::random::RandomSource;
 use std::rt::Files;
@@ -135,6 +157,214 @@ fn compile_files<'a, F: TextFiles, W: Sink, E: Sink>(
     compile_entries(alloc, entries.as_slice(), asked, out, err)
 }
 
+/// Writes why files were not projected, and gives the exit status.
+fn tell_not_projected<E: Sink>(err: &mut E, why: NotProjected<'_>) -> Result<u8, SinkFault>
+    ensures ok { IfOk result (λ status. (refusal : Refusal) × IsRefusalBy why.entry refusal
+        × (status ≡ 1) × Gains (E.taken err.old) (E.taken err.new) (refusal_line refusal)) }
+    ensures err { OnErr result ((refusal : Refusal) × IsRefusalBy why.entry refusal
+        × GainsFront (E.taken err.old) (E.taken err.new) (refusal_line refusal)) }
+    ensures failed { OnErr result (HasFailed (E.failures err.old) (E.failures err.new)) }
+    ensures counted { E.failures err.old ≤ E.failures err.new }
+{
+    write_not_projected(err, why)?;
+    Ok(1)
+}
+
+/// Writes why the words are refused, and gives the exit status.
+fn tell_misuse<E: Sink>(err: &mut E, misuse: Misuse) -> Result<u8, SinkFault>
+    ensures ok { IfOk result (λ status. (status ≡ 2)
+        × Gains (E.taken err.old) (E.taken err.new) (misuse_text misuse)) }
+    ensures err { OnErr result
+        (GainsFront (E.taken err.old) (E.taken err.new) (misuse_text misuse)) }
+    ensures failed { OnErr result (HasFailed (E.failures err.old) (E.failures err.new)) }
+    ensures counted { E.failures err.old ≤ E.failures err.new }
+{
+    let more = b"\nFor more information, try '--help'.\n";
+    write_pieces(err, &[misuse.line(), more])?;
+    Ok(2)
+}
+
+/// Compiles projected files and writes the note and the report, and gives the exit status.
+fn compile_projected<W: Sink, E: Sink>(
+    alloc: Global,
+    projected: &Projected<'_>,
+    asked: Asked,
+    out: &mut W,
+    err: &mut E,
+) -> Result<u8, SinkFault>
+    ensures ok { IfOk result (λ status. (printed : List ℕ) × (told : List ℕ)
+        × Gains (W.taken out.old) (W.taken out.new) printed
+        × Gains (E.taken err.old) (E.taken err.new) told
+        × AnswersProjected (map (λ file. file.path.now) projected.now.files.items)
+        (map (λ file. file.text.items) projected.now.files.items) projected.now.tally
+        (Compiled asked.report) printed told status) }
+    ensures err { OnErr result ((printed : List ℕ) × (told : List ℕ) × (status : ℕ)
+        × GainsFront (W.taken out.old) (W.taken out.new) printed
+        × GainsFront (E.taken err.old) (E.taken err.new) told
+        × AnswersProjected (map (λ file. file.path.now) projected.now.files.items)
+        (map (λ file. file.text.items) projected.now.files.items) projected.now.tally
+        (Compiled asked.report) printed told status) }
+    ensures failed { OnErr result (HasFailed (W.failures out.old) (W.failures out.new)
+        ⊎ HasFailed (E.failures err.old) (E.failures err.new)) }
+    ensures out_counted { W.failures out.old ≤ W.failures out.new }
+    ensures err_counted { E.failures err.old ≤ E.failures err.new }
+{
+    let Ok(entries) = entries_of(alloc, projected.files.as_slice()) else {
+        return refuse_for_memory(err);
+    };
+    write_note(err, &projected.tally)?;
+    compile_entries(alloc, entries.as_slice(), asked, out, err)
+}
+
+/// Writes the note and the projections of files, and gives the exit status.
+fn print_projected<W: Sink, E: Sink>(
+    projected: &Projected<'_>,
+    out: &mut W,
+    err: &mut E,
+) -> Result<u8, SinkFault>
+    ensures ok { IfOk result (λ status. (printed : List ℕ) × (told : List ℕ)
+        × Gains (W.taken out.old) (W.taken out.new) printed
+        × Gains (E.taken err.old) (E.taken err.new) told
+        × AnswersProjected (map (λ file. file.path.now) projected.now.files.items)
+        (map (λ file. file.text.items) projected.now.files.items) projected.now.tally
+        Projections printed told status) }
+    ensures err { OnErr result ((printed : List ℕ) × (told : List ℕ) × (status : ℕ)
+        × GainsFront (W.taken out.old) (W.taken out.new) printed
+        × GainsFront (E.taken err.old) (E.taken err.new) told
+        × AnswersProjected (map (λ file. file.path.now) projected.now.files.items)
+        (map (λ file. file.text.items) projected.now.files.items) projected.now.tally
+        Projections printed told status) }
+    ensures failed { OnErr result (HasFailed (W.failures out.old) (W.failures out.new)
+        ⊎ HasFailed (E.failures err.old) (E.failures err.new)) }
+    ensures out_counted { W.failures out.old ≤ W.failures out.new }
+    ensures err_counted { E.failures err.old ≤ E.failures err.new }
+{
+    write_note(err, &projected.tally)?;
+    write_texts(out, projected.files.as_slice())?;
+    Ok(0)
+}
+
+/// Answers what is wanted of projected files, and gives the exit status.
+fn answer_projected<W: Sink, E: Sink>(
+    alloc: Global,
+    seed: Seed,
+    projected: &Projected<'_>,
+    wanted: Wanted,
+    out: &mut W,
+    err: &mut E,
+) -> Result<u8, SinkFault>
+    ensures ok { IfOk result (λ status. (printed : List ℕ) × (told : List ℕ)
+        × Gains (W.taken out.old) (W.taken out.new) printed
+        × Gains (E.taken err.old) (E.taken err.new) told
+        × AnswersProjected (map (λ file. file.path.now) projected.now.files.items)
+        (map (λ file. file.text.items) projected.now.files.items) projected.now.tally
+        wanted printed told status) }
+    ensures err { OnErr result ((printed : List ℕ) × (told : List ℕ) × (status : ℕ)
+        × GainsFront (W.taken out.old) (W.taken out.new) printed
+        × GainsFront (E.taken err.old) (E.taken err.new) told
+        × AnswersProjected (map (λ file. file.path.now) projected.now.files.items)
+        (map (λ file. file.text.items) projected.now.files.items) projected.now.tally
+        wanted printed told status) }
+    ensures failed { OnErr result (HasFailed (W.failures out.old) (W.failures out.new)
+        ⊎ HasFailed (E.failures err.old) (E.failures err.new)) }
+    ensures out_counted { W.failures out.old ≤ W.failures out.new }
+    ensures err_counted { E.failures err.old ≤ E.failures err.new }
+{
+    match wanted {
+        Wanted::Compiled(report) => {
+            compile_projected(alloc, projected, Asked { report, seed }, out, err)
+        }
+        Wanted::Projections => print_projected(projected, out, err),
+    }
+}
+
+/// What is asked of files whose statements outside the language are taken by their names alone.
+#[derive(Clone, Copy)]
+struct Request<'r> {
+    paths: &'r [&'r str],
+    conditionals: &'r Conditionals<'r>,
+    wanted: Wanted,
+    seed: Seed,
+}
+
+/// Reads files, takes their statements outside the language by their names alone, answers what is wanted of them, and gives the exit
+/// status.
+fn answer_by_names<F: TextFiles, W: Sink, E: Sink>(
+    from: &F,
+    alloc: Global,
+    request: Request<'_>,
+    out: &mut W,
+    err: &mut E,
+) -> Result<u8, SinkFault>
+    ensures ok { IfOk result (λ status. (printed : List ℕ) × (told : List ℕ)
+        × Gains (W.taken out.old) (W.taken out.new) printed
+        × Gains (E.taken err.old) (E.taken err.new) told
+        × AnswersByNames (F.content from.now) (map (λ path. path.now) request.entry.paths.now)
+        (conditionals_in request.entry.conditionals.now) request.entry.wanted printed told status) }
+    ensures err { OnErr result ((printed : List ℕ) × (told : List ℕ) × (status : ℕ)
+        × GainsFront (W.taken out.old) (W.taken out.new) printed
+        × GainsFront (E.taken err.old) (E.taken err.new) told
+        × AnswersByNames (F.content from.now) (map (λ path. path.now) request.entry.paths.now)
+        (conditionals_in request.entry.conditionals.now) request.entry.wanted printed told status) }
+    ensures failed { OnErr result (HasFailed (W.failures out.old) (W.failures out.new)
+        ⊎ HasFailed (E.failures err.old) (E.failures err.new)) }
+    ensures out_counted { W.failures out.old ≤ W.failures out.new }
+    ensures err_counted { E.failures err.old ≤ E.failures err.new }
+{
+    let files = match read_files(from, alloc, request.paths) {
+        Ok(files) => files,
+        Err(ReadFault::Memory) => return refuse_for_memory(err),
+        Err(ReadFault::Unreadable(path)) => return tell_unreadable(err, path),
+    };
+    let projected = project_files(alloc, request.seed, request.conditionals, files.as_slice());
+    match projected {
+        Ok(projected) => {
+            answer_projected(alloc, request.seed, &projected, request.wanted, out, err)
+        }
+        Err(why) => tell_not_projected(err, why),
+    }
+}
+
+/// The report among what was found.
+fn report_of(words: &ArgMatches<'_>) -> Report
+    ensures { IsReportAsked (rows_of (found_of words.now)) result }
+{
+    if words.get_flag(VIOLATIONS) {
+        Report::Violations
+    } else {
+        Report::Listing
+    }
+}
+
+/// The files among what was found.
+fn files_of<'m, 'a>(words: &'m ArgMatches<'a>) -> &'m [&'a str]
+    ensures { map (λ path. path.now) result.now ≡ files_asked (rows_of (found_of words.entry.now)) }
+{
+    match words.get_strs(FILES) {
+        Some(paths) => paths,
+        None => &[],
+    }
+}
+
+/// How statements outside the language are taken, by what was found behind `compile`.
+fn foreign_of<'a>(alloc: Global, words: &ArgMatches<'a>) -> Result<Foreign<'a>, AllocError>
+    ensures { IfOk result (λ foreign.
+        foreign_in foreign ≡ foreign_asked (rows_of (found_of words.entry.now))) }
+{
+    foreign_by(alloc, words.get_str(FOREIGN), words.get_str(BOOLEANS))
+}
+
+/// How conditional statements are taken, by what was found behind `project`.
+fn conditionals_of<'a>(
+    alloc: Global,
+    words: &ArgMatches<'a>,
+) -> Result<Option<Conditionals<'a>>, AllocError>
+    ensures { IfOk result (λ found. option_map conditionals_in found
+        ≡ conditionals_asked (rows_of (found_of words.entry.now))) }
+{
+    conditionals_by(alloc, words.get_str(BOOLEANS))
+}
+
 /// Does what is asked of `compile`, and gives the exit status.
 fn answer_compile<F: TextFiles, W: Sink, E: Sink>(
     from: &F,
@@ -158,15 +388,61 @@ fn answer_compile<F: TextFiles, W: Sink, E: Sink>(
     ensures out_counted { W.failures out.old ≤ W.failures out.new }
     ensures err_counted { E.failures err.old ≤ E.failures err.new }
 {
-    let report = if words.get_flag(VIOLATIONS) {
-        Report::Violations
-    } else {
-        Report::Listing
-    };
-    let asked = Asked { report, seed };
-    match words.get_strs(FILES) {
-        Some(paths) => compile_files(from, alloc, paths, asked, out, err),
-        None => compile_files(from, alloc, &[], asked, out, err),
+    let report = report_of(words);
+    let paths = files_of(words);
+    match foreign_of(alloc, words) {
+        Ok(Foreign::Refused) => {
+            compile_files(from, alloc, paths, Asked { report, seed }, out, err)
+        }
+        Ok(Foreign::ByNames(conditionals)) => {
+            let request = Request {
+                paths,
+                conditionals: &conditionals,
+                wanted: Wanted::Compiled(report),
+                seed,
+            };
+            answer_by_names(from, alloc, request, out, err)
+        }
+        Ok(Foreign::Misused(misuse)) => tell_misuse(err, misuse),
+        Err(_) => refuse_for_memory(err),
+    }
+}
+
+/// Does what is asked of `project`, and gives the exit status.
+fn answer_project<F: TextFiles, W: Sink, E: Sink>(
+    from: &F,
+    alloc: Global,
+    seed: Seed,
+    words: &ArgMatches<'_>,
+    out: &mut W,
+    err: &mut E,
+) -> Result<u8, SinkFault>
+    ensures status { IfOk result (λ status. status ≤ 3) }
+    ensures ok { IfOk result (λ status. (printed : List ℕ) × (told : List ℕ)
+        × Gains (W.taken out.old) (W.taken out.new) printed
+        × Gains (E.taken err.old) (E.taken err.new) told
+        × IsToBePrinted (F.content from.now) (rows_of (found_of words.now)) printed told status) }
+    ensures err { OnErr result ((printed : List ℕ) × (told : List ℕ) × (status : ℕ)
+        × GainsFront (W.taken out.old) (W.taken out.new) printed
+        × GainsFront (E.taken err.old) (E.taken err.new) told
+        × IsToBePrinted (F.content from.now) (rows_of (found_of words.now)) printed told status) }
+    ensures failed { OnErr result (HasFailed (W.failures out.old) (W.failures out.new)
+        ⊎ HasFailed (E.failures err.old) (E.failures err.new)) }
+    ensures out_counted { W.failures out.old ≤ W.failures out.new }
+    ensures err_counted { E.failures err.old ≤ E.failures err.new }
+{
+    match conditionals_of(alloc, words) {
+        Ok(Some(conditionals)) => {
+            let request = Request {
+                paths: files_of(words),
+                conditionals: &conditionals,
+                wanted: Wanted::Projections,
+                seed,
+            };
+            answer_by_names(from, alloc, request, out, err)
+        }
+        Ok(None) => tell_misuse(err, Misuse::OtherBooleans),
+        Err(_) => refuse_for_memory(err),
     }
 }
 
@@ -236,6 +512,18 @@ pub fn command<R: Files + RandomSource, T: AsStr, S: Source, W: Sink, E: Sink>(
         (record { taken = W.taken out.new; flushed = W.flushed out.new; failures = W.failures out.new })
         (record { taken = E.taken err.old; flushed = E.flushed err.old; failures = E.failures err.old })
         (record { taken = E.taken err.new; flushed = E.flushed err.new; failures = E.failures err.new }) result }
+    ensures project { (rows : List Row) → takes program_app (map T.text words.now) ≡ true
+        → subcommand_of program_app (map T.text words.now) ≡ Some (codes "project", rows) →
+        AnswersProject (λ _. untold) rows
+        (record { taken = W.taken out.old; flushed = W.flushed out.old; failures = W.failures out.old })
+        (record { taken = W.taken out.new; flushed = W.flushed out.new; failures = W.failures out.new })
+        (record { taken = E.taken err.old; flushed = E.flushed err.old; failures = E.failures err.old })
+        (record { taken = E.taken err.new; flushed = E.flushed err.new; failures = E.failures err.new }) result
+        ⊎ LacksMemory
+        (record { taken = W.taken out.old; flushed = W.flushed out.old; failures = W.failures out.old })
+        (record { taken = W.taken out.new; flushed = W.flushed out.new; failures = W.failures out.new })
+        (record { taken = E.taken err.old; flushed = E.flushed err.old; failures = E.failures err.old })
+        (record { taken = E.taken err.new; flushed = E.flushed err.new; failures = E.failures err.new }) result }
     ensures flushed { result ≢ 3 → W.flushed out.new ≡ W.taken out.new }
     ensures either { (err.new ≡ err.old) ⊎ (source.new ≡ source.old) }
 {
@@ -247,6 +535,10 @@ pub fn command<R: Files + RandomSource, T: AsStr, S: Source, W: Sink, E: Sink>(
             return finish(told, out, err);
         }
     };
+    if let Some(asked) = matches.subcommand_matches(PROJECT) {
+        let printed = answer_project(rt, alloc, seed, asked, out, err);
+        return finish(printed, out, err);
+    }
     let Some(asked) = matches.subcommand_matches(COMPILE) else {
         return answer_session(alloc, seed, source, out);
     };

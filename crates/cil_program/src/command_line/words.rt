@@ -1,7 +1,9 @@
 //! The words of the command line, as `clap` reads them.
 
 ghost use Rattle.std.specs.Prelude.{◌≡◌, Some, true, false, map, codes, IfErr, IfOk};
-ghost use Rattle.cil_program.specs.Common.{app_of, kind_of, subcommand_name_of, subcommand_of, subcommand_rows_of, takes, OutOfMemory, AsksSession, compile_app, program_app, session_app};
+ghost use Rattle.clap.specs.Words.{rule_of};
+ghost use Rattle.cil_program.specs.Program.{booleans_rule, files_rule, foreign_rule, violations_rule};
+ghost use Rattle.cil_program.specs.Common.{app_of, kind_of, subcommand_name_of, subcommand_of, subcommand_rows_of, takes, OutOfMemory, AsksSession, compile_app, program_app, project_app, session_app};
 ghost use Rattle.clap.specs.declared.builder.command.Command.TheViews.{out-Command};
 
 use clap::{Arg, ArgAction, ArgMatches, Command, Error};
@@ -16,7 +18,14 @@ pub const COMPILE: &str = "compile";
 
 pub const VIOLATIONS: &str = "violations";
 
+pub const FOREIGN: &str = "foreign";
+
+pub const BOOLEANS: &str = "booleans";
+
 pub const FILES: &str = "FILE";
+
+/// The subcommand that writes what files are projected to.
+pub const PROJECT: &str = "project";
 
 /// The subcommand `session`.
 fn session_command<'a>(alloc: Global) -> Command<'a>
@@ -27,24 +36,77 @@ fn session_command<'a>(alloc: Global) -> Command<'a>
     session.about("Answer the script on standard input, and print an answer for each command")
 }
 
+/// The option that says how conditional statements are taken.
+fn booleans_option<'a>(alloc: Global) -> Arg<'a>
+    ensures rule { rule_of result ≡ booleans_rule }
+    ensures local { result.global ≡ false }
+{
+    Arg::new(alloc, BOOLEANS)
+        .long("booleans")
+        .action(ArgAction::Set)
+        .value_name("VALUES")
+        .help("Which branches of conditional statements are taken: default, both, or NAME=true and NAME=false with commas between them")
+}
+
+/// The option that says how statements outside the language are taken.
+fn foreign_option<'a>(alloc: Global) -> Arg<'a>
+    ensures rule { rule_of result ≡ foreign_rule }
+    ensures local { result.global ≡ false }
+{
+    Arg::new(alloc, FOREIGN)
+        .long("foreign")
+        .action(ArgAction::Set)
+        .value_name("HOW")
+        .help("Take statements outside the language by the names in them alone: names")
+}
+
+/// The option that asks for violations.
+fn violations_option<'a>(alloc: Global) -> Arg<'a>
+    ensures rule { rule_of result ≡ violations_rule }
+    ensures local { result.global ≡ false }
+{
+    Arg::new(alloc, VIOLATIONS)
+        .long("violations")
+        .action(ArgAction::SetTrue)
+        .help("Print the violations of neverallow rules, in place of the access rules")
+}
+
+/// The files of a subcommand.
+fn files_argument<'a>(alloc: Global) -> Arg<'a>
+    ensures rule { rule_of result ≡ files_rule }
+    ensures local { result.global ≡ false }
+{
+    Arg::new(alloc, FILES)
+        .required(true)
+        .num_args(1..)
+        .action(ArgAction::Append)
+        .help("CIL files, each a module named by the file's base name less a final .cil")
+}
+
 /// The subcommand `compile`.
 fn compile_command<'a>(alloc: Global) -> Result<Command<'a>, AllocError>
     ensures app { IfOk result (λ command. app_of command ≡ compile_app) }
     ensures local { IfOk result (λ command. (out-Command command).has_globals ≡ false) }
 {
-    let violations = Arg::new(alloc, VIOLATIONS)
-        .long("violations")
-        .action(ArgAction::SetTrue)
-        .help("Print the violations of neverallow rules, in place of the access rules");
-    let files = Arg::new(alloc, FILES)
-        .required(true)
-        .num_args(1..)
-        .action(ArgAction::Append)
-        .help("CIL files, each a module named by the file's base name less a final .cil");
     let compile = Command::new(alloc, COMPILE).about(
         "Compile CIL files together, and print the access rules of their policy",
     );
-    compile.arg(violations)?.arg(files)
+    let compile = compile.arg(violations_option(alloc))?;
+    let compile = compile.arg(foreign_option(alloc))?;
+    let compile = compile.arg(booleans_option(alloc))?;
+    compile.arg(files_argument(alloc))
+}
+
+/// The subcommand `project`.
+fn project_command<'a>(alloc: Global) -> Result<Command<'a>, AllocError>
+    ensures app { IfOk result (λ command. app_of command ≡ project_app) }
+    ensures local { IfOk result (λ command. (out-Command command).has_globals ≡ false) }
+{
+    let project = Command::new(alloc, PROJECT).about(
+        "Print what CIL files are compiled as where statements outside the language are taken by their names alone",
+    );
+    let project = project.arg(booleans_option(alloc))?;
+    project.arg(files_argument(alloc))
 }
 
 /// The program's command.
@@ -57,7 +119,11 @@ fn program<'a>(alloc: Global) -> Result<Command<'a>, AllocError>
         .subcommand_required(true);
     let session = session_command(alloc);
     let compile = compile_command(alloc)?;
-    program.subcommand(session)?.subcommand(compile)
+    let project = project_command(alloc)?;
+    program
+        .subcommand(session)?
+        .subcommand(compile)?
+        .subcommand(project)
 }
 
 /// What `clap` finds in the words, of which the first is the program's name.

@@ -224,7 +224,7 @@ pub fn write_script_line<W: Sink>(sink: &mut W, line_feeds: u64) -> Result<(), S
 }
 
 /// Writes a refusal at a place of a module.
-fn write_place<W: Sink>(
+pub fn write_place<W: Sink>(
     sink: &mut W,
     code: u8,
     module: &[u8],

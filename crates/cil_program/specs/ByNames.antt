@@ -1,0 +1,108 @@
+-- What is answered where statements outside the language are taken by their names alone.
+use Rattle.std.specs.Prelude.{◌≡◌, ◌<◌, ℕ, List, [], ◌∷◌, ◌++◌, Contains, length, codes, decimal}
+use Rattle.std.specs.List.{AllZip, concat}
+use Rattle.cil_specs.specs.TextFault.{TextFault}
+use Rattle.cil_specs.specs.TextFault as text_fault
+use Rattle.cil_store_specs.specs.Next.{Refusal, at_place, by_store, for_memory}
+use Rattle.cil_store_specs.specs.Script.{refusal_line}
+use Rattle.cil_store_specs.specs.Store.{Entry}
+use Rattle.cil_text.specs.Image.{FaultIs, kind_of, place_of, shown}
+use Rattle.cil_text.specs.declared.fault.TextFault.TheVariants as text_faults
+use Rattle.cil_projection.specs.Conditions.{Settings, Known, Collects, settings_of, with_value}
+use Rattle.cil_projection.specs.Statements.{Counts, IsProjectionFault, Projects, Tallies, kinds_of, no_counts, statements_of}
+use Rattle.cil_projection.specs.declared.projecting.TheConstants.{DECLARATIONS}
+use Rattle.cil_program.specs.CommandLine.{Compiles, Content, IsEntryFor, IsReadOf, IsUnreadable, NamesModule, unreadable_line}
+use Rattle.cil_program.specs.Conditionals.{Conditionals, Setting}
+use Rattle.cil_program.specs.declared.command_line.compile.Report.{Report}
+use Rattle.cil_program.specs.declared.command_line.foreign.Wanted.{Wanted}
+use Rattle.cil_program.specs.declared.command_line.foreign.Wanted.TheVariants.{Compiled, Projections}
+use Rattle.cil_program.specs.declared.command_line.foreign.NotProjected.{NotProjected}
+use Rattle.cil_program.specs.declared.command_line.foreign.NotProjected.TheVariants.{AtFault, TooLong, Memory}
+
+-- what is done with each of some things in turn
+abbrev pub InTurn : {X S : Type 0} → (X → S → S → Type 0) → List X → S → S → Type 0
+InTurn R [] old new = new ≡ old
+InTurn {S = S} R (x ∷ xs) old new = (mid : S) × R x old mid × InTurn R xs mid new
+
+-- a value is given to a boolean
+abbrev pub IsGiven : Setting → Known → Known → Type 0
+IsGiven setting old new = new ≡ with_value old setting.name setting.value
+
+-- What is known of booleans by what is asked and by what texts declare.
+pub record IsKnown (conditionals : Conditionals) (texts : List (List ℕ)) (known : Known) : Type 0 where
+  pub given : Known
+  pub gives : InTurn IsGiven conditionals.settings (record { both = conditionals.both; names = []; values = [] }) given
+  pub collects : InTurn Collects texts given known
+
+-- projections of texts, one of each; there is more behind the first
+abbrev pub AreProjections : Settings → List ℕ → List (List ℕ) → List (List ℕ) → Type 0
+AreProjections settings more [] [] = Unit {0}
+AreProjections settings more [] (projected ∷ others) = ⊥
+AreProjections settings more (text ∷ texts) [] = ⊥
+AreProjections settings more (text ∷ texts) (projected ∷ others) =
+    ((projection : List ℕ) × Projects settings text projection × (projected ≡ projection ++ more)) × AreProjections settings [] texts others
+
+-- Texts are projected as it is asked, and what is taken of them by its names is counted. The declarations stand behind the first.
+pub record AreProjected (conditionals : Conditionals) (texts projected : List (List ℕ)) (counts : Counts) : Type 0 where
+  pub known : Known
+  pub is_known : IsKnown conditionals texts known
+  pub projections : AreProjections (settings_of known) DECLARATIONS.now texts projected
+  pub counted : InTurn (Tallies (settings_of known)) texts no_counts counts
+
+-- why files aren't projected, of which these are the paths and the texts
+abbrev pub AreHindered : List (List ℕ × List ℕ) → NotProjected → Type 0
+AreHindered files (AtFault path fault) = (text : List ℕ) × Contains files (path.now, text) × FaultIs fault (IsProjectionFault text)
+AreHindered files (TooLong path) = (text : List ℕ) × Contains files (path.now, text) × (16777216 < length text)
+AreHindered files Memory = Unit {0}
+
+-- Why the text of a module isn't projected: it is longer than a store takes, or it has a fault.
+pub data IsNotProjected (name text : List ℕ) (refusal : Refusal) : Type 0 where
+  is_longer : 16777216 < length text → refusal ≡ by_store 34 name → IsNotProjected name text refusal
+  is_at_fault : (fault : TextFault) → IsProjectionFault text fault → refusal ≡ at_place (text_fault.code_of fault.kind) name fault.at fault.word → IsNotProjected name text refusal
+
+-- how many statements of how many kinds are taken by their names
+abbrev pub note_line : Counts → List ℕ
+note_line counts =
+    codes "note: " ++ (decimal (statements_of counts) ++ (codes " statements of " ++ (decimal (kinds_of counts) ++ codes " kinds taken by their names alone\n")))
+
+-- the refusal that tells why files aren't projected
+abbrev pub IsRefusalBy : NotProjected → Refusal → Type 0
+IsRefusalBy (AtFault path text_faults.Memory) refusal = refusal ≡ for_memory
+IsRefusalBy (AtFault path (text_faults.Found kind at word)) refusal =
+    (name : List ℕ) × NamesModule path.now name × (refusal ≡ at_place (text_fault.code_of (kind_of kind)) name (place_of at) (shown word))
+IsRefusalBy (TooLong path) refusal = (name : List ℕ) × NamesModule path.now name × (refusal ≡ by_store 34 name)
+IsRefusalBy Memory refusal = refusal ≡ for_memory
+
+-- entries for files at paths, of these texts
+abbrev pub AreEntriesFor : List (List ℕ) → List (List ℕ) → List Entry → Type 0
+AreEntriesFor [] [] [] = Unit {0}
+AreEntriesFor (path ∷ paths) (text ∷ texts) (entry ∷ entries) = IsEntryFor path text entry × AreEntriesFor paths texts entries
+AreEntriesFor paths texts entries = ⊥
+
+-- What is printed and told of projected files, and the exit status: the note, and then what is of them where they are compiled, or the
+-- projections; or that memory ran out.
+pub data AnswersProjected (paths projected : List (List ℕ)) (counts : Counts) (wanted : Wanted)
+    (printed told : List ℕ) (status : ℕ) : Type 0 where
+  are_compiled : (report : Report) (entries : List Entry) (answer : List ℕ) → wanted ≡ Compiled report → AreEntriesFor paths projected entries
+      → Compiles entries report printed answer status → told ≡ note_line counts ++ answer
+      → AnswersProjected paths projected counts wanted printed told status
+  are_printed : wanted ≡ Projections → printed ≡ concat projected → told ≡ note_line counts → status ≡ 0
+      → AnswersProjected paths projected counts wanted printed told status
+  are_not_held : printed ≡ [] → told ≡ refusal_line for_memory → status ≡ 1
+      → AnswersProjected paths projected counts wanted printed told status
+
+-- What is printed and told of files whose statements outside the language are taken by their names alone, and the exit status: what is
+-- of the projections of the texts that were read; or that a file can't be read, or why one isn't projected, or that memory ran out.
+pub data AnswersByNames (content : List ℕ → Content) (paths : List (List ℕ)) (conditionals : Conditionals) (wanted : Wanted)
+    (printed told : List ℕ) (status : ℕ) : Type 0 where
+  answers : (texts projected : List (List ℕ)) (counts : Counts) → AllZip (λ path text. IsReadOf (content path) text) paths texts
+      → AreProjected conditionals texts projected counts → AnswersProjected paths projected counts wanted printed told status
+      → AnswersByNames content paths conditionals wanted printed told status
+  one_unreadable : (path : List ℕ) → Contains paths path → IsUnreadable (content path)
+      → printed ≡ [] → told ≡ unreadable_line path → status ≡ 3
+      → AnswersByNames content paths conditionals wanted printed told status
+  one_not_projected : (path text name : List ℕ) (refusal : Refusal) → Contains paths path → IsReadOf (content path) text
+      → NamesModule path name → IsNotProjected name text refusal → printed ≡ [] → told ≡ refusal_line refusal → status ≡ 1
+      → AnswersByNames content paths conditionals wanted printed told status
+  none_held : printed ≡ [] → told ≡ refusal_line for_memory → status ≡ 1
+      → AnswersByNames content paths conditionals wanted printed told status

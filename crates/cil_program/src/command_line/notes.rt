@@ -1,0 +1,110 @@
+//! What is written of files whose statements outside the language are taken by their names alone.
+
+ghost use Rattle.std.specs.Prelude.{◌≡◌, ◌<◌, List, ℕ, flat_map};
+ghost use Rattle.cil_specs.specs.Bytes.{hex, hex_digit};
+ghost use Rattle.cil_text.specs.Image.{place_of, kind_of, shown};
+ghost use Rattle.cil_specs.specs.TextFault.{code_of};
+ghost use Rattle.cil_store_specs.specs.Next.{Refusal};
+ghost use Rattle.cil_program.specs.Common.{Writes, at_place, refusal_line};
+ghost use Rattle.cil_program.specs.ByNames.{IsRefusalBy, note_line};
+ghost use Rattle.cil_program.specs.declared.command_line.foreign.NotProjected.TheVariants.{AtFault};
+
+use crate::command_line::files::{ReadFile, module_name};
+use crate::command_line::foreign::NotProjected;
+use crate::script::reply;
+use cil_projection::Tally;
+use cil_store::StoreFault;
+use cil_stream::{Sink, SinkFault, write_all, write_pieces};
+use cil_text::{Place, ShownWord, TextFault, TextFaultKind};
+use itoa::Buffer;
+use std::alloc::Global;
+
+/// A digit of base 16, in lower case.
+fn hex_digit(n: u8) -> u8
+    requires { n < 16 }
+    ensures { result ≡ hex_digit n }
+{
+    if n < 10 { b'0' + n } else { b'a' - 10 + n }
+}
+
+/// A byte as two digits of base 16.
+fn hex(b: u8) -> [u8; 2]
+    ensures { result ≡ hex b }
+{
+    [hex_digit(b / 16), hex_digit(b % 16)]
+}
+
+/// Writes the refusal of a module for a fault of its text.
+fn write_fault<E: Sink>(
+    err: &mut E,
+    name: &[u8],
+    kind: TextFaultKind,
+    at: Place,
+    word: ShownWord<'_>,
+) -> Result<(), SinkFault>
+    ensures { Writes E.taken E.failures err.old err.new (refusal_line
+        (at_place (code_of (kind_of kind)) name.now (place_of at) (shown word.entry))) result }
+{
+    match word {
+        ShownWord::Text(text) => reply::write_place(err, kind.code(), name, at, text),
+        ShownWord::Byte(b) => reply::write_place(err, kind.code(), name, at, &hex(b)),
+    }
+}
+
+/// Writes the refusal of the module in the file at a path for a fault of its text, or since memory ran out for it.
+fn write_text_fault<E: Sink>(
+    err: &mut E,
+    path: &str,
+    fault: TextFault<'_>,
+) -> Result<(), SinkFault>
+    ensures { (refusal : Refusal) × IsRefusalBy (AtFault path.entry fault.entry) refusal
+        × Writes E.taken E.failures err.old err.new (refusal_line refusal) result }
+{
+    match fault {
+        TextFault::Found { kind, at, word } => write_fault(err, module_name(path), kind, at, word),
+        TextFault::Memory => reply::write_no_memory(err),
+    }
+}
+
+/// Writes why files were not projected.
+pub fn write_not_projected<E: Sink>(err: &mut E, why: NotProjected<'_>) -> Result<(), SinkFault>
+    ensures { (refusal : Refusal) × IsRefusalBy why.entry refusal
+        × Writes E.taken E.failures err.old err.new (refusal_line refusal) result }
+{
+    match why {
+        NotProjected::AtFault { path, fault } => write_text_fault(err, path, fault),
+        NotProjected::TooLong { path } => {
+            reply::write_store_refusal(err, StoreFault::TextTooLong.code(), module_name(path))
+        }
+        NotProjected::Memory => reply::write_no_memory(err),
+    }
+}
+
+/// Writes how many statements of how many kinds are taken by their names.
+pub fn write_note<E: Sink>(err: &mut E, tally: &Tally) -> Result<(), SinkFault>
+    ensures { Writes E.taken E.failures err.old err.new (note_line tally.now) result }
+{
+    let mut statements = Buffer::new();
+    let mut kinds = Buffer::new();
+    write_pieces(
+        err,
+        &[
+            b"note: ",
+            statements.format(tally.statements()).as_bytes(),
+            b" statements of ",
+            kinds.format(tally.kinds()).as_bytes(),
+            b" kinds taken by their names alone\n",
+        ],
+    )
+}
+
+/// Writes the texts of files one after the other.
+pub fn write_texts<W: Sink>(out: &mut W, files: &[ReadFile<'_, Global>]) -> Result<(), SinkFault>
+    ensures { Writes W.taken W.failures out.old out.new
+        (flat_map (λ file. file.text.items) files.now) result }
+{
+    for file in files {
+        write_all(out, file.text.as_slice())?;
+    }
+    Ok(())
+}
