@@ -3,13 +3,27 @@
 _cilsem() {
     local word=${COMP_WORDS[COMP_CWORD]} command=${COMP_WORDS[1]}
     if [ "$COMP_CWORD" -eq 1 ]; then
-        COMPREPLY=($(compgen -W 'session compile help --help --version' -- "$word"))
+        COMPREPLY=($(compgen -W 'session compile project help --help --version' -- "$word"))
         return
     fi
+    case ${COMP_WORDS[COMP_CWORD - 1]} in
+        --foreign)
+            COMPREPLY=($(compgen -W names -- "$word"))
+            return
+            ;;
+        --booleans)
+            COMPREPLY=($(compgen -W 'default both' -- "$word"))
+            return
+            ;;
+    esac
     case $command in
-        compile)
+        compile | project)
             if [[ $word == -* ]]; then
-                COMPREPLY=($(compgen -W '--violations --help' -- "$word"))
+                local options='--booleans --help'
+                if [ "$command" = compile ]; then
+                    options="--violations --foreign $options"
+                fi
+                COMPREPLY=($(compgen -W "$options" -- "$word"))
             else
                 compopt -o filenames
                 COMPREPLY=($(compgen -f -X '!*.cil' -- "$word") $(compgen -d -- "$word"))
@@ -19,7 +33,7 @@ _cilsem() {
             COMPREPLY=($(compgen -W '--help' -- "$word"))
             ;;
         help)
-            COMPREPLY=($(compgen -W 'session compile' -- "$word"))
+            COMPREPLY=($(compgen -W 'session compile project' -- "$word"))
             ;;
     esac
 }

@@ -26,7 +26,7 @@ const SCRIPT: &[u8] =
 const ANSWER: &str = "ok 2 0\nallow a b:file { read write };\nend 1\n";
 
 const NO_WORDS: &str = "error: 'cilsem' requires a subcommand but one was not provided\n  \
-    [subcommands: session, compile, help]\n\n\
+    [subcommands: session, compile, project, help]\n\n\
     Usage: cilsem <COMMAND>\n\nFor more information, try '--help'.\n";
 
 const CASES: &[Case] = &[

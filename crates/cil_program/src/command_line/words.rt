@@ -45,7 +45,7 @@ fn booleans_option<'a>(alloc: Global) -> Arg<'a>
         .long("booleans")
         .action(ArgAction::Set)
         .value_name("VALUES")
-        .help("Which branches of conditional statements are taken: default, both, or NAME=true and NAME=false with commas between them")
+        .help("Branches that are taken: default, both, or NAME=true,NAME=false,..")
 }
 
 /// The option that says how statements outside the language are taken.
@@ -57,7 +57,7 @@ fn foreign_option<'a>(alloc: Global) -> Arg<'a>
         .long("foreign")
         .action(ArgAction::Set)
         .value_name("HOW")
-        .help("Take statements outside the language by the names in them alone: names")
+        .help("Take statements outside the language by their names alone: names")
 }
 
 /// The option that asks for violations.
@@ -103,7 +103,7 @@ fn project_command<'a>(alloc: Global) -> Result<Command<'a>, AllocError>
     ensures local { IfOk result (λ command. (out-Command command).has_globals ≡ false) }
 {
     let project = Command::new(alloc, PROJECT).about(
-        "Print what CIL files are compiled as where statements outside the language are taken by their names alone",
+        "Print what CIL files are compiled as with --foreign names",
     );
     let project = project.arg(booleans_option(alloc))?;
     project.arg(files_argument(alloc))
