@@ -8,4 +8,5 @@ pub mod SessionLemmas
 pub mod ScriptLemmas
 pub mod ReplyLemmas
 pub mod CommandLineLemmas
+pub mod ByNamesLemmas
 pub mod LawLemmas

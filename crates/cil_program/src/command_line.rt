@@ -1,8 +1,8 @@
 //! The command line: what its words ask for, and the exit status.
 
-ghost use Rattle.std.specs.Prelude.{◌≡◌, ◌≢◌, ◌⊎◌, ◌≤◌, ℕ, true, List, Result, Some, codes, map, option_map, IfOk, OnErr, OnOk};
+ghost use Rattle.std.specs.Prelude.{◌≡◌, ◌≢◌, ◌⊎◌, ◌≤◌, ℕ, true, List, [], Result, Some, codes, map, option_map, unwrap_or, IfOk, OnErr, OnOk};
 ghost use Rattle.cil_store_specs.specs.Next.{Refusal};
-ghost use Rattle.cil_program.specs.Common.{Row, found_of, kind_of, rows_of, subcommand_of, takes, OutOfMemory, Gains, GainsFront, HasFailed, for_memory, refusal_line, AsksSession, AnswersSession, CompilesFiles, LacksMemory, exit_status_of, unreadable_line, untold, AnswersByNames, AnswersCompile, AnswersProject, AnswersProjected, IsRefusalBy, IsReportAsked, IsToBePrinted, IsToBeWritten, conditionals_asked, conditionals_in, files_asked, foreign_asked, foreign_in, misuse_text, program_app};
+ghost use Rattle.cil_program.specs.Common.{Row, found_of, kind_of, rows_of, subcommand_of, takes, OutOfMemory, Gains, GainsFront, HasFailed, for_memory, refusal_line, AsksSession, AnswersSession, CompilesFiles, LacksMemory, exit_status_of, unreadable_line, untold, AnswersByNames, AnswersCompile, AnswersProject, AnswersProjected, IsRefusalBy, IsReportAsked, IsToBePrinted, IsToBeWritten, conditionals_asked, conditionals_in, foreign_asked, foreign_in, misuse_text, program_app};
 ghost use Rattle.cil_program.specs.declared.command_line.foreign.Wanted.TheVariants.{Compiled, Projections};
 ghost use Rattle.cil_program.specs.declared.command_line.compile.Report.{Report};
 ghost use Rattle.cil_program.specs.declared.script.outcome.SessionFault.{SessionFault};
@@ -336,14 +336,15 @@ fn report_of(words: &ArgMatches<'_>) -> Report
     }
 }
 
-/// The files among what was found.
-fn files_of<'m, 'a>(words: &'m ArgMatches<'a>) -> &'m [&'a str]
-    ensures { map (λ path. path.now) result.now ≡ files_asked (rows_of (found_of words.entry.now)) }
+/// Files, where some were found.
+fn files_or_none<'m>(found: Option<&'m [&'m str]>) -> &'m [&'m str]
+    ensures { map (λ path. path.now) result.now
+        ≡ unwrap_or (option_map (λ paths. map (λ path. path.now) paths.now) found.entry) [] }
 {
-    match words.get_strs(FILES) {
-        Some(paths) => paths,
-        None => &[],
-    }
+    let Some(paths) = found else {
+        return &[];
+    };
+    paths
 }
 
 /// How statements outside the language are taken, by what was found behind `compile`.
@@ -389,7 +390,7 @@ fn answer_compile<F: TextFiles, W: Sink, E: Sink>(
     ensures err_counted { E.failures err.old ≤ E.failures err.new }
 {
     let report = report_of(words);
-    let paths = files_of(words);
+    let paths = files_or_none(words.get_strs(FILES));
     match foreign_of(alloc, words) {
         Ok(Foreign::Refused) => {
             compile_files(from, alloc, paths, Asked { report, seed }, out, err)
@@ -434,7 +435,7 @@ fn answer_project<F: TextFiles, W: Sink, E: Sink>(
     match conditionals_of(alloc, words) {
         Ok(Some(conditionals)) => {
             let request = Request {
-                paths: files_of(words),
+                paths: files_or_none(words.get_strs(FILES)),
                 conditionals: &conditionals,
                 wanted: Wanted::Projections,
                 seed,

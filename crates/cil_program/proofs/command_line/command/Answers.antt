@@ -1,4 +1,4 @@
-use Rattle.cil_program.proofs.Common.{◌≡◌, ◌∙◌, ◌⊎◌, ◌≤◌, ◌<◌, inl, inr, ℕ, List, [], Result, Ok, Err, Option, IfOk, OnErr, option_map, unwrap_or, ap, sym, subst, arith, IfOk-weaker, Row, rows_of, Gains, GainsFront, HasFailed, failed-later, for_memory, refusal_line, untold, IsToBeWritten}
+use Rattle.cil_program.proofs.Common.{◌≡◌, ◌∙◌, ◌⊎◌, ◌≤◌, ◌<◌, inl, inr, ℕ, List, [], Result, Ok, Err, Option, IfOk, OnErr, option_map, unwrap_or, ap, sym, subst, arith, IfOk-weaker, Row, rows_of, Gains, GainsFront, HasFailed, failed-later, for_memory, refusal_line, untold, IsToBePrinted, IsToBeWritten}
 use Rattle.std.proofs.Math.Nat.{eq-or-lt_of_le}
 use Rattle.clap.specs.Matches.{found_of}
 use Rattle.cil_program.proofs.CommandLineLemmas.{front-all, on-err}
@@ -12,13 +12,13 @@ failed-kept old mid new a b (inr full) = by (eq-or-lt_of_le b)
     by (inl same) = inr (sym same ∙ full)
     by (inr more) = inl (omega (arith, more, a))
 
--- what `compile` has written of what was found, by what the sinks took
-abbrev Written-of : List Row → ℕ → Option (List ℕ) → Option (List ℕ) → Option (List ℕ) → Option (List ℕ) → Type 0
-Written-of rows s out new err err-new = (printed : List ℕ) × (told : List ℕ) × Gains out new printed × Gains err err-new told × IsToBeWritten (λ _. untold) rows printed told s
+-- what was written of what was found, by what the sinks took; `Meant` says what was to be written
+abbrev Written-of : (List Row → List ℕ → List ℕ → ℕ → Type 0) → List Row → ℕ → Option (List ℕ) → Option (List ℕ) → Option (List ℕ) → Option (List ℕ) → Type 0
+Written-of Meant rows s out new err err-new = (printed : List ℕ) × (told : List ℕ) × Gains out new printed × Gains err err-new told × Meant rows printed told s
 
 -- or a beginning of it
-abbrev Begun-of : List Row → Option (List ℕ) → Option (List ℕ) → Option (List ℕ) → Option (List ℕ) → Type 0
-Begun-of rows out new err err-new = (printed : List ℕ) × (told : List ℕ) × (meant : ℕ) × GainsFront out new printed × GainsFront err err-new told × IsToBeWritten (λ _. untold) rows printed told meant
+abbrev Begun-of : (List Row → List ℕ → List ℕ → ℕ → Type 0) → List Row → Option (List ℕ) → Option (List ℕ) → Option (List ℕ) → Option (List ℕ) → Type 0
+Begun-of Meant rows out new err err-new = (printed : List ℕ) × (told : List ℕ) × (meant : ℕ) × GainsFront out new printed × GainsFront err err-new told × Meant rows printed told meant
 
 -- what was answered is finished, or a sink failed, by then or now
 ended : {E : Type 0} (answered : Result ℕ E) (status : ℕ) (Done : ℕ → Type 0) (Failed Later Cut : Type 0) → IfOk answered Done → OnErr answered Failed → OnErr answered Cut
@@ -44,46 +44,79 @@ lacking (Err e) status out mid new err err-mid err-new Failed Later same same_er
     (same ∙ cut.0, inr (three, subst (λ t. GainsFront err t (refusal_line for_memory)) (sym same_err) cut.1, failed))
 
 -- what was written is as before what was flushed behind it
-written : (rows found : List Row) (s : ℕ) (out mid new err err-mid err-new : Option (List ℕ)) → found ≡ rows → new ≡ mid → err-new ≡ err-mid → Written-of found s out mid err err-mid → Written-of rows s out new err err-new
-written rows found s out mid new err err-mid err-new rows_are same same_err made = (
+written : (Meant : List Row → List ℕ → List ℕ → ℕ → Type 0) (rows found : List Row) (s : ℕ) (out mid new err err-mid err-new : Option (List ℕ)) → found ≡ rows → new ≡ mid → err-new ≡ err-mid → Written-of Meant found s out mid err err-mid → Written-of Meant rows s out new err err-new
+written Meant rows found s out mid new err err-mid err-new rows_are same same_err made = (
   made.0,
   made.1,
   subst (λ t. Gains out t made.0) (sym same) made.2,
   subst (λ t. Gains err t made.1) (sym same_err) made.3,
-  subst (λ r. IsToBeWritten (λ _. untold) r made.0 made.1 s) rows_are made.4,
+  subst (λ r. Meant r made.0 made.1 s) rows_are made.4,
 )
 
-begun : (rows found : List Row) (out mid new err err-mid err-new : Option (List ℕ)) → found ≡ rows → new ≡ mid → err-new ≡ err-mid → Begun-of found out mid err err-mid → Begun-of rows out new err err-new
-begun rows found out mid new err err-mid err-new rows_are same same_err made = (
+begun : (Meant : List Row → List ℕ → List ℕ → ℕ → Type 0) (rows found : List Row) (out mid new err err-mid err-new : Option (List ℕ)) → found ≡ rows → new ≡ mid → err-new ≡ err-mid → Begun-of Meant found out mid err err-mid → Begun-of Meant rows out new err err-new
+begun Meant rows found out mid new err err-mid err-new rows_are same same_err made = (
   made.0,
   made.1,
   made.2,
   subst (λ t. GainsFront out t made.0) (sym same) made.3,
   subst (λ t. GainsFront err t made.1) (sym same_err) made.4,
-  subst (λ r. IsToBeWritten (λ _. untold) r made.0 made.1 made.2) rows_are made.5,
+  subst (λ r. Meant r made.0 made.1 made.2) rows_are made.5,
 )
 
 -- all of it begins it
-all-begun : (rows : List Row) (s : ℕ) (out new err err-new : Option (List ℕ)) → Written-of rows s out new err err-new → Begun-of rows out new err err-new
-all-begun rows s out new err err-new made = (made.0, made.1, s, front-all out new made.0 made.2, front-all err err-new made.1 made.3, made.4)
+all-begun : (Meant : List Row → List ℕ → List ℕ → ℕ → Type 0) (rows : List Row) (s : ℕ) (out new err err-new : Option (List ℕ)) → Written-of Meant rows s out new err err-new → Begun-of Meant rows out new err err-new
+all-begun Meant rows s out new err err-new made = (made.0, made.1, s, front-all out new made.0 made.2, front-all err err-new made.1 made.3, made.4)
 
 pub returns-clause-compile : goal.returns-clause-compile
 returns-clause-compile g c = λ rows takes is.
-    let found = rows_of (found_of c.in-Some.asked.now) in
-    let rows_are : found ≡ rows = ap (λ o. unwrap_or o []) (sym c.in-Some.ensures.rows ∙ ap (option_map (λ p. p.1)) (c.in-Ok.ensures.found ∙ is)) in
+    let found = rows_of (found_of c.in-Some-2.asked.now) in
+    let rows_are : found ≡ rows = ap (λ o. unwrap_or o []) (sym c.in-Some-2.ensures.rows ∙ ap (option_map (λ p. p.1)) (c.in-Ok.ensures.found ∙ is)) in
     let answered = c.answer_compile-answered in
     let taken = g.W.Sink.taken in
     let err-taken = g.E.Sink.taken in
     let failures = g.W.Sink.failures in
     let err-failures = g.E.Sink.failures in
+    inl (ended answered.result c.finish-3.result
+    (λ s. Written-of (IsToBeWritten (λ _. untold)) rows s (taken c.args.out.now) (taken c.finish-3.new.out) (err-taken c.args.err.now) (err-taken c.finish-3.new.err))
+    (HasFailed (failures c.args.out.now) (failures c.finish-3.new.out) ⊎ HasFailed (err-failures c.args.err.now) (err-failures c.finish-3.new.err))
+    (HasFailed (failures answered.new.out) (failures c.finish-3.new.out) ⊎ HasFailed (err-failures answered.new.err) (err-failures c.finish-3.new.err))
+    (Begun-of (IsToBeWritten (λ _. untold)) rows (taken c.args.out.now) (taken c.finish-3.new.out) (err-taken c.args.err.now) (err-taken c.finish-3.new.err))
+    (IfOk-weaker answered.result (λ s. Written-of (IsToBeWritten (λ _. untold)) found s (taken c.args.out.now) (taken answered.new.out) (err-taken c.args.err.now) (err-taken answered.new.err))
+    (λ s. Written-of (IsToBeWritten (λ _. untold)) rows s (taken c.args.out.now) (taken c.finish-3.new.out) (err-taken c.args.err.now) (err-taken c.finish-3.new.err))
+    (λ s made. written (IsToBeWritten (λ _. untold)) rows found s (taken c.args.out.now) (taken answered.new.out) (taken c.finish-3.new.out) (err-taken c.args.err.now) (err-taken answered.new.err) (err-taken c.finish-3.new.err) rows_are c.finish-3.ensures.same_out c.finish-3.ensures.same_err made)
+    answered.ensures.ok)
+    (on-err answered.result (HasFailed (failures c.args.out.now) (failures answered.new.out) ⊎ HasFailed (err-failures c.args.err.now) (err-failures answered.new.err))
+    (HasFailed (failures c.args.out.now) (failures c.finish-3.new.out) ⊎ HasFailed (err-failures c.args.err.now) (err-failures c.finish-3.new.err))
+    (either-failed
+    (failed-kept (failures c.args.out.now) (failures answered.new.out) (failures c.finish-3.new.out) answered.ensures.out_counted c.finish-3.ensures.out_counted)
+    (failed-kept (err-failures c.args.err.now) (err-failures answered.new.err) (err-failures c.finish-3.new.err) answered.ensures.err_counted c.finish-3.ensures.err_counted))
+    answered.ensures.failed)
+    (on-err answered.result (Begun-of (IsToBeWritten (λ _. untold)) found (taken c.args.out.now) (taken answered.new.out) (err-taken c.args.err.now) (err-taken answered.new.err))
+    (Begun-of (IsToBeWritten (λ _. untold)) rows (taken c.args.out.now) (taken c.finish-3.new.out) (err-taken c.args.err.now) (err-taken c.finish-3.new.err))
+    (begun (IsToBeWritten (λ _. untold)) rows found (taken c.args.out.now) (taken answered.new.out) (taken c.finish-3.new.out) (err-taken c.args.err.now) (err-taken answered.new.err) (err-taken c.finish-3.new.err) rows_are c.finish-3.ensures.same_out c.finish-3.ensures.same_err)
+    answered.ensures.err)
+    (λ s. all-begun (IsToBeWritten (λ _. untold)) rows s (taken c.args.out.now) (taken c.finish-3.new.out) (err-taken c.args.err.now) (err-taken c.finish-3.new.err))
+    c.finish-3.ensures.ok c.finish-3.ensures.err (either-failed
+    (failed-later (failures c.args.out.now) (failures answered.new.out) (failures c.finish-3.new.out) answered.ensures.out_counted)
+    (failed-later (err-failures c.args.err.now) (err-failures answered.new.err) (err-failures c.finish-3.new.err) answered.ensures.err_counted)))
+
+pub returns-in-Some-clause-project : goal.returns-in-Some-clause-project
+returns-in-Some-clause-project g c = λ rows takes is.
+    let found = rows_of (found_of c.in-Some.asked.now) in
+    let rows_are : found ≡ rows = ap (λ o. unwrap_or o []) (sym c.in-Some.ensures.rows ∙ ap (option_map (λ p. p.1)) (c.in-Ok.ensures.found ∙ is)) in
+    let answered = c.answer_project-printed in
+    let taken = g.W.Sink.taken in
+    let err-taken = g.E.Sink.taken in
+    let failures = g.W.Sink.failures in
+    let err-failures = g.E.Sink.failures in
     inl (ended answered.result c.finish-2.result
-    (λ s. Written-of rows s (taken c.args.out.now) (taken c.finish-2.new.out) (err-taken c.args.err.now) (err-taken c.finish-2.new.err))
+    (λ s. Written-of (IsToBePrinted (λ _. untold)) rows s (taken c.args.out.now) (taken c.finish-2.new.out) (err-taken c.args.err.now) (err-taken c.finish-2.new.err))
     (HasFailed (failures c.args.out.now) (failures c.finish-2.new.out) ⊎ HasFailed (err-failures c.args.err.now) (err-failures c.finish-2.new.err))
     (HasFailed (failures answered.new.out) (failures c.finish-2.new.out) ⊎ HasFailed (err-failures answered.new.err) (err-failures c.finish-2.new.err))
-    (Begun-of rows (taken c.args.out.now) (taken c.finish-2.new.out) (err-taken c.args.err.now) (err-taken c.finish-2.new.err))
-    (IfOk-weaker answered.result (λ s. Written-of found s (taken c.args.out.now) (taken answered.new.out) (err-taken c.args.err.now) (err-taken answered.new.err))
-    (λ s. Written-of rows s (taken c.args.out.now) (taken c.finish-2.new.out) (err-taken c.args.err.now) (err-taken c.finish-2.new.err))
-    (λ s made. written rows found s (taken c.args.out.now) (taken answered.new.out) (taken c.finish-2.new.out) (err-taken c.args.err.now) (err-taken answered.new.err) (err-taken c.finish-2.new.err) rows_are c.finish-2.ensures.same_out c.finish-2.ensures.same_err made)
+    (Begun-of (IsToBePrinted (λ _. untold)) rows (taken c.args.out.now) (taken c.finish-2.new.out) (err-taken c.args.err.now) (err-taken c.finish-2.new.err))
+    (IfOk-weaker answered.result (λ s. Written-of (IsToBePrinted (λ _. untold)) found s (taken c.args.out.now) (taken answered.new.out) (err-taken c.args.err.now) (err-taken answered.new.err))
+    (λ s. Written-of (IsToBePrinted (λ _. untold)) rows s (taken c.args.out.now) (taken c.finish-2.new.out) (err-taken c.args.err.now) (err-taken c.finish-2.new.err))
+    (λ s made. written (IsToBePrinted (λ _. untold)) rows found s (taken c.args.out.now) (taken answered.new.out) (taken c.finish-2.new.out) (err-taken c.args.err.now) (err-taken answered.new.err) (err-taken c.finish-2.new.err) rows_are c.finish-2.ensures.same_out c.finish-2.ensures.same_err made)
     answered.ensures.ok)
     (on-err answered.result (HasFailed (failures c.args.out.now) (failures answered.new.out) ⊎ HasFailed (err-failures c.args.err.now) (err-failures answered.new.err))
     (HasFailed (failures c.args.out.now) (failures c.finish-2.new.out) ⊎ HasFailed (err-failures c.args.err.now) (err-failures c.finish-2.new.err))
@@ -91,11 +124,11 @@ returns-clause-compile g c = λ rows takes is.
     (failed-kept (failures c.args.out.now) (failures answered.new.out) (failures c.finish-2.new.out) answered.ensures.out_counted c.finish-2.ensures.out_counted)
     (failed-kept (err-failures c.args.err.now) (err-failures answered.new.err) (err-failures c.finish-2.new.err) answered.ensures.err_counted c.finish-2.ensures.err_counted))
     answered.ensures.failed)
-    (on-err answered.result (Begun-of found (taken c.args.out.now) (taken answered.new.out) (err-taken c.args.err.now) (err-taken answered.new.err))
-    (Begun-of rows (taken c.args.out.now) (taken c.finish-2.new.out) (err-taken c.args.err.now) (err-taken c.finish-2.new.err))
-    (begun rows found (taken c.args.out.now) (taken answered.new.out) (taken c.finish-2.new.out) (err-taken c.args.err.now) (err-taken answered.new.err) (err-taken c.finish-2.new.err) rows_are c.finish-2.ensures.same_out c.finish-2.ensures.same_err)
+    (on-err answered.result (Begun-of (IsToBePrinted (λ _. untold)) found (taken c.args.out.now) (taken answered.new.out) (err-taken c.args.err.now) (err-taken answered.new.err))
+    (Begun-of (IsToBePrinted (λ _. untold)) rows (taken c.args.out.now) (taken c.finish-2.new.out) (err-taken c.args.err.now) (err-taken c.finish-2.new.err))
+    (begun (IsToBePrinted (λ _. untold)) rows found (taken c.args.out.now) (taken answered.new.out) (taken c.finish-2.new.out) (err-taken c.args.err.now) (err-taken answered.new.err) (err-taken c.finish-2.new.err) rows_are c.finish-2.ensures.same_out c.finish-2.ensures.same_err)
     answered.ensures.err)
-    (λ s. all-begun rows s (taken c.args.out.now) (taken c.finish-2.new.out) (err-taken c.args.err.now) (err-taken c.finish-2.new.err))
+    (λ s. all-begun (IsToBePrinted (λ _. untold)) rows s (taken c.args.out.now) (taken c.finish-2.new.out) (err-taken c.args.err.now) (err-taken c.finish-2.new.err))
     c.finish-2.ensures.ok c.finish-2.ensures.err (either-failed
     (failed-later (failures c.args.out.now) (failures answered.new.out) (failures c.finish-2.new.out) answered.ensures.out_counted)
     (failed-later (err-failures c.args.err.now) (err-failures answered.new.err) (err-failures c.finish-2.new.err) answered.ensures.err_counted)))
@@ -124,6 +157,28 @@ returns-in-Err-clause-session g c = λ asks.
 
 pub returns-in-Err-clause-compile : goal.returns-in-Err-clause-compile
 returns-in-Err-clause-compile g c = λ rows takes is.
+    let memory = c.in-Err.ensures.taken takes in
+    let told = c.tell-told in
+    let taken = g.W.Sink.taken in
+    let err-taken = g.E.Sink.taken in
+    let failures = g.W.Sink.failures in
+    let err-failures = g.E.Sink.failures in
+    inr (lacking told.result c.finish.result (taken c.args.out.now) (taken told.new.out) (taken c.finish.new.out) (err-taken c.args.err.now) (err-taken told.new.err) (err-taken c.finish.new.err)
+    (HasFailed (failures c.args.out.now) (failures c.finish.new.out) ⊎ HasFailed (err-failures c.args.err.now) (err-failures c.finish.new.err))
+    (HasFailed (failures told.new.out) (failures c.finish.new.out) ⊎ HasFailed (err-failures told.new.err) (err-failures c.finish.new.err))
+    c.finish.ensures.same_out c.finish.ensures.same_err (told.ensures.memory memory) (told.ensures.memory_cut memory)
+    (on-err told.result (HasFailed (failures c.args.out.now) (failures told.new.out) ⊎ HasFailed (err-failures c.args.err.now) (err-failures told.new.err))
+    (HasFailed (failures c.args.out.now) (failures c.finish.new.out) ⊎ HasFailed (err-failures c.args.err.now) (err-failures c.finish.new.err))
+    (either-failed
+    (failed-kept (failures c.args.out.now) (failures told.new.out) (failures c.finish.new.out) told.ensures.out_counted c.finish.ensures.out_counted)
+    (failed-kept (err-failures c.args.err.now) (err-failures told.new.err) (err-failures c.finish.new.err) told.ensures.err_counted c.finish.ensures.err_counted))
+    told.ensures.failed)
+    c.finish.ensures.ok c.finish.ensures.err (either-failed
+    (failed-later (failures c.args.out.now) (failures told.new.out) (failures c.finish.new.out) told.ensures.out_counted)
+    (failed-later (err-failures c.args.err.now) (err-failures told.new.err) (err-failures c.finish.new.err) told.ensures.err_counted)))
+
+pub returns-in-Err-clause-project : goal.returns-in-Err-clause-project
+returns-in-Err-clause-project g c = λ rows takes is.
     let memory = c.in-Err.ensures.taken takes in
     let told = c.tell-told in
     let taken = g.W.Sink.taken in
