@@ -314,7 +314,7 @@ fn answer_by_names<F: TextFiles, W: Sink, E: Sink>(
     let files = match read_files(from, alloc, request.paths) {
         Ok(files) => files,
         Err(ReadFault::Memory) => return refuse_for_memory(err),
-        Err(ReadFault::Unreadable(path)) => return tell_unreadable(err, path),
+        Err(ReadFault::Unreadable(unread)) => return tell_unreadable(err, unread),
     };
     let projected = project_files(alloc, request.seed, request.conditionals, files.as_slice());
     match projected {

@@ -29,6 +29,11 @@ const NO_WORDS: &str = "error: 'cilsem' requires a subcommand but one was not pr
     [subcommands: session, compile, project, help]\n\n\
     Usage: cilsem <COMMAND>\n\nFor more information, try '--help'.\n";
 
+const NOTE: &str = "note: 0 statements of 0 kinds taken by their names alone\n";
+
+const NO_FOREIGN: &str =
+    "error: '--booleans' goes with '--foreign names'\n\nFor more information, try '--help'.\n";
+
 const CASES: &[Case] = &[
     (&["cilsem", "session"], 1000, 1000, 0, (0, ANSWER, "")),
     (&["cilsem", "session"], 92, 1000, 0, (3, "ok 2 0\n", "")),
@@ -72,6 +77,34 @@ const CASES: &[Case] = &[
         0,
         5,
         (3, "", "unrea"),
+    ),
+    (
+        &["cilsem", "compile", "--foreign", "names", "failing_devices.cil"],
+        0,
+        1000,
+        1000,
+        (0, "allow a a:p { use };\n", NOTE),
+    ),
+    (
+        &["cilsem", "project", "failing_devices.cil"],
+        0,
+        3,
+        1000,
+        (3, "(cl", NOTE),
+    ),
+    (
+        &["cilsem", "project", "failing_devices"],
+        0,
+        1000,
+        1000,
+        (1, "", "refused 12 failing_devices:1:1 (\n"),
+    ),
+    (
+        &["cilsem", "compile", "--booleans", "both", "failing_devices.cil"],
+        0,
+        1000,
+        1000,
+        (2, "", NO_FOREIGN),
     ),
     (&["cilsem", "--version"], 0, 6, 1000, (3, "cilsem", "")),
     (&["cilsem"], 0, 1000, 6, (3, "", "error:")),

@@ -14,23 +14,23 @@ returns-in-Err-Memory-clause-err g c =
 
 pub returns-in-Err-Unreadable-clause-ok : goal.returns-in-Err-Unreadable-clause-ok
 returns-in-Err-Unreadable-clause-ok g c =
-    let path = c.in-Err-Unreadable.path in
+    let path = c.in-Err-Unreadable.unread in
     let taken = g.E.Sink.taken in
     let unread = c.in-Err-Unreadable.ensures.err path c.in-Err-Unreadable.field-0-is in
     let given = contains-map (λ path. path.now) c.args.request.paths.now path unread.0 in
     IfOk-weaker c.tell_unreadable.result _ _ (λ status written.
-    let told = subst (λ p. Gains (taken c.args.err.now) (taken c.tell_unreadable.new.err) (unreadable_line p.now)) c.in-Err-Unreadable.path-is written.1 in
+    let told = subst (λ p. Gains (taken c.args.err.now) (taken c.tell_unreadable.new.err) (unreadable_line p.now)) c.in-Err-Unreadable.unread-is written.1 in
     ([], unreadable_line path.now, gains-none (g.W.Sink.taken c.args.out.now), told, one_unreadable path.now given unread.1 refl refl written.0))
     c.tell_unreadable.ensures.ok
 
 pub returns-in-Err-Unreadable-clause-err : goal.returns-in-Err-Unreadable-clause-err
 returns-in-Err-Unreadable-clause-err g c =
-    let path = c.in-Err-Unreadable.path in
+    let path = c.in-Err-Unreadable.unread in
     let taken = g.E.Sink.taken in
     let unread = c.in-Err-Unreadable.ensures.err path c.in-Err-Unreadable.field-0-is in
     let given = contains-map (λ path. path.now) c.args.request.paths.now path unread.0 in
     on-err c.tell_unreadable.result _ _ (λ begun.
-    let told = subst (λ p. GainsFront (taken c.args.err.now) (taken c.tell_unreadable.new.err) (unreadable_line p.now)) c.in-Err-Unreadable.path-is begun in
+    let told = subst (λ p. GainsFront (taken c.args.err.now) (taken c.tell_unreadable.new.err) (unreadable_line p.now)) c.in-Err-Unreadable.unread-is begun in
     ([], unreadable_line path.now, 3, front-none (g.W.Sink.taken c.args.out.now), told, one_unreadable path.now given unread.1 refl refl refl))
     c.tell_unreadable.ensures.err
 
