@@ -17,23 +17,13 @@ mod words;
 
 use crate::command_line::compile::{Asked, Report, compile_entries, refuse_for_memory};
 use crate::command_line::conditionals::{
-    Conditionals,
-    Foreign,
-    Misuse,
-    conditionals_by,
-    foreign_by,
+    Conditionals, Foreign, Misuse, conditionals_by, foreign_by,
 };
 use crate::command_line::files::{ReadFault, TextFiles, entries_of, read_files};
 use crate::command_line::foreign::{NotProjected, Projected, Wanted, project_files};
 use crate::command_line::notes::{write_not_projected, write_note, write_texts};
 use crate::command_line::words::{
-    BOOLEANS,
-    COMPILE,
-    FILES,
-    FOREIGN,
-    PROJECT,
-    VIOLATIONS,
-    matches_of,
+    BOOLEANS, COMPILE, FILES, FOREIGN, PROJECT, VIOLATIONS, matches_of,
 };
 use crate::script::outcome::{SessionFault, Status};
 use crate::script::session::session;

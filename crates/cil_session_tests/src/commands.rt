@@ -79,7 +79,13 @@ const CASES: &[Case] = &[
         (3, "", "unrea"),
     ),
     (
-        &["cilsem", "compile", "--foreign", "names", "failing_devices.cil"],
+        &[
+            "cilsem",
+            "compile",
+            "--foreign",
+            "names",
+            "failing_devices.cil",
+        ],
         0,
         1000,
         1000,
@@ -100,7 +106,13 @@ const CASES: &[Case] = &[
         (1, "", "refused 12 failing_devices:1:1 (\n"),
     ),
     (
-        &["cilsem", "compile", "--booleans", "both", "failing_devices.cil"],
+        &[
+            "cilsem",
+            "compile",
+            "--booleans",
+            "both",
+            "failing_devices.cil",
+        ],
         0,
         1000,
         1000,

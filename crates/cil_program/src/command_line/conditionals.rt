@@ -91,14 +91,14 @@ fn parts_of<'a>(alloc: Global, word: &'a str) -> Result<Vec<&'a str>, AllocError
 fn no_settings<'a>(alloc: Global, both: bool) -> Conditionals<'a>
     ensures { conditionals_in result ≡ record { both = both; settings = [] } }
 {
-    Conditionals { both, settings: Vec::new(alloc) }
+    Conditionals {
+        both,
+        settings: Vec::new(alloc),
+    }
 }
 
 /// `default`, `both`, or settings with commas between them.
-fn conditionals_of<'a>(
-    alloc: Global,
-    word: &'a str,
-) -> Result<Option<Conditionals<'a>>, AllocError>
+fn conditionals_of<'a>(alloc: Global, word: &'a str) -> Result<Option<Conditionals<'a>>, AllocError>
     ensures { IfOk result (λ found. option_map conditionals_in found
         ≡ conditionals_of word.entry.now) }
 {
@@ -112,7 +112,10 @@ fn conditionals_of<'a>(
     let Some(settings) = settings_of(alloc, parts.as_slice())? else {
         return Ok(None);
     };
-    Ok(Some(Conditionals { both: false, settings }))
+    Ok(Some(Conditionals {
+        both: false,
+        settings,
+    }))
 }
 
 /// How conditional statements are taken by what `--booleans` says; none where that has no form.

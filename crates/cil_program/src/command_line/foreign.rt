@@ -27,14 +27,9 @@ pub enum Wanted {
 #[derive(Clone, Copy, Debug)]
 pub enum NotProjected<'m> {
     /// The text of the file at a path has a fault, or memory ran out for it.
-    AtFault {
-        path: &'m str,
-        fault: TextFault<'m>,
-    },
+    AtFault { path: &'m str, fault: TextFault<'m> },
     /// The text of the file at a path is longer than a store takes.
-    TooLong {
-        path: &'m str,
-    },
+    TooLong { path: &'m str },
     Memory,
 }
 
@@ -99,7 +94,10 @@ fn collect_file<'m>(
     let text = text_of(file)?;
     match booleans.collect(alloc, text) {
         Ok(()) => Ok(()),
-        Err(fault) => Err(NotProjected::AtFault { path: file.path, fault }),
+        Err(fault) => Err(NotProjected::AtFault {
+            path: file.path,
+            fault,
+        }),
     }
 }
 
@@ -162,7 +160,10 @@ fn project_file<'m>(
             projected.extend_from_slice(more)?;
             Ok(projected)
         }
-        Err(fault) => Err(NotProjected::AtFault { path: file.path, fault }),
+        Err(fault) => Err(NotProjected::AtFault {
+            path: file.path,
+            fault,
+        }),
     }
 }
 
@@ -186,7 +187,10 @@ fn project_all<'m>(
     let mut more = DECLARATIONS;
     for file in files {
         let text = project_file(alloc, file, booleans, more, tally)?;
-        projected.push(ReadFile { path: file.path, text })?;
+        projected.push(ReadFile {
+            path: file.path,
+            text,
+        })?;
         more = b"";
     }
     Ok(projected)

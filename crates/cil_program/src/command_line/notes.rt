@@ -52,11 +52,7 @@ fn write_fault<E: Sink>(
 }
 
 /// Writes the refusal of the module in the file at a path for a fault of its text, or since memory ran out for it.
-fn write_text_fault<E: Sink>(
-    err: &mut E,
-    path: &str,
-    fault: TextFault<'_>,
-) -> Result<(), SinkFault>
+fn write_text_fault<E: Sink>(err: &mut E, path: &str, fault: TextFault<'_>) -> Result<(), SinkFault>
     ensures { (refusal : Refusal) × IsRefusalBy (AtFault path.entry fault.entry) refusal
         × Writes E.taken E.failures err.old err.new (refusal_line refusal) result }
 {

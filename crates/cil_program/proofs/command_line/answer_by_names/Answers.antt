@@ -89,8 +89,8 @@ returns-clause-ok g c =
       gains-none (g.W.Sink.taken c.args.out.now),
       told.3,
       subst (λ ps. AnswersByNames content ps (conditionals_in asked.conditionals.now) asked.wanted [] (refusal_line told.0) status) files_are
-      (subst (λ s. AnswersByNames content (map (λ f. f.path.now) files) (conditionals_in asked.conditionals.now) asked.wanted [] (refusal_line told.0) s) (sym told.2)
-      (refused-by content (λ f. f.path.now) (λ f. f.text.items) files (conditionals_in asked.conditionals.now) asked.wanted c.in-Err.why told.0 read c.in-Err.ensures.err told.1)),
+          (subst (λ s. AnswersByNames content (map (λ f. f.path.now) files) (conditionals_in asked.conditionals.now) asked.wanted [] (refusal_line told.0) s) (sym told.2)
+          (refused-by content (λ f. f.path.now) (λ f. f.text.items) files (conditionals_in asked.conditionals.now) asked.wanted c.in-Err.why told.0 read c.in-Err.ensures.err told.1)),
     ))
     c.tell_not_projected.ensures.ok
 
@@ -109,6 +109,6 @@ returns-clause-err g c =
       front-none (g.W.Sink.taken c.args.out.now),
       begun.2,
       subst (λ ps. AnswersByNames content ps (conditionals_in asked.conditionals.now) asked.wanted [] (refusal_line begun.0) 1) files_are
-      (refused-by content (λ f. f.path.now) (λ f. f.text.items) files (conditionals_in asked.conditionals.now) asked.wanted c.in-Err.why begun.0 read c.in-Err.ensures.err begun.1),
+          (refused-by content (λ f. f.path.now) (λ f. f.text.items) files (conditionals_in asked.conditionals.now) asked.wanted c.in-Err.why begun.0 read c.in-Err.ensures.err begun.1),
     ))
     c.tell_not_projected.ensures.err

@@ -24,10 +24,10 @@ loop-file-preserved c =
     let more = projections-more settings DECLARATIONS.now front (map (λ f. f.text.items) projected) file.text.items text c.loop-file.invariant.1
     (made.0, made.1, made.2 ∙ ap (λ b. made.0 ++ b) c.loop-file.invariant.3) in (
       ap (map (λ f. f.path.now)) c.in_ok-push.ensures.items ∙ map-append (λ f. f.path.now) projected _ ∙ ap (λ l. l ++ file.path.now ∷ []) c.loop-file.invariant.0
-      ∙ sym (map-append (λ f. f.path.now) done (file ∷ [])) ∙ ap (map (λ f. f.path.now)) taken,
+          ∙ sym (map-append (λ f. f.path.now) done (file ∷ [])) ∙ ap (map (λ f. f.path.now)) taken,
       subst (λ l. AreProjections settings DECLARATIONS.now l (map (λ f. f.text.items) c.push.new.self.items)) texts
-      (subst (λ l. AreProjections settings DECLARATIONS.now (front ++ file.text.items ∷ []) l) others more),
+          (subst (λ l. AreProjections settings DECLARATIONS.now (front ++ file.text.items ∷ []) l) others more),
       subst (λ l. InTurn (Tallies settings) l c.args.tally.now c.project_file.new.tally) texts
-      (in_turn-more (Tallies settings) front file.text.items c.args.tally.now c.loop-file.tally c.project_file.new.tally c.loop-file.invariant.2 c.in_ok-text.ensures.counted),
+          (in_turn-more (Tallies settings) front file.text.items c.args.tally.now c.loop-file.tally c.project_file.new.tally c.loop-file.invariant.2 c.in_ok-text.ensures.counted),
       sym (behind-some front file.text.items DECLARATIONS.now) ∙ ap (λ l. behind l DECLARATIONS.now) texts,
     )
