@@ -69,36 +69,36 @@ all-begun Meant rows s out new err err-new made = (made.0, made.1, s, front-all 
 
 pub returns-clause-compile : goal.returns-clause-compile
 returns-clause-compile g c = λ rows takes is.
-    let found = rows_of (found_of c.in-Some-2.asked.now) in
-    let rows_are : found ≡ rows = ap (λ o. unwrap_or o []) (sym c.in-Some-2.ensures.rows ∙ ap (option_map (λ p. p.1)) (c.in-Ok.ensures.found ∙ is)) in
+    let found = rows_of (found_of c.in-Some-subcommand_matches.asked.now) in
+    let rows_are : found ≡ rows = ap (λ o. unwrap_or o []) (sym c.in-Some-subcommand_matches.ensures.rows ∙ ap (option_map (λ p. p.1)) (c.in-Ok.ensures.found ∙ is)) in
     let answered = c.answer_compile-answered in
     let taken = g.W.Sink.taken in
     let err-taken = g.E.Sink.taken in
     let failures = g.W.Sink.failures in
     let err-failures = g.E.Sink.failures in
-    inl (ended answered.result c.finish-3.result
-    (λ s. Written-of (IsToBeWritten (λ _. untold)) rows s (taken c.args.out.now) (taken c.finish-3.new.out) (err-taken c.args.err.now) (err-taken c.finish-3.new.err))
-    (HasFailed (failures c.args.out.now) (failures c.finish-3.new.out) ⊎ HasFailed (err-failures c.args.err.now) (err-failures c.finish-3.new.err))
-    (HasFailed (failures answered.new.out) (failures c.finish-3.new.out) ⊎ HasFailed (err-failures answered.new.err) (err-failures c.finish-3.new.err))
-    (Begun-of (IsToBeWritten (λ _. untold)) rows (taken c.args.out.now) (taken c.finish-3.new.out) (err-taken c.args.err.now) (err-taken c.finish-3.new.err))
+    inl (ended answered.result c.finish-2.result
+    (λ s. Written-of (IsToBeWritten (λ _. untold)) rows s (taken c.args.out.now) (taken c.finish-2.new.out) (err-taken c.args.err.now) (err-taken c.finish-2.new.err))
+    (HasFailed (failures c.args.out.now) (failures c.finish-2.new.out) ⊎ HasFailed (err-failures c.args.err.now) (err-failures c.finish-2.new.err))
+    (HasFailed (failures answered.new.out) (failures c.finish-2.new.out) ⊎ HasFailed (err-failures answered.new.err) (err-failures c.finish-2.new.err))
+    (Begun-of (IsToBeWritten (λ _. untold)) rows (taken c.args.out.now) (taken c.finish-2.new.out) (err-taken c.args.err.now) (err-taken c.finish-2.new.err))
     (IfOk-weaker answered.result (λ s. Written-of (IsToBeWritten (λ _. untold)) found s (taken c.args.out.now) (taken answered.new.out) (err-taken c.args.err.now) (err-taken answered.new.err))
-    (λ s. Written-of (IsToBeWritten (λ _. untold)) rows s (taken c.args.out.now) (taken c.finish-3.new.out) (err-taken c.args.err.now) (err-taken c.finish-3.new.err))
-    (λ s made. written (IsToBeWritten (λ _. untold)) rows found s (taken c.args.out.now) (taken answered.new.out) (taken c.finish-3.new.out) (err-taken c.args.err.now) (err-taken answered.new.err) (err-taken c.finish-3.new.err) rows_are c.finish-3.ensures.same_out c.finish-3.ensures.same_err made)
+    (λ s. Written-of (IsToBeWritten (λ _. untold)) rows s (taken c.args.out.now) (taken c.finish-2.new.out) (err-taken c.args.err.now) (err-taken c.finish-2.new.err))
+    (λ s made. written (IsToBeWritten (λ _. untold)) rows found s (taken c.args.out.now) (taken answered.new.out) (taken c.finish-2.new.out) (err-taken c.args.err.now) (err-taken answered.new.err) (err-taken c.finish-2.new.err) rows_are c.finish-2.ensures.same_out c.finish-2.ensures.same_err made)
     answered.ensures.ok)
     (on-err answered.result (HasFailed (failures c.args.out.now) (failures answered.new.out) ⊎ HasFailed (err-failures c.args.err.now) (err-failures answered.new.err))
-    (HasFailed (failures c.args.out.now) (failures c.finish-3.new.out) ⊎ HasFailed (err-failures c.args.err.now) (err-failures c.finish-3.new.err))
+    (HasFailed (failures c.args.out.now) (failures c.finish-2.new.out) ⊎ HasFailed (err-failures c.args.err.now) (err-failures c.finish-2.new.err))
     (either-failed
-    (failed-kept (failures c.args.out.now) (failures answered.new.out) (failures c.finish-3.new.out) answered.ensures.out_counted c.finish-3.ensures.out_counted)
-    (failed-kept (err-failures c.args.err.now) (err-failures answered.new.err) (err-failures c.finish-3.new.err) answered.ensures.err_counted c.finish-3.ensures.err_counted))
+    (failed-kept (failures c.args.out.now) (failures answered.new.out) (failures c.finish-2.new.out) answered.ensures.out_counted c.finish-2.ensures.out_counted)
+    (failed-kept (err-failures c.args.err.now) (err-failures answered.new.err) (err-failures c.finish-2.new.err) answered.ensures.err_counted c.finish-2.ensures.err_counted))
     answered.ensures.failed)
     (on-err answered.result (Begun-of (IsToBeWritten (λ _. untold)) found (taken c.args.out.now) (taken answered.new.out) (err-taken c.args.err.now) (err-taken answered.new.err))
-    (Begun-of (IsToBeWritten (λ _. untold)) rows (taken c.args.out.now) (taken c.finish-3.new.out) (err-taken c.args.err.now) (err-taken c.finish-3.new.err))
-    (begun (IsToBeWritten (λ _. untold)) rows found (taken c.args.out.now) (taken answered.new.out) (taken c.finish-3.new.out) (err-taken c.args.err.now) (err-taken answered.new.err) (err-taken c.finish-3.new.err) rows_are c.finish-3.ensures.same_out c.finish-3.ensures.same_err)
+    (Begun-of (IsToBeWritten (λ _. untold)) rows (taken c.args.out.now) (taken c.finish-2.new.out) (err-taken c.args.err.now) (err-taken c.finish-2.new.err))
+    (begun (IsToBeWritten (λ _. untold)) rows found (taken c.args.out.now) (taken answered.new.out) (taken c.finish-2.new.out) (err-taken c.args.err.now) (err-taken answered.new.err) (err-taken c.finish-2.new.err) rows_are c.finish-2.ensures.same_out c.finish-2.ensures.same_err)
     answered.ensures.err)
-    (λ s. all-begun (IsToBeWritten (λ _. untold)) rows s (taken c.args.out.now) (taken c.finish-3.new.out) (err-taken c.args.err.now) (err-taken c.finish-3.new.err))
-    c.finish-3.ensures.ok c.finish-3.ensures.err (either-failed
-    (failed-later (failures c.args.out.now) (failures answered.new.out) (failures c.finish-3.new.out) answered.ensures.out_counted)
-    (failed-later (err-failures c.args.err.now) (err-failures answered.new.err) (err-failures c.finish-3.new.err) answered.ensures.err_counted)))
+    (λ s. all-begun (IsToBeWritten (λ _. untold)) rows s (taken c.args.out.now) (taken c.finish-2.new.out) (err-taken c.args.err.now) (err-taken c.finish-2.new.err))
+    c.finish-2.ensures.ok c.finish-2.ensures.err (either-failed
+    (failed-later (failures c.args.out.now) (failures answered.new.out) (failures c.finish-2.new.out) answered.ensures.out_counted)
+    (failed-later (err-failures c.args.err.now) (err-failures answered.new.err) (err-failures c.finish-2.new.err) answered.ensures.err_counted)))
 
 pub returns-in-Some-clause-project : goal.returns-in-Some-clause-project
 returns-in-Some-clause-project g c = λ rows takes is.
@@ -109,29 +109,29 @@ returns-in-Some-clause-project g c = λ rows takes is.
     let err-taken = g.E.Sink.taken in
     let failures = g.W.Sink.failures in
     let err-failures = g.E.Sink.failures in
-    inl (ended answered.result c.finish-2.result
-    (λ s. Written-of (IsToBePrinted (λ _. untold)) rows s (taken c.args.out.now) (taken c.finish-2.new.out) (err-taken c.args.err.now) (err-taken c.finish-2.new.err))
-    (HasFailed (failures c.args.out.now) (failures c.finish-2.new.out) ⊎ HasFailed (err-failures c.args.err.now) (err-failures c.finish-2.new.err))
-    (HasFailed (failures answered.new.out) (failures c.finish-2.new.out) ⊎ HasFailed (err-failures answered.new.err) (err-failures c.finish-2.new.err))
-    (Begun-of (IsToBePrinted (λ _. untold)) rows (taken c.args.out.now) (taken c.finish-2.new.out) (err-taken c.args.err.now) (err-taken c.finish-2.new.err))
+    inl (ended answered.result c.finish-in-Some.result
+    (λ s. Written-of (IsToBePrinted (λ _. untold)) rows s (taken c.args.out.now) (taken c.finish-in-Some.new.out) (err-taken c.args.err.now) (err-taken c.finish-in-Some.new.err))
+    (HasFailed (failures c.args.out.now) (failures c.finish-in-Some.new.out) ⊎ HasFailed (err-failures c.args.err.now) (err-failures c.finish-in-Some.new.err))
+    (HasFailed (failures answered.new.out) (failures c.finish-in-Some.new.out) ⊎ HasFailed (err-failures answered.new.err) (err-failures c.finish-in-Some.new.err))
+    (Begun-of (IsToBePrinted (λ _. untold)) rows (taken c.args.out.now) (taken c.finish-in-Some.new.out) (err-taken c.args.err.now) (err-taken c.finish-in-Some.new.err))
     (IfOk-weaker answered.result (λ s. Written-of (IsToBePrinted (λ _. untold)) found s (taken c.args.out.now) (taken answered.new.out) (err-taken c.args.err.now) (err-taken answered.new.err))
-    (λ s. Written-of (IsToBePrinted (λ _. untold)) rows s (taken c.args.out.now) (taken c.finish-2.new.out) (err-taken c.args.err.now) (err-taken c.finish-2.new.err))
-    (λ s made. written (IsToBePrinted (λ _. untold)) rows found s (taken c.args.out.now) (taken answered.new.out) (taken c.finish-2.new.out) (err-taken c.args.err.now) (err-taken answered.new.err) (err-taken c.finish-2.new.err) rows_are c.finish-2.ensures.same_out c.finish-2.ensures.same_err made)
+    (λ s. Written-of (IsToBePrinted (λ _. untold)) rows s (taken c.args.out.now) (taken c.finish-in-Some.new.out) (err-taken c.args.err.now) (err-taken c.finish-in-Some.new.err))
+    (λ s made. written (IsToBePrinted (λ _. untold)) rows found s (taken c.args.out.now) (taken answered.new.out) (taken c.finish-in-Some.new.out) (err-taken c.args.err.now) (err-taken answered.new.err) (err-taken c.finish-in-Some.new.err) rows_are c.finish-in-Some.ensures.same_out c.finish-in-Some.ensures.same_err made)
     answered.ensures.ok)
     (on-err answered.result (HasFailed (failures c.args.out.now) (failures answered.new.out) ⊎ HasFailed (err-failures c.args.err.now) (err-failures answered.new.err))
-    (HasFailed (failures c.args.out.now) (failures c.finish-2.new.out) ⊎ HasFailed (err-failures c.args.err.now) (err-failures c.finish-2.new.err))
+    (HasFailed (failures c.args.out.now) (failures c.finish-in-Some.new.out) ⊎ HasFailed (err-failures c.args.err.now) (err-failures c.finish-in-Some.new.err))
     (either-failed
-    (failed-kept (failures c.args.out.now) (failures answered.new.out) (failures c.finish-2.new.out) answered.ensures.out_counted c.finish-2.ensures.out_counted)
-    (failed-kept (err-failures c.args.err.now) (err-failures answered.new.err) (err-failures c.finish-2.new.err) answered.ensures.err_counted c.finish-2.ensures.err_counted))
+    (failed-kept (failures c.args.out.now) (failures answered.new.out) (failures c.finish-in-Some.new.out) answered.ensures.out_counted c.finish-in-Some.ensures.out_counted)
+    (failed-kept (err-failures c.args.err.now) (err-failures answered.new.err) (err-failures c.finish-in-Some.new.err) answered.ensures.err_counted c.finish-in-Some.ensures.err_counted))
     answered.ensures.failed)
     (on-err answered.result (Begun-of (IsToBePrinted (λ _. untold)) found (taken c.args.out.now) (taken answered.new.out) (err-taken c.args.err.now) (err-taken answered.new.err))
-    (Begun-of (IsToBePrinted (λ _. untold)) rows (taken c.args.out.now) (taken c.finish-2.new.out) (err-taken c.args.err.now) (err-taken c.finish-2.new.err))
-    (begun (IsToBePrinted (λ _. untold)) rows found (taken c.args.out.now) (taken answered.new.out) (taken c.finish-2.new.out) (err-taken c.args.err.now) (err-taken answered.new.err) (err-taken c.finish-2.new.err) rows_are c.finish-2.ensures.same_out c.finish-2.ensures.same_err)
+    (Begun-of (IsToBePrinted (λ _. untold)) rows (taken c.args.out.now) (taken c.finish-in-Some.new.out) (err-taken c.args.err.now) (err-taken c.finish-in-Some.new.err))
+    (begun (IsToBePrinted (λ _. untold)) rows found (taken c.args.out.now) (taken answered.new.out) (taken c.finish-in-Some.new.out) (err-taken c.args.err.now) (err-taken answered.new.err) (err-taken c.finish-in-Some.new.err) rows_are c.finish-in-Some.ensures.same_out c.finish-in-Some.ensures.same_err)
     answered.ensures.err)
-    (λ s. all-begun (IsToBePrinted (λ _. untold)) rows s (taken c.args.out.now) (taken c.finish-2.new.out) (err-taken c.args.err.now) (err-taken c.finish-2.new.err))
-    c.finish-2.ensures.ok c.finish-2.ensures.err (either-failed
-    (failed-later (failures c.args.out.now) (failures answered.new.out) (failures c.finish-2.new.out) answered.ensures.out_counted)
-    (failed-later (err-failures c.args.err.now) (err-failures answered.new.err) (err-failures c.finish-2.new.err) answered.ensures.err_counted)))
+    (λ s. all-begun (IsToBePrinted (λ _. untold)) rows s (taken c.args.out.now) (taken c.finish-in-Some.new.out) (err-taken c.args.err.now) (err-taken c.finish-in-Some.new.err))
+    c.finish-in-Some.ensures.ok c.finish-in-Some.ensures.err (either-failed
+    (failed-later (failures c.args.out.now) (failures answered.new.out) (failures c.finish-in-Some.new.out) answered.ensures.out_counted)
+    (failed-later (err-failures c.args.err.now) (err-failures answered.new.err) (err-failures c.finish-in-Some.new.err) answered.ensures.err_counted)))
 
 pub returns-in-Err-clause-session : goal.returns-in-Err-clause-session
 returns-in-Err-clause-session g c = λ asks.
