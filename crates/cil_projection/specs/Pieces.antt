@@ -1,0 +1,80 @@
+-- The pieces of a projected text, and the bytes that they spell.
+use Rattle.std.specs.Prelude.{ℕ, ◌-◌, ◌==◌, Bool, cond, List, [], ◌∷◌, ◌++◌, take, drop, map, codes}
+use Rattle.std.specs.List.{list_any}
+use Rattle.cil_projection.specs.declared.table.Table.{Table}
+use Rattle.cil_projection.specs.declared.table.Table.TheVariants.{Types, Roles, Users, Booleans, Tunables, Categories, Sensitivities, Levels, Ranges, Contexts, Sids, Addresses, ExtendedPermissions}
+use Rattle.cil_projection.specs.declared.piece.Piece as code
+use Rattle.cil_projection.specs.declared.piece.Piece.TheVariants.{Copied, Blanked, Taken, Declared, Needed, Class, Permissions}
+
+-- Bytes of the text as they are, or blanked; that a statement was taken by the form of this number; a declaration of a name; a rule
+-- that needs a name, a class, or a class with the permissions that these bytes list. Offsets are those of the text.
+pub data Piece : Type 0 where
+  copied : ℕ → ℕ → Piece
+  blanked : ℕ → ℕ → Piece
+  taken : ℕ → Piece
+  declared : Table → List ℕ → Piece
+  needed : Table → List ℕ → Piece
+  a_class : List ℕ → Piece
+  permissions : List ℕ → ℕ → ℕ → Piece
+
+abbrev pub piece_of : code.Piece → Piece
+piece_of (Copied from to) = copied from to
+piece_of (Blanked from to) = blanked from to
+piece_of (Taken form) = taken form
+piece_of (Declared table name) = declared table name.now
+piece_of (Needed table name) = needed table name.now
+piece_of (Class name) = a_class name.now
+piece_of (Permissions the_class from to) = permissions the_class.now from to
+
+abbrev pub pieces_of : List code.Piece → List Piece
+pieces_of = map piece_of
+
+abbrev pub prefix : Table → List ℕ
+prefix Types = []
+prefix Roles = codes "cilsem__role__"
+prefix Users = codes "cilsem__user__"
+prefix Booleans = codes "cilsem__boolean__"
+prefix Tunables = codes "cilsem__tunable__"
+prefix Categories = codes "cilsem__category__"
+prefix Sensitivities = codes "cilsem__sensitivity__"
+prefix Levels = codes "cilsem__level__"
+prefix Ranges = codes "cilsem__range__"
+prefix Contexts = codes "cilsem__context__"
+prefix Sids = codes "cilsem__sid__"
+prefix Addresses = codes "cilsem__address__"
+prefix ExtendedPermissions = codes "cilsem__permissionx__"
+
+-- whether a name has a dot
+abbrev pub is_dotted : List ℕ → Bool
+is_dotted = list_any (λ b. b == 46)
+
+-- a name with a prefix in front of its last component
+abbrev pub with_prefix : List ℕ → List ℕ → List ℕ
+with_prefix front [] = front
+with_prefix front (b ∷ name) = cond (is_dotted (b ∷ name)) (b ∷ with_prefix front name) (front ++ (b ∷ name))
+
+-- the attribute that stands for a name of a table
+abbrev pub attribute_of : Table → List ℕ → List ℕ
+attribute_of table name = with_prefix (prefix table) name
+
+-- the bytes of a text from one offset up to another
+abbrev pub part_of : List ℕ → ℕ → ℕ → List ℕ
+part_of text from to = take (to - from) (drop from text)
+
+-- a line feed, or a space for any other byte
+abbrev pub blank : ℕ → ℕ
+blank b = cond (b == 10) 10 32
+
+abbrev pub spelled : List ℕ → Piece → List ℕ
+spelled text (copied from to) = part_of text from to
+spelled text (blanked from to) = map blank (part_of text from to)
+spelled text (taken form) = []
+spelled text (declared table name) = codes "(typeattribute " ++ attribute_of table name ++ codes ")"
+spelled text (needed table name) = codes "(dontaudit cilsem__none " ++ attribute_of table name ++ codes " (cilsem__none ()))"
+spelled text (a_class name) = codes "(dontaudit cilsem__none self (" ++ name ++ codes " ()))"
+spelled text (permissions the_class from to) = codes "(dontaudit cilsem__none self (" ++ the_class ++ codes " " ++ part_of text from to ++ codes "))"
+
+-- the bytes of pieces one after the other
+abbrev pub rendered : List ℕ → List Piece → List ℕ
+rendered text [] = []
+rendered text (piece ∷ pieces) = spelled text piece ++ rendered text pieces

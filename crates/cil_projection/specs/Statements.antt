@@ -1,0 +1,102 @@
+-- What a text is projected onto.
+use Rattle.std.specs.Prelude.{◌≡◌, ℕ, ◌+◌, Bool, true, false, cond, ◌||◌, ◌&&◌, List, [], ◌∷◌, ◌++◌, Option, Some, None, option_map, codes, bytes_eq, length}
+use Rattle.cil_specs.specs.Trees.{Trees, none, a_word, a_string, a_list}
+use Rattle.cil_specs.specs.Shape.{is_among}
+use Rattle.cil_projection.specs.declared.table.Table.TheVariants.{Types, Booleans}
+use Rattle.cil_projection.specs.declared.part.Part.{Part}
+use Rattle.cil_projection.specs.declared.part.Part.TheVariants.{Name, Target, ClassPermissions, Class, Other}
+use Rattle.cil_projection.specs.Pieces.{Piece, copied, blanked, taken}
+use Rattle.cil_projection.specs.Forms.{joined, or_else, fit, forms, fitting, names_in, name_or_operator}
+use Rattle.cil_projection.specs.Conditions.{Settings, list_value}
+
+-- the first words of statements that hold others, of access vector rules, and of type rules
+abbrev pub containers : List (List ℕ)
+containers = codes "block" ∷ codes "optional" ∷ []
+
+abbrev pub rules : List (List ℕ)
+rules = codes "allow" ∷ codes "auditallow" ∷ codes "dontaudit" ∷ codes "neverallow" ∷ []
+
+abbrev pub type_rules : List (List ℕ)
+type_rules = codes "typetransition" ∷ codes "typechange" ∷ codes "typemember" ∷ []
+
+abbrev pub branches : List (List ℕ)
+branches = codes "true" ∷ codes "false" ∷ []
+
+-- Whether the rules of a branch are taken where the condition's value is `holds`.
+abbrev pub is_taken : Settings → Bool → List ℕ → Bool
+is_taken settings holds branch = settings.both || bytes_eq branch (cond holds (codes "true") (codes "false"))
+
+-- the names that a rule in a branch needs beside those that it names where it stands
+abbrev pub rule_needs : Bool → List ℕ → Trees → Option (List Piece)
+rule_needs stays word arguments =
+    cond (is_among rules word) (cond stays (Some []) (fit (Name Types ∷ Target ∷ ClassPermissions ∷ []) arguments))
+    (cond (is_among type_rules word)
+    (or_else (fit (Name Types ∷ Name Types ∷ Class ∷ Name Types ∷ []) arguments) (fit (Name Types ∷ Name Types ∷ Class ∷ Other ∷ Name Types ∷ []) arguments)) None)
+
+abbrev pub rules_need : Bool → Trees → Option (List Piece)
+rules_need stays none = Some []
+rules_need stays (a_list at end (a_word place word arguments) rest) = joined (rule_needs stays word arguments) (rules_need stays rest)
+rules_need stays trees = None
+
+-- the names that the rules of branches need, those left out that stand in the projection
+abbrev pub branches_need : Settings → Bool → Trees → Option (List Piece)
+branches_need settings holds none = Some []
+branches_need settings holds (a_list at end (a_word place branch inner) rest) =
+    cond (is_among branches branch) (joined (rules_need (is_taken settings holds branch) inner) (branches_need settings holds rest)) None
+branches_need settings holds trees = None
+
+-- From an offset on up to another: access vector rules as they are, and all else blanked.
+abbrev pub kept_rules : ℕ → Trees → ℕ → List Piece
+kept_rules from none to = blanked from to ∷ []
+kept_rules from (a_word at word rest) to = kept_rules from rest to
+kept_rules from (a_string at text rest) to = kept_rules from rest to
+kept_rules from (a_list at end (a_word place word arguments) rest) to =
+    cond (is_among rules word) (blanked from at.offset ∷ copied at.offset end ∷ kept_rules end rest to) (kept_rules from rest to)
+kept_rules from (a_list at end items rest) to = kept_rules from rest to
+
+-- the same for the branches of a conditional statement, of which those that are taken keep their rules
+abbrev pub kept_branches : Settings → Bool → ℕ → Trees → ℕ → List Piece
+kept_branches settings holds from none to = blanked from to ∷ []
+kept_branches settings holds from (a_word at word rest) to = kept_branches settings holds from rest to
+kept_branches settings holds from (a_string at text rest) to = kept_branches settings holds from rest to
+kept_branches settings holds from (a_list at end (a_word place branch inner) rest) to =
+    cond (is_taken settings holds branch) (kept_rules from inner end ++ kept_branches settings holds end rest to) (kept_branches settings holds from rest to)
+kept_branches settings holds from (a_list at end items rest) to = kept_branches settings holds from rest to
+
+-- A conditional statement from an offset up to another: the rules of its taken branches where they stand, and behind it the names that it
+-- needs otherwise. `names` are those of its condition.
+abbrev pub chosen : Settings → ℕ → ℕ → Option Bool → List Piece → Trees → Option (List Piece)
+chosen settings from to None names inner = None
+chosen settings from to (Some holds) names inner =
+    joined (Some (kept_branches settings holds from inner to ++ (taken (length forms) ∷ names))) (branches_need settings holds inner)
+
+abbrev pub conditional : Settings → ℕ → ℕ → Trees → Option (List Piece)
+conditional settings from to (a_word at word inner) = chosen settings from to (settings.value word) (name_or_operator Booleans word) inner
+conditional settings from to (a_list at end items inner) = chosen settings from to (list_value settings.value items) (names_in Booleans items) inner
+conditional settings from to trees = None
+
+-- A statement by its names alone: blanked, and its names behind it.
+abbrev pub by_names : ℕ → ℕ → List ℕ → Trees → Option (List Piece)
+by_names from to word arguments = joined (Some (blanked from to ∷ [])) (fitting 0 forms word arguments)
+
+-- a statement of these trees, from an offset up to another, that holds no other
+abbrev pub statement : Settings → ℕ → ℕ → Trees → Option (List Piece)
+statement settings from to (a_word place word arguments) =
+    cond (bytes_eq word (codes "booleanif")) (conditional settings from to arguments) (by_names from to word arguments)
+statement settings from to items = None
+
+-- the pieces that are there, or the bytes as they are
+abbrev pub or_copied : ℕ → ℕ → Option (List Piece) → List Piece
+or_copied from to (Some found) = found
+or_copied from to None = copied from to ∷ []
+
+-- Statements one after the other, from an offset on up to another, with all that stands between them.
+abbrev pub projected : Settings → ℕ → Trees → ℕ → List Piece
+projected settings from none to = copied from to ∷ []
+projected settings from (a_word at word rest) to = projected settings from rest to
+projected settings from (a_string at text rest) to = projected settings from rest to
+projected settings from (a_list at end (a_word place word (a_word second id body)) rest) to =
+    copied from at.offset ∷ (cond (is_among containers word) (projected settings at.offset body end)
+    (or_copied at.offset end (statement settings at.offset end (a_word place word (a_word second id body)))) ++ projected settings end rest to)
+projected settings from (a_list at end items rest) to =
+    copied from at.offset ∷ (or_copied at.offset end (statement settings at.offset end items) ++ projected settings end rest to)

@@ -1,0 +1,72 @@
+//! Classes and their permissions.
+
+ghost use Rattle.std.specs.Prelude.{◌≡◌, IfOk};
+ghost use Rattle.cil_text.specs.Common.{trees_of};
+ghost use Rattle.cil_projection.specs.Forms.{Adds, are_plain, class_permissions, classes_in};
+
+use crate::names::OPERATORS;
+use crate::piece::Piece;
+use crate::split::split_word;
+use crate::words::is_among;
+use cil_text::{Tree, TreeSlice};
+use std::alloc::{AllocError, Allocator};
+
+/// Adds classes, where trees are them and nothing else.
+pub fn add_classes<'a, A: Allocator>(
+    pieces: &mut Vec<Piece<'a>, A>,
+    trees: TreeSlice<'_, 'a>,
+) -> Result<bool, AllocError>
+    ensures { IfOk result (λ fits.
+        Adds pieces.old.items pieces.new.items fits (classes_in (trees_of trees.entry))) }
+{
+    let Some((tree, behind)) = trees.split_first() else {
+        return Ok(true);
+    };
+    let Tree::Word(word) = tree else {
+        return Ok(false);
+    };
+    pieces.push(Piece::Class { name: word.text })?;
+    let fits = add_classes(pieces, behind)?;
+    Ok(fits)
+}
+
+/// Whether trees are plain words, and no expression.
+fn are_plain(trees: TreeSlice<'_, '_>) -> bool
+    ensures { result ≡ are_plain (trees_of trees.entry) }
+{
+    let Some((tree, behind)) = trees.split_first() else {
+        return true;
+    };
+    let Tree::Word(word) = tree else {
+        return false;
+    };
+    !is_among(&OPERATORS, word.text) && are_plain(behind)
+}
+
+/// Adds a class and its permissions, where trees are a class and a list of permissions.
+pub fn add_class_permissions<'a, A: Allocator>(
+    pieces: &mut Vec<Piece<'a>, A>,
+    trees: TreeSlice<'_, 'a>,
+) -> Result<bool, AllocError>
+    ensures { IfOk result (λ fits.
+        Adds pieces.old.items pieces.new.items fits (class_permissions (trees_of trees.entry))) }
+{
+    let Some((class, rest)) = split_word(trees) else {
+        return Ok(false);
+    };
+    let Some((list, behind)) = rest.split_first() else {
+        return Ok(false);
+    };
+    let Tree::List { at, end, items } = list else {
+        return Ok(false);
+    };
+    if !behind.is_empty() || !are_plain(items) {
+        return Ok(false);
+    }
+    pieces.push(Piece::Permissions {
+        class: class.text,
+        from: at.offset,
+        to: end,
+    })?;
+    Ok(true)
+}
