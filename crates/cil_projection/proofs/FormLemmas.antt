@@ -15,7 +15,7 @@ use Rattle.cil_text.specs.declared.tree.Tree.TheVariants as trees
 use Rattle.cil_text.specs.Common.{tree_then}
 
 -- what holds none but of trees with a word in front has none where none is there
-pub without_word : (f : Trees → Option (List Piece)) → f none ≡ None → ((at : Place) (text : List ℕ) (rest : Trees) → f (a_string at text rest) ≡ None)
+pub without_word : {X : Type 0} (f : Trees → Option X) → f none ≡ None → ((at : Place) (text : List ℕ) (rest : Trees) → f (a_string at text rest) ≡ None)
     → ((at : Place) (end : ℕ) (items rest : Trees) → f (a_list at end items rest) ≡ None)
     → (trees : Trees) → ((word : Word) (rest : Trees) → trees ≢ put_word word rest) → f trees ≡ None
 without_word f at_end at_string at_list none absent = at_end

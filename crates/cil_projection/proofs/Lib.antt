@@ -1,2 +1,4 @@
 pub mod Common
 pub mod FormLemmas
+pub mod ComponentLemmas
+pub mod NameLemmas

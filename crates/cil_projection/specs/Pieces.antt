@@ -48,6 +48,11 @@ prefix ExtendedPermissions = codes "cilsem__permissionx__"
 abbrev pub is_dotted : List ℕ → Bool
 is_dotted = list_any (λ b. b == 46)
 
+-- what stands behind the last dot of a name, or all of it
+abbrev pub last_component : List ℕ → List ℕ
+last_component [] = []
+last_component (b ∷ name) = cond (is_dotted (b ∷ name)) (last_component name) (b ∷ name)
+
 -- a name with a prefix in front of its last component
 abbrev pub with_prefix : List ℕ → List ℕ → List ℕ
 with_prefix front [] = front

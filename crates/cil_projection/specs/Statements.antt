@@ -7,12 +7,9 @@ use Rattle.cil_projection.specs.declared.part.Part.{Part}
 use Rattle.cil_projection.specs.declared.part.Part.TheVariants.{Name, Target, ClassPermissions, Class, Other}
 use Rattle.cil_projection.specs.Pieces.{Piece, copied, blanked, taken}
 use Rattle.cil_projection.specs.Forms.{joined, or_else, fit, forms, fitting, names_in, name_or_operator}
-use Rattle.cil_projection.specs.Conditions.{Settings, list_value}
+use Rattle.cil_projection.specs.Conditions.{Settings, containers, list_value}
 
--- the first words of statements that hold others, of access vector rules, and of type rules
-abbrev pub containers : List (List ℕ)
-containers = codes "block" ∷ codes "optional" ∷ []
-
+-- the first words of access vector rules, and of type rules
 abbrev pub rules : List (List ℕ)
 rules = codes "allow" ∷ codes "auditallow" ∷ codes "dontaudit" ∷ codes "neverallow" ∷ []
 

@@ -1,7 +1,10 @@
 //! Texts with statements outside the language, taken by their names alone.
 #![tactic(auto)]
 
+mod booleans;
 mod class;
+mod component;
+mod condition;
 mod constraint;
 mod fit;
 mod kinds;
@@ -12,6 +15,7 @@ mod split;
 mod table;
 mod words;
 
+pub use booleans::{Booleans, Value};
 pub use kinds::{FORMS, Form};
 pub use part::Part;
 pub use piece::Piece;
