@@ -1,6 +1,6 @@
 -- How pieces are added one behind the other.
 use Rattle.std.specs.Prelude.{◌≡◌, ◌≢◌, ℕ, ◌-◌, ◌≤◌, ◌++◌, length, take, drop, get_or, Bool, true, false, List, [], ◌∷◌, Option, Some, None, refl}
-use Rattle.std.proofs.Common.{◌∙◌, sym, ap, subst, arith, append_assoc, drop-cons}
+use Rattle.std.proofs.Common.{◌∙◌, sym, ap, subst, arith, append_assoc, append-nil, drop-cons}
 use Rattle.std.proofs.lemmas.List.{take_rest}
 use Rattle.cil_specs.specs.Place.{Place}
 use Rattle.cil_specs.specs.Names.{Word}
@@ -9,19 +9,27 @@ use Rattle.cil_specs.specs.Shape.{put_word}
 use Rattle.cil_projection.specs.declared.piece.Piece as code
 use Rattle.cil_projection.specs.Pieces.{Piece, pieces_of}
 use Rattle.cil_projection.specs.declared.part.Part.{Part}
-use Rattle.cil_projection.specs.Forms.{joined, constraint, constraints, fit, of_first, Adds}
+use Rattle.cil_projection.specs.Forms.{joined, classes_in, constraint, constraints, fit, of_first, Adds}
+use Rattle.cil_text.specs.declared.word.Word as code_word
+use Rattle.cil_text.specs.declared.place.Place as code_place
+use Rattle.cil_text.specs.declared.tree.TreeSlice.{TreeSlice}
 use Rattle.cil_text.specs.declared.tree.Tree.{Tree}
 use Rattle.cil_text.specs.declared.tree.Tree.TheVariants as trees
 use Rattle.cil_text.specs.Common.{tree_then}
 
--- what holds none but of trees with a word in front has none where none is there
+-- what is one thing for all trees but those with a word in front is it where none is there
+pub without_word_is : {X : Type 0} (x : X) (f : Trees → X) → f none ≡ x → ((at : Place) (text : List ℕ) (rest : Trees) → f (a_string at text rest) ≡ x)
+    → ((at : Place) (end : ℕ) (items rest : Trees) → f (a_list at end items rest) ≡ x)
+    → (trees : Trees) → ((word : Word) (rest : Trees) → trees ≢ put_word word rest) → f trees ≡ x
+without_word_is x f at_end at_string at_list none absent = at_end
+without_word_is x f at_end at_string at_list (a_word at text rest) absent = absurd (absent (record { at = at; text = text }) rest refl)
+without_word_is x f at_end at_string at_list (a_string at text rest) absent = at_string at text rest
+without_word_is x f at_end at_string at_list (a_list at end items rest) absent = at_list at end items rest
+
 pub without_word : {X : Type 0} (f : Trees → Option X) → f none ≡ None → ((at : Place) (text : List ℕ) (rest : Trees) → f (a_string at text rest) ≡ None)
     → ((at : Place) (end : ℕ) (items rest : Trees) → f (a_list at end items rest) ≡ None)
     → (trees : Trees) → ((word : Word) (rest : Trees) → trees ≢ put_word word rest) → f trees ≡ None
-without_word f at_end at_string at_list none absent = at_end
-without_word f at_end at_string at_list (a_word at text rest) absent = absurd (absent (record { at = at; text = text }) rest refl)
-without_word f at_end at_string at_list (a_string at text rest) absent = at_string at text rest
-without_word f at_end at_string at_list (a_list at end items rest) absent = at_list at end items rest
+without_word f = without_word_is None f
 
 pub joined_none : (x : Option (List Piece)) → joined x None ≡ None
 joined_none None = refl
@@ -63,3 +71,32 @@ adds_parts parts some all tree rest before middle after begins fits long is begu
     let others : List Part = take (length parts - 1) (drop 1 parts) in
     subst (Adds before after fits) (sym (ap (λ l. fit l all) split ∙ fit_first front others all tree rest is))
     (adds_then before middle after fits (of_first front (tree_then tree rest)) (fit others rest) (subst (λ b. Adds before middle b (of_first front (tree_then tree rest))) begun first) more)
+
+-- what is added to some pieces completes what was to be added to others
+abbrev pub Completes : List code.Piece → Option (List Piece) → List code.Piece → Option (List Piece) → Type 0
+Completes start all now rest = (after : List code.Piece) (fits : Bool) → Adds now after fits rest → Adds start after fits all
+
+pub none_left : (now : List code.Piece) → Adds now now true (Some [])
+none_left now = ap (λ l. Some l) (append-nil (pieces_of now))
+
+pub completes_more : (start now middle : List code.Piece) (all rest first behind : Option (List Piece)) → Completes start all now rest → rest ≡ joined first behind
+    → Adds now middle true first → Completes start all middle behind
+completes_more start now middle all rest first behind completes is begun after fits adds =
+    completes after fits (subst (Adds now after fits) (sym is) (adds_then now middle after fits first behind begun adds))
+
+pub not_begun : (start now : List code.Piece) (all rest first behind : Option (List Piece)) → Completes start all now rest → rest ≡ joined first behind → first ≡ None → all ≡ None
+not_begun start now all rest first behind completes is absent =
+    completes now false (is ∙ ap (λ x. joined x behind) absent)
+
+-- a tree that is no word begins no classes
+pub no_class : (tree : Tree) (all rest : Trees) → all ≡ tree_then tree rest → ((word : code_word.Word) → tree ≡ trees.Word word → ⊥) → classes_in all ≡ None
+no_class (trees.Word w) all rest is other = absurd (other w refl)
+no_class (trees.String w) all rest is other = ap classes_in is
+no_class (trees.List at end items) all rest is other = ap classes_in is
+
+-- a tree that is no list begins no constraints
+pub no_constraint : (tree : Tree) (all rest : Trees) → all ≡ tree_then tree rest
+    → ((at : code_place.Place) (end : ℕ) (items : TreeSlice) → tree ≡ trees.List at end items → ⊥) → constraints all ≡ None
+no_constraint (trees.Word w) all rest is other = ap constraints is
+no_constraint (trees.String w) all rest is other = ap constraints is
+no_constraint (trees.List at end items) all rest is other = absurd (other at end items refl)

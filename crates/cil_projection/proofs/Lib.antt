@@ -1,4 +1,7 @@
 pub mod Common
 pub mod FormLemmas
+pub mod ValueLemmas
+pub mod BodyLemmas
+pub mod NeedLemmas
 pub mod ComponentLemmas
 pub mod NameLemmas

@@ -1,8 +1,8 @@
 -- The values of conditions.
-use Rattle.std.specs.Prelude.{Bool, true, false, cond, not, ◌&&◌, ◌||◌, ℕ, List, [], ◌∷◌, ◌++◌, ◌≡◌, Option, Some, None, option_map, position, get_or, set, codes, bytes_eq}
+use Rattle.std.specs.Prelude.{Bool, true, false, cond, not, ◌&&◌, ◌||◌, ℕ, List, [], ◌∷◌, ◌++◌, ◌≡◌, Option, Some, None, option_map, fold, position, get_or, set, codes, bytes_eq}
 use Rattle.std.specs.Bool.{beq}
 use Rattle.std.specs.Option.{option_map_or}
-use Rattle.cil_specs.specs.Trees.{Trees, none, a_word, a_string, a_list}
+use Rattle.cil_specs.specs.Trees.{Trees, Reads, none, a_word, a_string, a_list}
 use Rattle.cil_specs.specs.Shape.{is_among}
 use Rattle.cil_specs.specs.Lookup.{with_name}
 use Rattle.cil_projection.specs.declared.booleans.Value.{Value}
@@ -111,6 +111,11 @@ with_value known name b =
     option_map_or (λ i. record known { values = set known.values i (Set b) }) (position (bytes_eq name) known.names)
     (appended known name (Set b))
 
+-- the statements inside the statement that a list of these trees is, if it holds others
+abbrev pub body_of : Trees → Option Trees
+body_of (a_word place word (a_word second id body)) = cond (is_among containers word) (Some body) None
+body_of items = None
+
 -- the value that a word is
 abbrev pub truth_word : List ℕ → Option Bool
 truth_word word = cond (bytes_eq word (codes "true")) (Some true) (cond (bytes_eq word (codes "false")) (Some false) None)
@@ -133,3 +138,6 @@ declarations (a_list at end items rest) = declarations rest
 -- declarations are noted one after the other
 abbrev pub noted_all : Known → List (List ℕ × Bool) → Known
 noted_all known list = fold noted known list
+
+abbrev pub Collects : List ℕ → Known → Known → Type 0
+Collects text before after = (trees : Trees) × Reads text trees × (after ≡ noted_all before (declarations trees))

@@ -23,23 +23,35 @@ branches = codes "true" ∷ codes "false" ∷ []
 abbrev pub is_taken : Settings → Bool → List ℕ → Bool
 is_taken settings holds branch = settings.both || bytes_eq branch (cond holds (codes "true") (codes "false"))
 
+-- the names that a type rule needs
+abbrev pub type_rule_needs : Trees → Option (List Piece)
+type_rule_needs arguments =
+    or_else (fit (Name Types ∷ Name Types ∷ Class ∷ Name Types ∷ []) arguments) (fit (Name Types ∷ Name Types ∷ Class ∷ Other ∷ Name Types ∷ []) arguments)
+
+-- what holds of a word and the trees behind it, for the list that is the first of trees and has them
+abbrev pub of_first_list : (List ℕ → Trees → Option (List Piece)) → Trees → Option (List Piece)
+of_first_list needs (a_list at end (a_word place word arguments) rest) = needs word arguments
+of_first_list needs trees = None
+
 -- the names that a rule in a branch needs beside those that it names where it stands
 abbrev pub rule_needs : Bool → List ℕ → Trees → Option (List Piece)
 rule_needs stays word arguments =
     cond (is_among rules word) (cond stays (Some []) (fit (Name Types ∷ Target ∷ ClassPermissions ∷ []) arguments))
-    (cond (is_among type_rules word)
-    (or_else (fit (Name Types ∷ Name Types ∷ Class ∷ Name Types ∷ []) arguments) (fit (Name Types ∷ Name Types ∷ Class ∷ Other ∷ Name Types ∷ []) arguments)) None)
+    (cond (is_among type_rules word) (type_rule_needs arguments) None)
 
 abbrev pub rules_need : Bool → Trees → Option (List Piece)
-rules_need stays none = Some []
-rules_need stays (a_list at end (a_word place word arguments) rest) = joined (rule_needs stays word arguments) (rules_need stays rest)
-rules_need stays trees = None
+rules_need stay none = Some []
+rules_need stay (a_list at end (a_word place word arguments) rest) = joined (rule_needs stay word arguments) (rules_need stay rest)
+rules_need stay trees = None
+
+-- the names that a branch needs
+abbrev pub branch_needs : Settings → Bool → List ℕ → Trees → Option (List Piece)
+branch_needs settings holds branch inner = cond (is_among branches branch) (rules_need (is_taken settings holds branch) inner) None
 
 -- the names that the rules of branches need, those left out that stand in the projection
 abbrev pub branches_need : Settings → Bool → Trees → Option (List Piece)
 branches_need settings holds none = Some []
-branches_need settings holds (a_list at end (a_word place branch inner) rest) =
-    cond (is_among branches branch) (joined (rules_need (is_taken settings holds branch) inner) (branches_need settings holds rest)) None
+branches_need settings holds (a_list at end (a_word place branch inner) rest) = joined (branch_needs settings holds branch inner) (branches_need settings holds rest)
 branches_need settings holds trees = None
 
 -- From an offset on up to another: access vector rules as they are, and all else blanked.
@@ -68,9 +80,10 @@ chosen settings from to (Some holds) names inner =
     joined (Some (kept_branches settings holds from inner to ++ (taken (length forms) ∷ names))) (branches_need settings holds inner)
 
 abbrev pub conditional : Settings → ℕ → ℕ → Trees → Option (List Piece)
+conditional settings from to none = None
 conditional settings from to (a_word at word inner) = chosen settings from to (settings.value word) (name_or_operator Booleans word) inner
+conditional settings from to (a_string at text inner) = None
 conditional settings from to (a_list at end items inner) = chosen settings from to (list_value settings.value items) (names_in Booleans items) inner
-conditional settings from to trees = None
 
 -- A statement by its names alone: blanked, and its names behind it.
 abbrev pub by_names : ℕ → ℕ → List ℕ → Trees → Option (List Piece)

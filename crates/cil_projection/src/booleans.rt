@@ -141,7 +141,7 @@ impl<'m, A: Allocator> Booleans<'m, A> {
     }
 
     /// Notes a declaration of a name.
-    fn note(&mut self, name: &'m [u8], value: bool) -> Result<(), AllocError>
+    pub(crate) fn note(&mut self, name: &'m [u8], value: bool) -> Result<(), AllocError>
         ensures { OnOk result (self.new ≡ noted self.old (name.now, value)) }
     {
         let Some(number) = self.names.find(name) else {

@@ -19,28 +19,32 @@ pub fn add_classes<'a, A: Allocator>(
     ensures { IfOk result (λ fits.
         Adds pieces.old.items pieces.new.items fits (classes_in (trees_of trees.entry))) }
 {
-    let Some((tree, behind)) = trees.split_first() else {
-        return Ok(true);
-    };
-    let Tree::Word(word) = tree else {
-        return Ok(false);
-    };
-    pieces.push(Piece::Class { name: word.text })?;
-    let fits = add_classes(pieces, behind)?;
-    Ok(fits)
+    let mut rest = trees;
+    while let Some((tree, behind)) = rest.split_first() {
+        let Tree::Word(word) = tree else {
+            return Ok(false);
+        };
+        pieces.push(Piece::Class { name: word.text })?;
+        rest = behind;
+    }
+    Ok(true)
 }
 
 /// Whether trees are plain words, and no expression.
 fn are_plain(trees: TreeSlice<'_, '_>) -> bool
     ensures { result ≡ are_plain (trees_of trees.entry) }
 {
-    let Some((tree, behind)) = trees.split_first() else {
-        return true;
-    };
-    let Tree::Word(word) = tree else {
-        return false;
-    };
-    !is_among(&OPERATORS, word.text) && are_plain(behind)
+    let mut rest = trees;
+    while let Some((tree, behind)) = rest.split_first() {
+        let Tree::Word(word) = tree else {
+            return false;
+        };
+        if is_among(&OPERATORS, word.text) {
+            return false;
+        }
+        rest = behind;
+    }
+    true
 }
 
 /// Adds a class and its permissions, where trees are a class and a list of permissions.

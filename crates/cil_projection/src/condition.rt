@@ -105,13 +105,13 @@ fn add_values<A: Allocator + Copy>(
     ensures { IfOk result (λ fits. AddsValues found.old.items found.new.items fits
         (values (settings_of booleans.now).value (trees_of trees.entry))) }
 {
-    let Some((tree, behind)) = trees.split_first() else {
-        return Ok(true);
-    };
-    let Some(first) = value(alloc, booleans, tree)? else {
-        return Ok(false);
-    };
-    found.push(first)?;
-    let fits = add_values(found, alloc, booleans, behind)?;
-    Ok(fits)
+    let mut rest = trees;
+    while let Some((tree, behind)) = rest.split_first() {
+        let Some(first) = value(alloc, booleans, tree)? else {
+            return Ok(false);
+        };
+        found.push(first)?;
+        rest = behind;
+    }
+    Ok(true)
 }

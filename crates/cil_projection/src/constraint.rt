@@ -114,15 +114,15 @@ fn add_constraints<'a, A: Allocator>(
     ensures { IfOk result (λ fits.
         Adds pieces.old.items pieces.new.items fits (constraints (trees_of trees.entry))) }
 {
-    let Some((tree, behind)) = trees.split_first() else {
-        return Ok(true);
-    };
-    let Tree::List { items, .. } = tree else {
-        return Ok(false);
-    };
-    if !add_constraint(pieces, items)? {
-        return Ok(false);
+    let mut rest = trees;
+    while let Some((tree, behind)) = rest.split_first() {
+        let Tree::List { items, .. } = tree else {
+            return Ok(false);
+        };
+        if !add_constraint(pieces, items)? {
+            return Ok(false);
+        }
+        rest = behind;
     }
-    let fits = add_constraints(pieces, behind)?;
-    Ok(fits)
+    Ok(true)
 }

@@ -1,6 +1,7 @@
 //! Arguments that fit the forms of statements.
 
-ghost use Rattle.std.specs.Prelude.{◌≡◌, IfOk};
+ghost use Rattle.std.specs.Prelude.{◌≡◌, IfOk, option_map};
+ghost use Rattle.cil_projection.specs.Pieces.{pieces_of};
 ghost use Rattle.cil_specs.specs.Trees.{Trees};
 ghost use Rattle.cil_text.specs.Common.{tree_then, trees_of};
 ghost use Rattle.cil_projection.specs.Forms.{Adds, fit, inner_parts, level, of_first, of_list, of_word};
@@ -164,4 +165,20 @@ pub fn fit<'a, A: Allocator>(
     }
     let fits = fit(pieces, more, behind)?;
     Ok(fits)
+}
+
+/// The names that arguments declare and need, where they fit the parts of a form.
+pub fn fitted<'a, A: Allocator>(
+    alloc: A,
+    parts: &[Part],
+    trees: TreeSlice<'_, 'a>,
+) -> Result<Option<Vec<Piece<'a>, A>>, AllocError>
+    ensures { IfOk result (λ found.
+        option_map (λ pieces. pieces_of pieces.items) found ≡ fit parts.now (trees_of trees.entry)) }
+{
+    let mut pieces = Vec::new(alloc);
+    if !fit(&mut pieces, parts, trees)? {
+        return Ok(None);
+    }
+    Ok(Some(pieces))
 }

@@ -2,13 +2,18 @@
 #![tactic(auto)]
 
 mod booleans;
+mod body;
 mod class;
+mod collect;
 mod component;
 mod condition;
 mod constraint;
+mod declaration;
 mod fit;
 mod kinds;
 mod names;
+mod kept;
+mod needs;
 mod part;
 mod piece;
 mod split;

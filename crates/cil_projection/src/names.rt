@@ -52,13 +52,14 @@ pub fn add_names<'a, A: Allocator>(
     ensures { OnOk result (pieces_of pieces.new.items
         ≡ pieces_of pieces.old.items ++ names_in table (trees_of trees.entry)) }
 {
-    let Some((tree, behind)) = trees.split_first() else {
-        return Ok(());
-    };
-    match tree {
-        Tree::Word(word) => add_name(pieces, table, word)?,
-        Tree::String(_) => {}
-        Tree::List { items, .. } => add_names(pieces, table, items)?,
+    let mut rest = trees;
+    while let Some((tree, behind)) = rest.split_first() {
+        match tree {
+            Tree::Word(word) => add_name(pieces, table, word)?,
+            Tree::String(_) => {}
+            Tree::List { items, .. } => add_names(pieces, table, items)?,
+        }
+        rest = behind;
     }
-    add_names(pieces, table, behind)
+    Ok(())
 }
