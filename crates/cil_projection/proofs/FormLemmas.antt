@@ -1,15 +1,15 @@
 -- How pieces are added one behind the other.
 use Rattle.std.specs.Prelude.{◌≡◌, ◌≢◌, ℕ, ◌-◌, ◌≤◌, ◌++◌, length, take, drop, get_or, Bool, true, false, List, [], ◌∷◌, Option, Some, None, refl}
 use Rattle.std.proofs.Common.{◌∙◌, sym, ap, subst, arith, append_assoc, append-nil, drop-cons}
-use Rattle.std.proofs.lemmas.List.{take_rest}
+use Rattle.std.proofs.lemmas.List.{map-append, take_rest}
 use Rattle.cil_specs.specs.Place.{Place}
 use Rattle.cil_specs.specs.Names.{Word}
 use Rattle.cil_specs.specs.Trees.{Trees, none, a_word, a_string, a_list}
 use Rattle.cil_specs.specs.Shape.{put_word}
 use Rattle.cil_projection.specs.declared.piece.Piece as code
-use Rattle.cil_projection.specs.Pieces.{Piece, pieces_of}
+use Rattle.cil_projection.specs.Pieces.{Piece, piece_of, pieces_of}
 use Rattle.cil_projection.specs.declared.part.Part.{Part}
-use Rattle.cil_projection.specs.Forms.{joined, classes_in, constraint, constraints, fit, of_first, Adds}
+use Rattle.cil_projection.specs.Forms.{joined, classes_in, constraint, constraints, fit, of_first, permissions_in, Adds}
 use Rattle.cil_text.specs.declared.word.Word as code_word
 use Rattle.cil_text.specs.declared.place.Place as code_place
 use Rattle.cil_text.specs.declared.tree.TreeSlice.{TreeSlice}
@@ -94,9 +94,34 @@ no_class (trees.Word w) all rest is other = absurd (other w refl)
 no_class (trees.String w) all rest is other = ap classes_in is
 no_class (trees.List at end items) all rest is other = ap classes_in is
 
+-- a tree that is no word begins no permissions
+pub no_permission : (tree : Tree) (all rest : Trees) → all ≡ tree_then tree rest → ((word : code_word.Word) → tree ≡ trees.Word word → ⊥) → permissions_in all ≡ None
+no_permission (trees.Word w) all rest is other = absurd (other w refl)
+no_permission (trees.String w) all rest is other = ap permissions_in is
+no_permission (trees.List at end items) all rest is other = ap permissions_in is
+
 -- a tree that is no list begins no constraints
 pub no_constraint : (tree : Tree) (all rest : Trees) → all ≡ tree_then tree rest
     → ((at : code_place.Place) (end : ℕ) (items : TreeSlice) → tree ≡ trees.List at end items → ⊥) → constraints all ≡ None
 no_constraint (trees.Word w) all rest is other = ap constraints is
 no_constraint (trees.String w) all rest is other = ap constraints is
 no_constraint (trees.List at end items) all rest is other = absurd (other at end items refl)
+
+-- pieces behind others, and then those of names
+pub adds_behind : (empty kept_pieces with_taken with_names names after : List code.Piece) (x : code.Piece) (kept : List Piece) (fits : Bool) (needs : Option (List Piece)) → empty ≡ []
+    → pieces_of kept_pieces ≡ pieces_of empty ++ kept → with_taken ≡ kept_pieces ++ x ∷ [] → with_names ≡ with_taken ++ names → fits ≡ true → Adds with_names after fits needs
+    → Some (pieces_of after) ≡ joined (Some (kept ++ piece_of x ∷ pieces_of names)) needs
+adds_behind empty kept_pieces with_taken with_names names after x kept fits needs none_yet are_kept are_taken are_named fit_all adds =
+    let front : pieces_of with_names ≡ kept ++ piece_of x ∷ pieces_of names =
+        ap pieces_of are_named ∙ map-append piece_of with_taken names ∙ ap (λ l. pieces_of l ++ pieces_of names) are_taken
+        ∙ ap (λ l. l ++ pieces_of names) (map-append piece_of kept_pieces (x ∷ []))
+        ∙ ap (λ l. (l ++ piece_of x ∷ []) ++ pieces_of names) (are_kept ∙ ap (λ l. pieces_of l ++ kept) none_yet)
+        ∙ append_assoc kept (piece_of x ∷ []) (pieces_of names) in
+    sym (ap (λ l. joined (Some l) needs) (sym front) ∙ subst (λ b. Adds with_names after b needs) fit_all adds)
+
+-- a piece and then others, where more is left
+pub adds_more : (now pushed after : List code.Piece) (x : code.Piece) (inner rest left : List Piece) → pushed ≡ now ++ x ∷ [] → pieces_of after ≡ pieces_of pushed ++ inner
+    → left ≡ (piece_of x ∷ inner) ++ rest → pieces_of after ++ rest ≡ pieces_of now ++ left
+adds_more now pushed after x inner rest left is_pushed added split =
+    ap (λ l. l ++ rest) (added ∙ ap (λ l. pieces_of l ++ inner) is_pushed ∙ ap (λ l. l ++ inner) (map-append piece_of now (x ∷ [])) ∙ append_assoc (pieces_of now) (piece_of x ∷ []) inner)
+    ∙ append_assoc (pieces_of now) (piece_of x ∷ inner) rest ∙ ap (λ l. pieces_of now ++ l) (sym split)

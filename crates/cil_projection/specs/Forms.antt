@@ -1,5 +1,6 @@
 -- The names that the arguments of a statement declare and need, where they fit a form.
-use Rattle.std.specs.Prelude.{◌≡◌, ℕ, ◌+◌, Bool, true, false, cond, ◌&&◌, not, List, [], ◌∷◌, ◌++◌, map, Option, Some, None, codes, bytes_eq}
+use Rattle.std.specs.Prelude.{◌≡◌, ℕ, ◌+◌, Bool, true, false, cond, List, [], ◌∷◌, ◌++◌, map, Option, Some, None, codes, bytes_eq}
+use Rattle.std.specs.Borrow.{Bor}
 use Rattle.cil_specs.specs.Place.{Place}
 use Rattle.cil_specs.specs.Trees.{Trees, none, a_word, a_string, a_list}
 use Rattle.cil_specs.specs.Shape.{is_among}
@@ -10,7 +11,7 @@ use Rattle.cil_projection.specs.declared.part.Part.TheVariants as parts
 use Rattle.cil_projection.specs.declared.part.Part.TheVariants.{Declared, Name, Target, Names, Other, Classes, ClassPermissions, Context, PerhapsContext, Range, Level, Address, ExtendedPermission, Constraint}
 use Rattle.cil_projection.specs.declared.piece.Piece as code
 use Rattle.cil_projection.specs.declared.kinds.TheConstants.{FORMS}
-use Rattle.cil_projection.specs.Pieces.{Piece, taken, declared, needed, a_class, permissions, pieces_of}
+use Rattle.cil_projection.specs.Pieces.{Piece, blanked, taken, declared, needed, a_class, opened, permission, closed, pieces_of}
 
 -- the pieces of one thing and then those of another, where both are there
 abbrev pub joined : Option (List Piece) → Option (List Piece) → Option (List Piece)
@@ -44,16 +45,16 @@ classes_in (a_word at name rest) = joined (Some (a_class name ∷ [])) (classes_
 classes_in (a_string at text rest) = None
 classes_in (a_list at end items rest) = None
 
--- whether trees are plain words, and no expression
-abbrev pub are_plain : Trees → Bool
-are_plain none = true
-are_plain (a_word at word rest) = not (is_among operators word) && are_plain rest
-are_plain (a_string at text rest) = false
-are_plain (a_list at end items rest) = false
+-- permissions and nothing else, and no expression
+abbrev pub permissions_in : Trees → Option (List Piece)
+permissions_in none = Some []
+permissions_in (a_word at name rest) = joined (cond (is_among operators name) None (Some (permission name ∷ []))) (permissions_in rest)
+permissions_in (a_string at text rest) = None
+permissions_in (a_list at end items rest) = None
 
 -- a class and the list of its permissions
 abbrev pub class_permissions : Trees → Option (List Piece)
-class_permissions (a_word at name (a_list from end items none)) = cond (are_plain items) (Some (permissions name from.offset end ∷ [])) None
+class_permissions (a_word at name (a_list from end items none)) = joined (joined (Some (opened name ∷ [])) (permissions_in items)) (Some (closed ∷ []))
 class_permissions trees = None
 
 -- a sensitivity and categories
@@ -174,14 +175,22 @@ of_first part (a_string at text rest) = of_string part
 of_first part (a_list at end items rest) = of_list part items (fit (inner_parts part) items)
 
 -- the forms of statements that are taken by their names: their first words, and what their arguments are
-abbrev pub forms : List (List ℕ × List Part)
+unfoldable pub forms : List (List ℕ × List Part)
 forms = map (λ row. (row.0.now, row.1.now)) FORMS
 
--- what the arguments of a statement with this first word are by the first of some forms that they fit, of which the first has this number
-abbrev pub fitting : ℕ → List (List ℕ × List Part) → List ℕ → Trees → Option (List Piece)
-fitting number [] word arguments = None
-fitting number ((keyword, parts) ∷ forms) word arguments =
-    or_else (cond (bytes_eq word keyword) (joined (Some (taken number ∷ [])) (fit parts arguments)) None) (fitting (number + 1) forms word arguments)
+-- forms as the code has them
+abbrev pub rows_of : List (Bor (List ℕ) × Bor (List Part)) → List (List ℕ × List Part)
+rows_of = map (λ row. (row.0.now, row.1.now))
+
+-- A statement from an offset up to another, of which the arguments fit a form of this number: blanked, and the names behind it.
+abbrev pub taken_by : ℕ → ℕ → ℕ → List Part → Trees → Option (List Piece)
+taken_by from to form parts arguments = joined (Some (blanked from to ∷ taken form ∷ [])) (fit parts arguments)
+
+-- a statement with this first word by the first of some forms that it fits, of which the first has this number
+abbrev pub fitting : ℕ → ℕ → ℕ → List (List ℕ × List Part) → List ℕ → Trees → Option (List Piece)
+fitting from to number [] word arguments = None
+fitting from to number ((keyword, parts) ∷ forms) word arguments =
+    or_else (cond (bytes_eq word keyword) (taken_by from to number parts arguments) None) (fitting from to (number + 1) forms word arguments)
 
 -- Pieces were added: those that are there, or none are.
 abbrev pub Adds : List code.Piece → List code.Piece → Bool → Option (List Piece) → Type 0

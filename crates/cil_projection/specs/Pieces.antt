@@ -4,10 +4,11 @@ use Rattle.std.specs.List.{list_any}
 use Rattle.cil_projection.specs.declared.table.Table.{Table}
 use Rattle.cil_projection.specs.declared.table.Table.TheVariants.{Types, Roles, Users, Booleans, Tunables, Categories, Sensitivities, Levels, Ranges, Contexts, Sids, Addresses, ExtendedPermissions}
 use Rattle.cil_projection.specs.declared.piece.Piece as code
-use Rattle.cil_projection.specs.declared.piece.Piece.TheVariants.{Copied, Blanked, Taken, Declared, Needed, Class, Permissions}
+use Rattle.cil_projection.specs.declared.piece.Piece.TheVariants.{Copied, Blanked, Taken, Declared, Needed, Class, Opened, Permission, Closed}
 
 -- Bytes of the text as they are, or blanked; that a statement was taken by the form of this number; a declaration of a name; a rule
--- that needs a name, a class, or a class with the permissions that these bytes list. Offsets are those of the text.
+-- that needs a name, or a class; the front of a rule that needs a class and permissions, each of them, and its end. Offsets are those of
+-- the text.
 pub data Piece : Type 0 where
   copied : ℕ → ℕ → Piece
   blanked : ℕ → ℕ → Piece
@@ -15,7 +16,9 @@ pub data Piece : Type 0 where
   declared : Table → List ℕ → Piece
   needed : Table → List ℕ → Piece
   a_class : List ℕ → Piece
-  permissions : List ℕ → ℕ → ℕ → Piece
+  opened : List ℕ → Piece
+  permission : List ℕ → Piece
+  closed : Piece
 
 abbrev pub piece_of : code.Piece → Piece
 piece_of (Copied from to) = copied from to
@@ -24,7 +27,9 @@ piece_of (Taken form) = taken form
 piece_of (Declared table name) = declared table name.now
 piece_of (Needed table name) = needed table name.now
 piece_of (Class name) = a_class name.now
-piece_of (Permissions the_class from to) = permissions the_class.now from to
+piece_of (Opened the_class) = opened the_class.now
+piece_of (Permission name) = permission name.now
+piece_of Closed = closed
 
 abbrev pub pieces_of : List code.Piece → List Piece
 pieces_of = map piece_of
@@ -77,7 +82,9 @@ spelled text (taken form) = []
 spelled text (declared table name) = codes "(typeattribute " ++ attribute_of table name ++ codes ")"
 spelled text (needed table name) = codes "(dontaudit cilsem__none " ++ attribute_of table name ++ codes " (cilsem__none ()))"
 spelled text (a_class name) = codes "(dontaudit cilsem__none self (" ++ name ++ codes " ()))"
-spelled text (permissions the_class from to) = codes "(dontaudit cilsem__none self (" ++ the_class ++ codes " " ++ part_of text from to ++ codes "))"
+spelled text (opened the_class) = codes "(dontaudit cilsem__none self (" ++ the_class ++ codes " ("
+spelled text (permission name) = name ++ codes " "
+spelled text closed = codes ")))"
 
 -- the bytes of pieces one after the other
 abbrev pub rendered : List ℕ → List Piece → List ℕ

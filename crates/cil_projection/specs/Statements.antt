@@ -5,9 +5,10 @@ use Rattle.cil_specs.specs.Shape.{is_among}
 use Rattle.cil_projection.specs.declared.table.Table.TheVariants.{Types, Booleans}
 use Rattle.cil_projection.specs.declared.part.Part.{Part}
 use Rattle.cil_projection.specs.declared.part.Part.TheVariants.{Name, Target, ClassPermissions, Class, Other}
+use Rattle.cil_projection.specs.declared.kinds.TheConstants.{CONDITIONAL}
 use Rattle.cil_projection.specs.Pieces.{Piece, copied, blanked, taken}
 use Rattle.cil_projection.specs.Forms.{joined, or_else, fit, forms, fitting, names_in, name_or_operator}
-use Rattle.cil_projection.specs.Conditions.{Settings, containers, list_value}
+use Rattle.cil_projection.specs.Conditions.{Settings, containers, first_value}
 
 -- the first words of access vector rules, and of type rules
 abbrev pub rules : List (List ℕ)
@@ -26,7 +27,7 @@ is_taken settings holds branch = settings.both || bytes_eq branch (cond holds (c
 -- the names that a type rule needs
 abbrev pub type_rule_needs : Trees → Option (List Piece)
 type_rule_needs arguments =
-    or_else (fit (Name Types ∷ Name Types ∷ Class ∷ Name Types ∷ []) arguments) (fit (Name Types ∷ Name Types ∷ Class ∷ Other ∷ Name Types ∷ []) arguments)
+    or_else (fit (Name Types ∷ Target ∷ Class ∷ Name Types ∷ []) arguments) (fit (Name Types ∷ Target ∷ Class ∷ Other ∷ Name Types ∷ []) arguments)
 
 -- what holds of a word and the trees behind it, for the list that is the first of trees and has them
 abbrev pub of_first_list : (List ℕ → Trees → Option (List Piece)) → Trees → Option (List Piece)
@@ -72,22 +73,36 @@ kept_branches settings holds from (a_list at end (a_word place branch inner) res
     cond (is_taken settings holds branch) (kept_rules from inner end ++ kept_branches settings holds end rest to) (kept_branches settings holds from rest to)
 kept_branches settings holds from (a_list at end items rest) to = kept_branches settings holds from rest to
 
+-- the names and the value of a condition, which is the first of trees
+abbrev pub condition_names : Trees → List Piece
+condition_names none = []
+condition_names (a_word at word inner) = name_or_operator Booleans word
+condition_names (a_string at text inner) = []
+condition_names (a_list at end items inner) = names_in Booleans items
+
+abbrev pub condition_value : Settings → Trees → Option Bool
+condition_value settings trees = first_value settings.value trees
+
 -- A conditional statement from an offset up to another: the rules of its taken branches where they stand, and behind it the names that it
 -- needs otherwise. `names` are those of its condition.
 abbrev pub chosen : Settings → ℕ → ℕ → Option Bool → List Piece → Trees → Option (List Piece)
 chosen settings from to None names inner = None
 chosen settings from to (Some holds) names inner =
-    joined (Some (kept_branches settings holds from inner to ++ (taken (length forms) ∷ names))) (branches_need settings holds inner)
+    joined (Some (kept_branches settings holds from inner to ++ (taken CONDITIONAL ∷ names))) (branches_need settings holds inner)
+
+-- the trees behind the first
+abbrev pub behind_first : Trees → Trees
+behind_first none = none
+behind_first (a_word at word rest) = rest
+behind_first (a_string at text rest) = rest
+behind_first (a_list at end items rest) = rest
 
 abbrev pub conditional : Settings → ℕ → ℕ → Trees → Option (List Piece)
-conditional settings from to none = None
-conditional settings from to (a_word at word inner) = chosen settings from to (settings.value word) (name_or_operator Booleans word) inner
-conditional settings from to (a_string at text inner) = None
-conditional settings from to (a_list at end items inner) = chosen settings from to (list_value settings.value items) (names_in Booleans items) inner
+conditional settings from to arguments = chosen settings from to (condition_value settings arguments) (condition_names arguments) (behind_first arguments)
 
 -- A statement by its names alone: blanked, and its names behind it.
 abbrev pub by_names : ℕ → ℕ → List ℕ → Trees → Option (List Piece)
-by_names from to word arguments = joined (Some (blanked from to ∷ [])) (fitting 0 forms word arguments)
+by_names from to word arguments = fitting from to 0 forms word arguments
 
 -- a statement of these trees, from an offset up to another, that holds no other
 abbrev pub statement : Settings → ℕ → ℕ → Trees → Option (List Piece)

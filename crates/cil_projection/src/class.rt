@@ -2,7 +2,7 @@
 
 ghost use Rattle.std.specs.Prelude.{◌≡◌, IfOk};
 ghost use Rattle.cil_text.specs.Common.{trees_of};
-ghost use Rattle.cil_projection.specs.Forms.{Adds, are_plain, class_permissions, classes_in};
+ghost use Rattle.cil_projection.specs.Forms.{Adds, class_permissions, classes_in, permissions_in};
 
 use crate::names::OPERATORS;
 use crate::piece::Piece;
@@ -30,21 +30,26 @@ pub fn add_classes<'a, A: Allocator>(
     Ok(true)
 }
 
-/// Whether trees are plain words, and no expression.
-fn are_plain(trees: TreeSlice<'_, '_>) -> bool
-    ensures { result ≡ are_plain (trees_of trees.entry) }
+/// Adds permissions, where trees are them and nothing else, and no expression.
+fn add_permissions<'a, A: Allocator>(
+    pieces: &mut Vec<Piece<'a>, A>,
+    trees: TreeSlice<'_, 'a>,
+) -> Result<bool, AllocError>
+    ensures { IfOk result (λ fits.
+        Adds pieces.old.items pieces.new.items fits (permissions_in (trees_of trees.entry))) }
 {
     let mut rest = trees;
     while let Some((tree, behind)) = rest.split_first() {
         let Tree::Word(word) = tree else {
-            return false;
+            return Ok(false);
         };
         if is_among(&OPERATORS, word.text) {
-            return false;
+            return Ok(false);
         }
+        pieces.push(Piece::Permission { name: word.text })?;
         rest = behind;
     }
-    true
+    Ok(true)
 }
 
 /// Adds a class and its permissions, where trees are a class and a list of permissions.
@@ -61,16 +66,16 @@ pub fn add_class_permissions<'a, A: Allocator>(
     let Some((list, behind)) = rest.split_first() else {
         return Ok(false);
     };
-    let Tree::List { at, end, items } = list else {
+    let Tree::List { items, .. } = list else {
         return Ok(false);
     };
-    if !behind.is_empty() || !are_plain(items) {
+    if !behind.is_empty() {
         return Ok(false);
     }
-    pieces.push(Piece::Permissions {
-        class: class.text,
-        from: at.offset,
-        to: end,
-    })?;
+    pieces.push(Piece::Opened { class: class.text })?;
+    if !add_permissions(pieces, items)? {
+        return Ok(false);
+    }
+    pieces.push(Piece::Closed)?;
     Ok(true)
 }

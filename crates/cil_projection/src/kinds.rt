@@ -46,10 +46,10 @@ pub const FORMS: [Form; 75] = [
     (b"levelrange", &[Part::Declared(Table::Ranges), Part::Range]),
     (b"rangetransition", &[Part::Name(Table::Types), Part::Name(Table::Types), Part::Class, Part::Range]),
     // "Type Statements"
-    (b"typetransition", &[Part::Name(Table::Types), Part::Name(Table::Types), Part::Class, Part::Name(Table::Types)]),
-    (b"typetransition", &[Part::Name(Table::Types), Part::Name(Table::Types), Part::Class, Part::Other, Part::Name(Table::Types)]),
-    (b"typechange", &[Part::Name(Table::Types), Part::Name(Table::Types), Part::Class, Part::Name(Table::Types)]),
-    (b"typemember", &[Part::Name(Table::Types), Part::Name(Table::Types), Part::Class, Part::Name(Table::Types)]),
+    (b"typetransition", &[Part::Name(Table::Types), Part::Target, Part::Class, Part::Name(Table::Types)]),
+    (b"typetransition", &[Part::Name(Table::Types), Part::Target, Part::Class, Part::Other, Part::Name(Table::Types)]),
+    (b"typechange", &[Part::Name(Table::Types), Part::Target, Part::Class, Part::Name(Table::Types)]),
+    (b"typemember", &[Part::Name(Table::Types), Part::Target, Part::Class, Part::Name(Table::Types)]),
     (b"typepermissive", &[Part::Name(Table::Types)]),
     (b"typebounds", &[Part::Name(Table::Types), Part::Name(Table::Types)]),
     (b"expandtypeattribute", &[Part::Names(Table::Types), Part::Other]),
@@ -96,3 +96,6 @@ pub const FORMS: [Form; 75] = [
     (b"neverallowx", &[Part::Name(Table::Types), Part::Target, Part::ExtendedPermission]),
     (b"permissionx", &[Part::Declared(Table::ExtendedPermissions), Part::ExtendedPermission]),
 ];
+
+/// The number of conditional statements, behind those of the forms.
+pub const CONDITIONAL: usize = FORMS.len();

@@ -3,6 +3,7 @@
 
 mod booleans;
 mod body;
+mod by_names;
 mod class;
 mod collect;
 mod component;
@@ -17,6 +18,7 @@ mod needs;
 mod part;
 mod piece;
 mod split;
+mod statement;
 mod table;
 mod words;
 

@@ -31,7 +31,7 @@ const RULE: [Part; 3] = [
 /// The arguments of a type rule (CIL Reference Guide, "Type Statements").
 const TYPE_RULE: [Part; 4] = [
     Part::Name(Table::Types),
-    Part::Name(Table::Types),
+    Part::Target,
     Part::Class,
     Part::Name(Table::Types),
 ];
@@ -39,7 +39,7 @@ const TYPE_RULE: [Part; 4] = [
 /// The arguments of a transition with the name of an object.
 const NAMED_TYPE_RULE: [Part; 5] = [
     Part::Name(Table::Types),
-    Part::Name(Table::Types),
+    Part::Target,
     Part::Class,
     Part::Other,
     Part::Name(Table::Types),

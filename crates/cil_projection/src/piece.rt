@@ -17,6 +17,10 @@ pub enum Piece<'a> {
     Needed { table: Table, name: &'a [u8] },
     /// A rule that needs the class and gives nothing.
     Class { name: &'a [u8] },
-    /// A rule that needs the class and the permissions in a list of the text, and gives nothing.
-    Permissions { class: &'a [u8], from: u32, to: u32 },
+    /// The front of a rule that needs the class and permissions, and gives nothing.
+    Opened { class: &'a [u8] },
+    /// One of its permissions.
+    Permission { name: &'a [u8] },
+    /// Its end.
+    Closed,
 }

@@ -1,0 +1,17 @@
+use Rattle.std.proofs.Common.{◌∙◌, ap, true, false, Some, None, List, [], ◌∷◌, cond, refl}
+use Rattle.cil_specs.specs.Shape.{is_among}
+use Rattle.cil_text.specs.Common.{trees_of, tree_then}
+use Rattle.cil_projection.specs.Pieces.{Piece, permission, pieces_of}
+use Rattle.cil_projection.specs.Forms.{joined, operators, permissions_in}
+use Rattle.cil_projection.proofs.FormLemmas.{no_permission, none_left, not_begun}
+use Rattle.cil_projection.proofs.class.add_permissions.Goals as goal
+
+pub returns-in_default-tree : goal.returns-in_default-tree
+returns-in_default-tree g c =
+    c.loop-tree.invariant c.loop-tree.pieces.items false
+    (no_permission c.in-Some.tree (trees_of c.loop-tree.rest) (trees_of c.in-Some.behind) c.in-Some.ensures c.in_default-tree.not-Word)
+
+pub returns : goal.returns
+returns g c =
+    let now = c.loop-tree.pieces.items in
+    c.loop-tree.invariant now true (ap (λ found. joined (Some (pieces_of now)) (permissions_in found)) c.in_default.ensures ∙ none_left now)
