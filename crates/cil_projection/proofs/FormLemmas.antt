@@ -125,3 +125,7 @@ pub adds_more : (now pushed after : List code.Piece) (x : code.Piece) (inner res
 adds_more now pushed after x inner rest left is_pushed added split =
     ap (λ l. l ++ rest) (added ∙ ap (λ l. pieces_of l ++ inner) is_pushed ∙ ap (λ l. l ++ inner) (map-append piece_of now (x ∷ [])) ∙ append_assoc (pieces_of now) (piece_of x ∷ []) inner)
     ∙ append_assoc (pieces_of now) (piece_of x ∷ inner) rest ∙ ap (λ l. pieces_of now ++ l) (sym split)
+
+-- one piece was added
+pub pushed_one : (now pushed : List code.Piece) (x : code.Piece) → pushed ≡ now ++ x ∷ [] → Adds now pushed true (Some (piece_of x ∷ []))
+pushed_one now pushed x is = ap (λ l. Some l) (sym (map-append piece_of now (x ∷ [])) ∙ ap pieces_of (sym is))

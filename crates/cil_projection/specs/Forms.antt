@@ -52,9 +52,13 @@ permissions_in (a_word at name rest) = joined (cond (is_among operators name) No
 permissions_in (a_string at text rest) = None
 permissions_in (a_list at end items rest) = None
 
+-- a class with the permissions of a list
+abbrev pub listed : List ℕ → Trees → Option (List Piece)
+listed name items = joined (joined (Some (opened name ∷ [])) (permissions_in items)) (Some (closed ∷ []))
+
 -- a class and the list of its permissions
 abbrev pub class_permissions : Trees → Option (List Piece)
-class_permissions (a_word at name (a_list from end items none)) = joined (joined (Some (opened name ∷ [])) (permissions_in items)) (Some (closed ∷ []))
+class_permissions (a_word at name (a_list from end items none)) = listed name items
 class_permissions trees = None
 
 -- a sensitivity and categories
@@ -114,7 +118,7 @@ constraint trees = None
 -- what an argument is that is a word
 abbrev pub of_word : Part → List ℕ → Option (List Piece)
 of_word (Declared table) word = Some (declared table word ∷ [])
-of_word (Name table) word = Some (needed table word ∷ [])
+of_word (Name table) word = cond (bytes_eq word (codes "self")) None (Some (needed table word ∷ []))
 of_word Target word = Some (cond (bytes_eq word (codes "self")) [] (needed Types word ∷ []))
 of_word (Names table) word = Some (name_or_operator table word)
 of_word Other word = Some []
@@ -182,15 +186,15 @@ forms = map (λ row. (row.0.now, row.1.now)) FORMS
 abbrev pub rows_of : List (Bor (List ℕ) × Bor (List Part)) → List (List ℕ × List Part)
 rows_of = map (λ row. (row.0.now, row.1.now))
 
--- A statement from an offset up to another, of which the arguments fit a form of this number: blanked, and the names behind it.
-abbrev pub taken_by : ℕ → ℕ → ℕ → List Part → Trees → Option (List Piece)
-taken_by from to form parts arguments = joined (Some (blanked from to ∷ taken form ∷ [])) (fit parts arguments)
+-- A statement with this first word from an offset up to another, of which the arguments fit a form: blanked, and the names behind it.
+abbrev pub taken_by : ℕ → ℕ → List ℕ → List Part → Trees → Option (List Piece)
+taken_by from to word parts arguments = joined (Some (blanked from to ∷ taken word ∷ [])) (fit parts arguments)
 
--- a statement with this first word by the first of some forms that it fits, of which the first has this number
-abbrev pub fitting : ℕ → ℕ → ℕ → List (List ℕ × List Part) → List ℕ → Trees → Option (List Piece)
-fitting from to number [] word arguments = None
-fitting from to number ((keyword, parts) ∷ forms) word arguments =
-    or_else (cond (bytes_eq word keyword) (taken_by from to number parts arguments) None) (fitting from to (number + 1) forms word arguments)
+-- the same by the first of some forms that it fits
+abbrev pub fitting : ℕ → ℕ → List (List ℕ × List Part) → List ℕ → Trees → Option (List Piece)
+fitting from to [] word arguments = None
+fitting from to ((keyword, parts) ∷ forms) word arguments =
+    or_else (cond (bytes_eq word keyword) (taken_by from to keyword parts arguments) None) (fitting from to forms word arguments)
 
 -- Pieces were added: those that are there, or none are.
 abbrev pub Adds : List code.Piece → List code.Piece → Bool → Option (List Piece) → Type 0

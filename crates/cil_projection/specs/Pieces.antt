@@ -1,18 +1,18 @@
 -- The pieces of a projected text, and the bytes that they spell.
-use Rattle.std.specs.Prelude.{ℕ, ◌-◌, ◌==◌, Bool, cond, List, [], ◌∷◌, ◌++◌, take, drop, map, codes}
+use Rattle.std.specs.Prelude.{ℕ, ◌-◌, ◌==◌, Bool, cond, List, [], ◌∷◌, ◌++◌, length, take, drop, map, codes}
 use Rattle.std.specs.List.{list_any}
 use Rattle.cil_projection.specs.declared.table.Table.{Table}
 use Rattle.cil_projection.specs.declared.table.Table.TheVariants.{Types, Roles, Users, Booleans, Tunables, Categories, Sensitivities, Levels, Ranges, Contexts, Sids, Addresses, ExtendedPermissions}
 use Rattle.cil_projection.specs.declared.piece.Piece as code
 use Rattle.cil_projection.specs.declared.piece.Piece.TheVariants.{Copied, Blanked, Taken, Declared, Needed, Class, Opened, Permission, Closed}
 
--- Bytes of the text as they are, or blanked; that a statement was taken by the form of this number; a declaration of a name; a rule
+-- Bytes of the text as they are, or blanked; that a statement with this first word was taken by its names; a declaration of a name; a rule
 -- that needs a name, or a class; the front of a rule that needs a class and permissions, each of them, and its end. Offsets are those of
 -- the text.
 pub data Piece : Type 0 where
   copied : ℕ → ℕ → Piece
   blanked : ℕ → ℕ → Piece
-  taken : ℕ → Piece
+  taken : List ℕ → Piece
   declared : Table → List ℕ → Piece
   needed : Table → List ℕ → Piece
   a_class : List ℕ → Piece
@@ -23,7 +23,7 @@ pub data Piece : Type 0 where
 abbrev pub piece_of : code.Piece → Piece
 piece_of (Copied from to) = copied from to
 piece_of (Blanked from to) = blanked from to
-piece_of (Taken form) = taken form
+piece_of (Taken keyword) = taken keyword.now
 piece_of (Declared table name) = declared table name.now
 piece_of (Needed table name) = needed table name.now
 piece_of (Class name) = a_class name.now
@@ -58,14 +58,9 @@ abbrev pub last_component : List ℕ → List ℕ
 last_component [] = []
 last_component (b ∷ name) = cond (is_dotted (b ∷ name)) (last_component name) (b ∷ name)
 
--- a name with a prefix in front of its last component
-abbrev pub with_prefix : List ℕ → List ℕ → List ℕ
-with_prefix front [] = front
-with_prefix front (b ∷ name) = cond (is_dotted (b ∷ name)) (b ∷ with_prefix front name) (front ++ (b ∷ name))
-
--- the attribute that stands for a name of a table
+-- the attribute that stands for a name of a table: the name with the table's prefix in front of its last component
 abbrev pub attribute_of : Table → List ℕ → List ℕ
-attribute_of table name = with_prefix (prefix table) name
+attribute_of table name = take (length name - length (last_component name)) name ++ (prefix table ++ last_component name)
 
 -- the bytes of a text from one offset up to another
 abbrev pub part_of : List ℕ → ℕ → ℕ → List ℕ
@@ -78,7 +73,7 @@ blank b = cond (b == 10) 10 32
 abbrev pub spelled : List ℕ → Piece → List ℕ
 spelled text (copied from to) = part_of text from to
 spelled text (blanked from to) = map blank (part_of text from to)
-spelled text (taken form) = []
+spelled text (taken keyword) = []
 spelled text (declared table name) = codes "(typeattribute " ++ attribute_of table name ++ codes ")"
 spelled text (needed table name) = codes "(dontaudit cilsem__none " ++ attribute_of table name ++ codes " (cilsem__none ()))"
 spelled text (a_class name) = codes "(dontaudit cilsem__none self (" ++ name ++ codes " ()))"

@@ -5,7 +5,6 @@ use Rattle.cil_specs.specs.Shape.{is_among}
 use Rattle.cil_projection.specs.declared.table.Table.TheVariants.{Types, Booleans}
 use Rattle.cil_projection.specs.declared.part.Part.{Part}
 use Rattle.cil_projection.specs.declared.part.Part.TheVariants.{Name, Target, ClassPermissions, Class, Other}
-use Rattle.cil_projection.specs.declared.kinds.TheConstants.{CONDITIONAL}
 use Rattle.cil_projection.specs.Pieces.{Piece, copied, blanked, taken}
 use Rattle.cil_projection.specs.Forms.{joined, or_else, fit, forms, fitting, names_in, name_or_operator}
 use Rattle.cil_projection.specs.Conditions.{Settings, containers, first_value}
@@ -38,7 +37,7 @@ of_first_list needs trees = None
 abbrev pub rule_needs : Bool → List ℕ → Trees → Option (List Piece)
 rule_needs stays word arguments =
     cond (is_among rules word) (cond stays (Some []) (fit (Name Types ∷ Target ∷ ClassPermissions ∷ []) arguments))
-    (cond (is_among type_rules word) (type_rule_needs arguments) None)
+    (cond (is_among type_rules word) (joined (Some (taken word ∷ [])) (type_rule_needs arguments)) None)
 
 abbrev pub rules_need : Bool → Trees → Option (List Piece)
 rules_need stay none = Some []
@@ -88,7 +87,7 @@ condition_value settings trees = first_value settings.value trees
 abbrev pub chosen : Settings → ℕ → ℕ → Option Bool → List Piece → Trees → Option (List Piece)
 chosen settings from to None names inner = None
 chosen settings from to (Some holds) names inner =
-    joined (Some (kept_branches settings holds from inner to ++ (taken CONDITIONAL ∷ names))) (branches_need settings holds inner)
+    joined (Some (kept_branches settings holds from inner to ++ (taken (codes "booleanif") ∷ names))) (branches_need settings holds inner)
 
 -- the trees behind the first
 abbrev pub behind_first : Trees → Trees
@@ -102,7 +101,7 @@ conditional settings from to arguments = chosen settings from to (condition_valu
 
 -- A statement by its names alone: blanked, and its names behind it.
 abbrev pub by_names : ℕ → ℕ → List ℕ → Trees → Option (List Piece)
-by_names from to word arguments = fitting from to 0 forms word arguments
+by_names from to word arguments = fitting from to forms word arguments
 
 -- a statement of these trees, from an offset up to another, that holds no other
 abbrev pub statement : Settings → ℕ → ℕ → Trees → Option (List Piece)

@@ -1,6 +1,6 @@
 //! Statements that are taken by their names alone.
 
-ghost use Rattle.std.specs.Prelude.{◌≡◌, ◌+◌, ◌<◌, IfOk, length, option_map};
+ghost use Rattle.std.specs.Prelude.{◌≡◌, IfOk, option_map};
 ghost use Rattle.cil_text.specs.Common.{trees_of};
 ghost use Rattle.cil_projection.specs.Pieces.{pieces_of};
 ghost use Rattle.cil_projection.specs.Forms.{fitting, rows_of, taken_by};
@@ -8,7 +8,6 @@ ghost use Rattle.cil_projection.specs.Statements.{by_names};
 
 use crate::fit::fit;
 use crate::kinds::{FORMS, Form};
-use crate::part::Part;
 use crate::piece::Piece;
 use cil_text::{TreeSlice, Word};
 use std::alloc::{AllocError, Allocator};
@@ -20,34 +19,27 @@ pub struct Span {
     pub to: u32,
 }
 
-/// The pieces of a statement by a form of this number, where its arguments fit it.
+/// The pieces of a statement with this first word by a form, where its arguments fit it.
 fn taken<'a, A: Allocator>(
     alloc: A,
     span: Span,
-    form: usize,
-    parts: &[Part],
+    form: Form,
     arguments: TreeSlice<'_, 'a>,
 ) -> Result<Option<Vec<Piece<'a>, A>>, AllocError>
     ensures { IfOk result (λ found. option_map (λ pieces. pieces_of pieces.items) found
-        ≡ taken_by span.from span.to form parts.now (trees_of arguments.entry)) }
+        ≡ taken_by span.from span.to form.entry.0.now form.entry.1.now (trees_of arguments.entry)) }
 {
+    let (keyword, parts) = form;
     let mut pieces = Vec::new(alloc);
     pieces.push(Piece::Blanked {
         from: span.from,
         to: span.to,
     })?;
-    pieces.push(Piece::Taken { form })?;
+    pieces.push(Piece::Taken { keyword })?;
     if !fit(&mut pieces, parts, arguments)? {
         return Ok(None);
     }
     Ok(Some(pieces))
-}
-
-/// Forms that are left, of which the first has this number.
-#[derive(Clone, Copy)]
-struct Left {
-    number: usize,
-    forms: &'static [Form],
 }
 
 /// The pieces of a statement by the first of the forms that it fits.
@@ -55,28 +47,23 @@ struct Left {
 fn fitting<'a, A: Allocator + Copy>(
     alloc: A,
     span: Span,
-    left: Left,
+    forms: &'static [Form],
     word: Word<'a>,
     arguments: TreeSlice<'_, 'a>,
 ) -> Result<Option<Vec<Piece<'a>, A>>, AllocError>
-    requires { left.number + length left.forms.now < 4294967296 }
     ensures { IfOk result (λ found. option_map (λ pieces. pieces_of pieces.items) found
-        ≡ fitting span.from span.to left.number (rows_of left.forms.now)
-        word.entry.text.now (trees_of arguments.entry)) }
+        ≡ fitting span.from span.to (rows_of forms.now) word.entry.text.now
+        (trees_of arguments.entry)) }
 {
-    let [(keyword, parts), more @ ..] = left.forms else {
+    let [form, more @ ..] = forms else {
         return Ok(None);
     };
-    if word.text == *keyword {
-        if let Some(pieces) = taken(alloc, span, left.number, parts, arguments)? {
+    if word.text == form.0 {
+        if let Some(pieces) = taken(alloc, span, *form, arguments)? {
             return Ok(Some(pieces));
         }
     }
-    let left = Left {
-        number: left.number + 1,
-        forms: more,
-    };
-    let found = fitting(alloc, span, left, word, arguments)?;
+    let found = fitting(alloc, span, more, word, arguments)?;
     Ok(found)
 }
 
@@ -90,10 +77,6 @@ pub fn by_names<'a, A: Allocator + Copy>(
     ensures { IfOk result (λ found. option_map (λ pieces. pieces_of pieces.items) found
         ≡ by_names span.from span.to word.entry.text.now (trees_of arguments.entry)) }
 {
-    let left = Left {
-        number: 0,
-        forms: &FORMS,
-    };
-    let found = fitting(alloc, span, left, word, arguments)?;
+    let found = fitting(alloc, span, &FORMS, word, arguments)?;
     Ok(found)
 }

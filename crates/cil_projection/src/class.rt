@@ -2,13 +2,13 @@
 
 ghost use Rattle.std.specs.Prelude.{◌≡◌, IfOk};
 ghost use Rattle.cil_text.specs.Common.{trees_of};
-ghost use Rattle.cil_projection.specs.Forms.{Adds, class_permissions, classes_in, permissions_in};
+ghost use Rattle.cil_projection.specs.Forms.{Adds, class_permissions, classes_in, listed, permissions_in};
 
 use crate::names::OPERATORS;
 use crate::piece::Piece;
 use crate::split::split_word;
 use crate::words::is_among;
-use cil_text::{Tree, TreeSlice};
+use cil_text::{Tree, TreeSlice, Word};
 use std::alloc::{AllocError, Allocator};
 
 /// Adds classes, where trees are them and nothing else.
@@ -52,6 +52,23 @@ fn add_permissions<'a, A: Allocator>(
     Ok(true)
 }
 
+/// Adds a class with the permissions that these trees are, where they are permissions and nothing else.
+fn add_listed<'a, A: Allocator>(
+    pieces: &mut Vec<Piece<'a>, A>,
+    class: Word<'a>,
+    items: TreeSlice<'_, 'a>,
+) -> Result<bool, AllocError>
+    ensures { IfOk result (λ fits. Adds pieces.old.items pieces.new.items fits
+        (listed class.entry.text.now (trees_of items.entry))) }
+{
+    pieces.push(Piece::Opened { class: class.text })?;
+    if !add_permissions(pieces, items)? {
+        return Ok(false);
+    }
+    pieces.push(Piece::Closed)?;
+    Ok(true)
+}
+
 /// Adds a class and its permissions, where trees are a class and a list of permissions.
 pub fn add_class_permissions<'a, A: Allocator>(
     pieces: &mut Vec<Piece<'a>, A>,
@@ -72,10 +89,6 @@ pub fn add_class_permissions<'a, A: Allocator>(
     if !behind.is_empty() {
         return Ok(false);
     }
-    pieces.push(Piece::Opened { class: class.text })?;
-    if !add_permissions(pieces, items)? {
-        return Ok(false);
-    }
-    pieces.push(Piece::Closed)?;
-    Ok(true)
+    let fits = add_listed(pieces, class, items)?;
+    Ok(fits)
 }

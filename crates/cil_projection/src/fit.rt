@@ -67,6 +67,7 @@ fn add_word<'a, A: Allocator>(
         }
         Part::Target if name == b"self".as_slice() => return Ok(true),
         Part::Other => return Ok(true),
+        Part::Name(_) if name == b"self".as_slice() => return Ok(false),
         Part::ClassPermissions | Part::Constraint => return Ok(false),
         Part::Name(table) => table,
         Part::Target => Table::Types,

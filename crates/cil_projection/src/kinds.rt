@@ -96,6 +96,3 @@ pub const FORMS: [Form; 75] = [
     (b"neverallowx", &[Part::Name(Table::Types), Part::Target, Part::ExtendedPermission]),
     (b"permissionx", &[Part::Declared(Table::ExtendedPermissions), Part::ExtendedPermission]),
 ];
-
-/// The number of conditional statements, behind those of the forms.
-pub const CONDITIONAL: usize = FORMS.len();

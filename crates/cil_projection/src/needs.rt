@@ -71,7 +71,7 @@ fn add_rule_needs<'a, A: Allocator + Copy>(
     pieces: &mut Vec<Piece<'a>, A>,
     alloc: A,
     stays: bool,
-    word: &[u8],
+    word: &'a [u8],
     arguments: TreeSlice<'_, 'a>,
 ) -> Result<bool, AllocError>
     ensures { IfOk result (λ fits. Adds pieces.old.items pieces.new.items fits
@@ -89,6 +89,7 @@ fn add_rule_needs<'a, A: Allocator + Copy>(
     let Some(mut needs) = type_rule_needs(alloc, arguments)? else {
         return Ok(false);
     };
+    pieces.push(Piece::Taken { keyword: word })?;
     pieces.append(&mut needs)?;
     Ok(true)
 }

@@ -9,8 +9,8 @@ pub enum Piece<'a> {
     Copied { from: u32, to: u32 },
     /// As many spaces as these bytes, where they are no line feeds.
     Blanked { from: u32, to: u32 },
-    /// A statement was taken by its names: the one of the forms that it fits.
-    Taken { form: usize },
+    /// A statement with this first word was taken by its names.
+    Taken { keyword: &'a [u8] },
     /// The declaration of an attribute that stands for a name of a table.
     Declared { table: Table, name: &'a [u8] },
     /// A rule that needs the name and gives nothing.

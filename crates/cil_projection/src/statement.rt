@@ -4,7 +4,6 @@ use crate::body::body_of;
 use crate::booleans::Booleans;
 use crate::by_names::{Span, by_names};
 use crate::condition::list_value;
-use crate::kinds::CONDITIONAL;
 use crate::names::{add_name, add_names};
 use crate::needs::Choice;
 use crate::piece::Piece;
@@ -72,7 +71,9 @@ impl<'w, 'm, A: Allocator + Copy> Projector<'w, 'm, A> {
         let mut names = names;
         let mut pieces = Vec::new(self.alloc);
         choice.add_kept(&mut pieces, span.from, branches, span.to)?;
-        pieces.push(Piece::Taken { form: CONDITIONAL })?;
+        pieces.push(Piece::Taken {
+            keyword: b"booleanif",
+        })?;
         pieces.append(&mut names)?;
         if !choice.add_branches(&mut pieces, self.alloc, branches)? {
             return Ok(None);
