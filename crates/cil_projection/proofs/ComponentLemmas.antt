@@ -1,5 +1,5 @@
 -- The last component of a name, from the front on.
-use Rattle.std.specs.Prelude.{◌≡◌, ℕ, ◌==◌, Bool, true, false, cond, ◌||◌, List, [], ◌∷◌, length, ◌<◌, refl}
+use Rattle.std.specs.Prelude.{◌≡◌, ℕ, ◌==◌, Bool, true, false, cond, ◌||◌, List, [], ◌∷◌, length, ◌<◌, ◌≤◌, refl}
 use Rattle.std.proofs.Common.{◌∙◌, sym, ap, arith}
 use Rattle.cil_projection.specs.Pieces.{is_dotted, last_component}
 
@@ -29,3 +29,12 @@ last_is name = from_is name name ∙ sym (whole name)
 pub last_at_end : (last rest name : List ℕ) → length rest < 1 → last_from last rest ≡ last_from name name → last ≡ last_component name
 last_at_end last [] name short is = is ∙ last_is name
 last_at_end last (b ∷ rest) name short is = absurd (omega (arith, short))
+
+-- it is no longer than the name
+pub last_within : (name : List ℕ) → length (last_component name) ≤ length name
+last_within [] = omega arith
+last_within (b ∷ name) = by (is_dotted (b ∷ name)) (last_within name)
+  where
+    by : (d : Bool) → length (last_component name) ≤ length name → length (cond d (last_component name) (b ∷ name)) ≤ length (b ∷ name)
+    by true within = omega (arith, within)
+    by false within = omega arith

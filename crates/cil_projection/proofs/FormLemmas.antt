@@ -129,3 +129,8 @@ adds_more now pushed after x inner rest left is_pushed added split =
 -- one piece was added
 pub pushed_one : (now pushed : List code.Piece) (x : code.Piece) → pushed ≡ now ++ x ∷ [] → Adds now pushed true (Some (piece_of x ∷ []))
 pushed_one now pushed x is = ap (λ l. Some l) (sym (map-append piece_of now (x ∷ [])) ∙ ap pieces_of (sym is))
+
+-- three lists behind another
+pub three_behind : (old first second all : List ℕ) (a x b : List ℕ) → first ≡ old ++ a → second ≡ first ++ x → all ≡ second ++ b → all ≡ old ++ ((a ++ x) ++ b)
+three_behind old first second all a x b is_first is_second is_all =
+    is_all ∙ ap (λ l. l ++ b) (is_second ∙ ap (λ l. l ++ x) is_first ∙ append_assoc old a x) ∙ append_assoc old (a ++ x) b

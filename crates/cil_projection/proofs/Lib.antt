@@ -5,3 +5,4 @@ pub mod BodyLemmas
 pub mod NeedLemmas
 pub mod ComponentLemmas
 pub mod NameLemmas
+pub mod MarkLemmas

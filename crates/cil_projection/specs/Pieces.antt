@@ -60,7 +60,7 @@ last_component (b ∷ name) = cond (is_dotted (b ∷ name)) (last_component name
 
 -- the attribute that stands for a name of a table: the name with the table's prefix in front of its last component
 abbrev pub attribute_of : Table → List ℕ → List ℕ
-attribute_of table name = take (length name - length (last_component name)) name ++ (prefix table ++ last_component name)
+attribute_of table name = take (length name - length (last_component name)) name ++ prefix table ++ last_component name
 
 -- the bytes of a text from one offset up to another
 abbrev pub part_of : List ℕ → ℕ → ℕ → List ℕ

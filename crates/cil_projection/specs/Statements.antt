@@ -1,11 +1,17 @@
 -- What a text is projected onto.
-use Rattle.std.specs.Prelude.{◌≡◌, ℕ, ◌+◌, Bool, true, false, cond, ◌||◌, ◌&&◌, List, [], ◌∷◌, ◌++◌, Option, Some, None, option_map, codes, bytes_eq, length}
-use Rattle.cil_specs.specs.Trees.{Trees, none, a_word, a_string, a_list}
+use Rattle.std.specs.Prelude.{◌≡◌, ℕ, ◌+◌, ◌⊎◌, min, nat_eq, fold, Bool, true, false, cond, ◌||◌, ◌&&◌, List, [], ◌∷◌, ◌++◌, Option, Some, None, option_map, codes, bytes_eq, length}
+use Rattle.std.specs.List.{starts_with}
+use Rattle.std.specs.Option.{option_or}
+use Rattle.cil_specs.specs.Names.{Word}
+use Rattle.cil_specs.specs.Lookup.{with_name}
+use Rattle.cil_specs.specs.TextFault.{TextFault, reserved}
+use Rattle.cil_specs.specs.Reading.{IsReadingFault}
+use Rattle.cil_specs.specs.Trees.{Trees, Reads, none, a_word, a_string, a_list}
 use Rattle.cil_specs.specs.Shape.{is_among}
 use Rattle.cil_projection.specs.declared.table.Table.TheVariants.{Types, Booleans}
 use Rattle.cil_projection.specs.declared.part.Part.{Part}
 use Rattle.cil_projection.specs.declared.part.Part.TheVariants.{Name, Target, ClassPermissions, Class, Other}
-use Rattle.cil_projection.specs.Pieces.{Piece, copied, blanked, taken}
+use Rattle.cil_projection.specs.Pieces.{Piece, copied, blanked, taken, rendered}
 use Rattle.cil_projection.specs.Forms.{joined, or_else, fit, forms, fitting, names_in, name_or_operator}
 use Rattle.cil_projection.specs.Conditions.{Settings, containers, first_value}
 
@@ -124,3 +130,45 @@ projected settings from (a_list at end (a_word place word (a_word second id body
     (or_copied at.offset end (statement settings at.offset end (a_word place word (a_word second id body)))) ++ projected settings end rest to)
 projected settings from (a_list at end items rest) to =
     copied from at.offset ∷ (or_copied at.offset end (statement settings at.offset end items) ++ projected settings end rest to)
+
+-- the bytes that begin the names that a projection makes
+abbrev pub mark : List ℕ
+mark = codes "cilsem__"
+
+-- whether a word has them in it
+abbrev pub has_mark : List ℕ → Bool
+has_mark [] = false
+has_mark (b ∷ word) = starts_with nat_eq (b ∷ word) mark || has_mark word
+
+-- the first word with them, if any
+abbrev pub first_marked : Trees → Option Word
+first_marked none = None
+first_marked (a_word at word rest) = cond (has_mark word) (Some (record { at = at; text = word })) (first_marked rest)
+first_marked (a_string at text rest) = first_marked rest
+first_marked (a_list at end items rest) = option_or (first_marked items) (first_marked rest)
+
+-- Why a text has no projection: a reading fault, or the first word that could be taken for a name that a projection makes.
+abbrev pub IsMarkFault : List ℕ → TextFault → Type 0
+IsMarkFault text fault = (trees : Trees) × (word : Word) × Reads text trees × (first_marked trees ≡ Some word) × (fault ≡ record { kind = reserved; at = word.at; word = word.text })
+
+abbrev pub IsProjectionFault : List ℕ → TextFault → Type 0
+IsProjectionFault text fault = IsReadingFault text fault ⊎ IsMarkFault text fault
+
+-- the text's projection
+abbrev pub Projects : Settings → List ℕ → List ℕ → Type 0
+Projects settings text bytes = (trees : Trees) × Reads text trees × (first_marked trees ≡ None) × (bytes ≡ rendered text (projected settings 0 trees (length text)))
+
+-- what was taken by its names: the first words, each once, and how many statements
+pub record Counts : Type 0 where
+  pub keywords : List (List ℕ)
+  pub statements : ℕ
+
+abbrev pub no_counts : Counts
+no_counts = record { keywords = []; statements = 0 }
+
+abbrev pub counted : Counts → Piece → Counts
+counted counts (taken keyword) = record { keywords = with_name counts.keywords keyword; statements = min (counts.statements + 1) 18446744073709551615 }
+counted counts piece = counts
+
+abbrev pub Tallies : Settings → List ℕ → Counts → Counts → Type 0
+Tallies settings text before after = (trees : Trees) × Reads text trees × (after ≡ fold counted before (projected settings 0 trees (length text)))
