@@ -1,6 +1,6 @@
 -- The last component of a name, from the front on.
 use Rattle.std.specs.Prelude.{◌≡◌, ℕ, ◌==◌, Bool, true, false, cond, ◌||◌, List, [], ◌∷◌, length, ◌<◌, ◌≤◌, refl}
-use Rattle.std.proofs.Common.{◌∙◌, sym, ap, arith}
+use Rattle.std.proofs.Common.{◌∙◌, sym, arith}
 use Rattle.cil_projection.specs.Pieces.{is_dotted, last_component}
 
 -- what stands behind the last dot of the rest, or else what stood behind the last dot before it

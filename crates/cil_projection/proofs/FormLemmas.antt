@@ -66,7 +66,7 @@ pub adds_parts : (parts : List Part) (some : Part) (all : Trees) (tree : Tree) (
     → Adds middle after fits (fit (take (length parts - 1) (drop 1 parts)) rest) → Adds before after fits (fit parts all)
 adds_parts parts some all tree rest before middle after begins fits long is begun first more =
     let split : parts ≡ get_or parts 0 some ∷ take (length parts - 1) (drop 1 parts) =
-        drop-cons parts 0 some (omega arith) ∙ ap (λ rest. get_or parts 0 some ∷ rest) (sym (take_rest parts 1)) in
+    drop-cons parts 0 some (omega arith) ∙ ap (λ rest. get_or parts 0 some ∷ rest) (sym (take_rest parts 1)) in
     let front = get_or parts 0 some in
     let others : List Part = take (length parts - 1) (drop 1 parts) in
     subst (Adds before after fits) (sym (ap (λ l. fit l all) split ∙ fit_first front others all tree rest is))
@@ -113,10 +113,10 @@ pub adds_behind : (empty kept_pieces with_taken with_names names after : List co
     → Some (pieces_of after) ≡ joined (Some (kept ++ piece_of x ∷ pieces_of names)) needs
 adds_behind empty kept_pieces with_taken with_names names after x kept fits needs none_yet are_kept are_taken are_named fit_all adds =
     let front : pieces_of with_names ≡ kept ++ piece_of x ∷ pieces_of names =
-        ap pieces_of are_named ∙ map-append piece_of with_taken names ∙ ap (λ l. pieces_of l ++ pieces_of names) are_taken
-        ∙ ap (λ l. l ++ pieces_of names) (map-append piece_of kept_pieces (x ∷ []))
-        ∙ ap (λ l. (l ++ piece_of x ∷ []) ++ pieces_of names) (are_kept ∙ ap (λ l. pieces_of l ++ kept) none_yet)
-        ∙ append_assoc kept (piece_of x ∷ []) (pieces_of names) in
+    ap pieces_of are_named ∙ map-append piece_of with_taken names ∙ ap (λ l. pieces_of l ++ pieces_of names) are_taken
+    ∙ ap (λ l. l ++ pieces_of names) (map-append piece_of kept_pieces (x ∷ []))
+    ∙ ap (λ l. (l ++ piece_of x ∷ []) ++ pieces_of names) (are_kept ∙ ap (λ l. pieces_of l ++ kept) none_yet)
+    ∙ append_assoc kept (piece_of x ∷ []) (pieces_of names) in
     sym (ap (λ l. joined (Some l) needs) (sym front) ∙ subst (λ b. Adds with_names after b needs) fit_all adds)
 
 -- a piece and then others, where more is left

@@ -1,5 +1,5 @@
 -- Words that could be taken for names that a projection makes.
-use Rattle.std.specs.Prelude.{◌≡◌, ℕ, ◌-◌, ◌≤◌, ◌||◌, Bool, false, List, [], ◌∷◌, length, take, drop, nat_eq, refl}
+use Rattle.std.specs.Prelude.{◌≡◌, ℕ, ◌-◌, ◌≤◌, ◌||◌, false, List, [], ◌∷◌, length, take, drop, nat_eq}
 use Rattle.std.specs.List.{starts_with}
 use Rattle.std.proofs.Common.{◌∙◌, sym, ap, arith}
 use Rattle.std.proofs.lemmas.List.{take_rest}

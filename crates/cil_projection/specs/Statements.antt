@@ -1,5 +1,5 @@
 -- What a text is projected onto.
-use Rattle.std.specs.Prelude.{◌≡◌, ℕ, ◌+◌, ◌⊎◌, min, nat_eq, fold, Bool, true, false, cond, ◌||◌, ◌&&◌, List, [], ◌∷◌, ◌++◌, Option, Some, None, option_map, codes, bytes_eq, length}
+use Rattle.std.specs.Prelude.{◌≡◌, ℕ, ◌+◌, ◌⊎◌, min, nat_eq, fold, Bool, false, cond, ◌||◌, List, [], ◌∷◌, ◌++◌, Option, Some, None, codes, bytes_eq, length}
 use Rattle.std.specs.List.{starts_with}
 use Rattle.std.specs.Option.{option_or}
 use Rattle.cil_specs.specs.Names.{Word}
@@ -9,7 +9,6 @@ use Rattle.cil_specs.specs.Reading.{IsReadingFault}
 use Rattle.cil_specs.specs.Trees.{Trees, Reads, none, a_word, a_string, a_list}
 use Rattle.cil_specs.specs.Shape.{is_among}
 use Rattle.cil_projection.specs.declared.table.Table.TheVariants.{Types, Booleans}
-use Rattle.cil_projection.specs.declared.part.Part.{Part}
 use Rattle.cil_projection.specs.declared.part.Part.TheVariants.{Name, Target, ClassPermissions, Class, Other}
 use Rattle.cil_projection.specs.Pieces.{Piece, copied, blanked, taken, rendered}
 use Rattle.cil_projection.specs.Forms.{joined, or_else, fit, forms, fitting, names_in, name_or_operator}

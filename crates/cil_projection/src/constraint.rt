@@ -13,10 +13,15 @@ use cil_text::{Tree, TreeSlice, Word};
 use std::alloc::{AllocError, Allocator};
 
 const TYPE_VARIABLES: [&[u8]; 3] = [b"t1", b"t2", b"t3"];
+
 const ROLE_VARIABLES: [&[u8]; 3] = [b"r1", b"r2", b"r3"];
+
 const USER_VARIABLES: [&[u8]; 3] = [b"u1", b"u2", b"u3"];
+
 const LEVEL_VARIABLES: [&[u8]; 4] = [b"l1", b"l2", b"h1", b"h2"];
+
 const CONNECTIVES: [&[u8]; 3] = [b"and", b"or", b"not"];
+
 const COMPARISONS: [&[u8]; 5] = [b"eq", b"neq", b"dom", b"domby", b"incomp"];
 
 /// The table of the names that a variable is compared with. Levels are compared with each other alone.
@@ -48,7 +53,10 @@ fn add_compared<'a, A: Allocator>(
         return Ok(is_among(&LEVEL_VARIABLES, word.text));
     };
     if table_of(word.text).is_none() {
-        pieces.push(Piece::Needed { table, name: word.text })?;
+        pieces.push(Piece::Needed {
+            table,
+            name: word.text,
+        })?;
     }
     Ok(true)
 }

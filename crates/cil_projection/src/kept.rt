@@ -11,7 +11,6 @@ use crate::split::split_word;
 use cil_text::{Tree, TreeSlice};
 use std::alloc::{AllocError, Allocator};
 
-
 /// Adds the pieces from an offset up to another: access vector rules as they are, and all else blanked.
 fn add_kept_rules<'a, A: Allocator>(
     pieces: &mut Vec<Piece<'a>, A>,
@@ -28,8 +27,14 @@ fn add_kept_rules<'a, A: Allocator>(
         if let Tree::List { at, end, items } = tree {
             if let Some((word, _)) = split_word(items) {
                 if begins_rule(word.text) {
-                    pieces.push(Piece::Blanked { from, to: at.offset })?;
-                    pieces.push(Piece::Copied { from: at.offset, to: end })?;
+                    pieces.push(Piece::Blanked {
+                        from,
+                        to: at.offset,
+                    })?;
+                    pieces.push(Piece::Copied {
+                        from: at.offset,
+                        to: end,
+                    })?;
                     from = end;
                 }
             }

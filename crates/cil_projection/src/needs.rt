@@ -19,6 +19,7 @@ use cil_text::{Tree, TreeSlice};
 use std::alloc::{AllocError, Allocator};
 
 const RULES: [&[u8]; 4] = [b"allow", b"auditallow", b"dontaudit", b"neverallow"];
+
 const TYPE_RULES: [&[u8]; 3] = [b"typetransition", b"typechange", b"typemember"];
 
 /// The arguments of an access vector rule (CIL Reference Guide, "Access Vector Rules").

@@ -1,8 +1,8 @@
-use Rattle.std.proofs.Common.{◌∙◌, ◌≡◌, ap, sym, subst, true, false, Some, None, List, [], ◌∷◌, cond, refl}
+use Rattle.std.proofs.Common.{◌∙◌, ◌≡◌, ap, sym, true, false, Some, None, List, [], ◌∷◌, cond}
 use Rattle.cil_specs.specs.Shape.{is_among}
 use Rattle.cil_text.specs.Common.{trees_of, tree_then}
 use Rattle.cil_projection.specs.Pieces.{Piece, permission, pieces_of}
-use Rattle.cil_projection.specs.Forms.{Adds, joined, operators, permissions_in}
+use Rattle.cil_projection.specs.Forms.{joined, operators, permissions_in}
 use Rattle.cil_projection.proofs.FormLemmas.{completes_more, no_permission, none_left, pushed_one}
 use Rattle.cil_projection.proofs.class.add_permissions.Goals as goal
 

@@ -1,8 +1,8 @@
-use Rattle.std.proofs.Common.{◌≡◌, ◌++◌, ◌∙◌, sym, ap, subst, refl, arith, true, false, Some}
+use Rattle.std.proofs.Common.{◌++◌, ◌∙◌, sym, ap, subst, refl, arith, true, false}
 use Rattle.std.specs.Option.{option_map}
-use Rattle.cil_text.specs.Common.{trees_of, tree_then}
+use Rattle.cil_text.specs.Common.{trees_of}
 use Rattle.cil_text.proofs.Nodes.{size_behind}
-use Rattle.cil_projection.specs.Conditions.{first_value, in_front, list_value, settings_of, values}
+use Rattle.cil_projection.specs.Conditions.{in_front, list_value, settings_of, values}
 use Rattle.cil_projection.proofs.FormLemmas.{without_word}
 use Rattle.cil_projection.proofs.ValueLemmas.{CompletesValues, completes_more, none_left, values_first}
 use Rattle.cil_projection.proofs.condition.+condition.Goals as goal
@@ -26,7 +26,7 @@ add_values-loop-tree-preserved g t c =
     let all = values value (trees_of c.args.trees) in
     let left = values value (trees_of c.loop-tree.rest) in
     let is = values_first value c.in-Some.tree (trees_of c.loop-tree.rest) rest c.in-Some.ensures
-        ∙ ap (λ x. in_front x (values value rest)) (sym (c.in_ok-first.ensures rest) ∙ c.in-Some-2.is) in
+    ∙ ap (λ x. in_front x (values value rest)) (sym (c.in_ok-first.ensures rest) ∙ c.in-Some-2.is) in
     record {
       completes = subst (λ now. CompletesValues c.args.found.now.items all now (values value rest)) (sym c.in_ok-push.ensures.items)
           (completes_more c.args.found.now.items c.loop-tree.found.items all left (values value rest) c.in-Some-2.first c.loop-tree.invariant.completes is);

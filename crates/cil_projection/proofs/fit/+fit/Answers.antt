@@ -1,8 +1,6 @@
-use Rattle.std.proofs.Common.{◌≡◌, ◌∙◌, ◌∷◌, ap, sym, subst, arith}
-use Rattle.cil_specs.specs.Trees.{none}
-use Rattle.cil_text.specs.Common.{tree_then, trees_of}
-use Rattle.cil_text.proofs.Nodes.{tree_size, size_first}
-use Rattle.cil_projection.specs.Forms.{Adds, fit, of_first}
+use Rattle.std.proofs.Common.{arith}
+use Rattle.cil_text.specs.Common.{trees_of}
+use Rattle.cil_text.proofs.Nodes.{size_first}
 use Rattle.cil_projection.proofs.FormLemmas.{adds_parts}
 use Rattle.cil_projection.proofs.fit.+fit.Goals as goal
 

@@ -25,7 +25,7 @@ loop-tree-preserved-in_ok-add_statements-in-Some-body_of g t c =
     let body = trees_of c.in-Some-body_of.body in
     let front = c.in-Some.ensures ∙ ap (λ tree. tree_then tree rest) list.is in
     let split = ap (λ trees. projected settings from trees to) front
-        ∙ projected_body settings from (place_of list.at) list.end (trees_of list.items) rest body to c.in-Some-body_of.ensures in
+    ∙ projected_body settings from (place_of list.at) list.end (trees_of list.items) rest body to c.in-Some-body_of.ensures in
     record {
       added = adds_more c.loop-tree.pieces.items c.push.new.self.items c.add_statements.new.pieces.items _ (projected settings list.at.offset body list.end) (projected settings list.end rest to)
           (projected settings from (trees_of c.loop-tree.rest) to) c.in_ok-push.ensures.items c.in_ok-add_statements-in-Some-body_of.ensures split ∙ c.loop-tree.invariant.added;
@@ -42,7 +42,7 @@ loop-tree-preserved-in_ok-add_statement-in-None g t c =
     let items = trees_of list.items in
     let front = c.in-Some.ensures ∙ ap (λ tree. tree_then tree rest) list.is in
     let split = ap (λ trees. projected settings from trees to) front
-        ∙ projected_other settings from (place_of list.at) list.end items rest to c.in-None.ensures in
+    ∙ projected_other settings from (place_of list.at) list.end items rest to c.in-None.ensures in
     record {
       added = adds_more c.loop-tree.pieces.items c.push.new.self.items c.add_statement.new.pieces.items _ (or_copied list.at.offset list.end (statement settings list.at.offset list.end items))
           (projected settings list.end rest to) (projected settings from (trees_of c.loop-tree.rest) to) c.in_ok-push.ensures.items c.in_ok-add_statement-in-None.ensures split
