@@ -1,0 +1,15 @@
+use Rattle.std.proofs.Common.{◌∙◌, ap, true, false, Some}
+use Rattle.cil_text.specs.Common.{trees_of}
+use Rattle.cil_projection.specs.Forms.{classes_in, joined}
+use Rattle.cil_projection.specs.Pieces.{pieces_of}
+use Rattle.cil_projection.proofs.FormLemmas.{no_class, none_left}
+use Rattle.cil_projection.proofs.class.add_classes.Goals as goal
+
+pub returns-in_default-tree : goal.returns-in_default-tree
+returns-in_default-tree g c =
+    c.loop-tree.invariant c.loop-tree.pieces.items false (no_class c.in-Some.tree (trees_of c.loop-tree.rest) (trees_of c.in-Some.behind) c.in-Some.ensures c.in_default-tree.not-Word)
+
+pub returns : goal.returns
+returns g c =
+    let now = c.loop-tree.pieces.items in
+    c.loop-tree.invariant now true (ap (λ found. joined (Some (pieces_of now)) (classes_in found)) c.in_default.ensures ∙ none_left now)

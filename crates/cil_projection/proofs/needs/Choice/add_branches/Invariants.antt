@@ -1,0 +1,12 @@
+use Rattle.cil_text.specs.Common.{trees_of}
+use Rattle.cil_text.proofs.Nodes.{tree_size}
+use Rattle.cil_projection.specs.Statements.{branches_need}
+use Rattle.cil_projection.specs.Conditions.{settings_of}
+use Rattle.cil_projection.proofs.FormLemmas.{Completes}
+use Rattle.cil_projection.proofs.needs.Choice.add_branches.Given as goal
+
+abbrev pub invariant-loop-tree : goal.invariant-loop-tree
+invariant-loop-tree g l = Completes l.fn.pieces.items (branches_need (settings_of l.self.booleans.now) l.self.holds (trees_of l.fn.branches)) l.pieces.items (branches_need (settings_of l.self.booleans.now) l.self.holds (trees_of l.rest))
+
+abbrev pub decreases-loop-tree : goal.decreases-loop-tree
+decreases-loop-tree g l = tree_size (trees_of l.rest)

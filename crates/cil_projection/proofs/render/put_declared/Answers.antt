@@ -1,0 +1,5 @@
+use Rattle.cil_projection.proofs.FormLemmas.{three_behind}
+use Rattle.cil_projection.proofs.render.put_declared.Goals as goal
+
+pub returns : goal.returns
+returns g c = three_behind c.args.out.now.items c.extend_from_slice.new.self.items c.put_attribute.new.out.items c.extend_from_slice-2.new.self.items _ _ _ c.in_ok-extend_from_slice.ensures.items c.in_ok-put_attribute.ensures c.in_ok-extend_from_slice-2.ensures.items

@@ -1,0 +1,201 @@
+-- The names that the arguments of a statement declare and need, where they fit a form.
+use Rattle.std.specs.Prelude.{◌≡◌, ℕ, Bool, true, false, cond, List, [], ◌∷◌, ◌++◌, map, Option, Some, None, codes, bytes_eq}
+use Rattle.std.specs.Borrow.{Bor}
+use Rattle.cil_specs.specs.Trees.{Trees, none, a_word, a_string, a_list}
+use Rattle.cil_specs.specs.Shape.{is_among}
+use Rattle.cil_projection.specs.declared.table.Table.{Table}
+use Rattle.cil_projection.specs.declared.table.Table.TheVariants.{Types, Roles, Users, Categories, Sensitivities, Levels, Ranges, Contexts, Addresses, ExtendedPermissions}
+use Rattle.cil_projection.specs.declared.part.Part.{Part}
+use Rattle.cil_projection.specs.declared.part.Part.TheVariants as parts
+use Rattle.cil_projection.specs.declared.part.Part.TheVariants.{Declared, Name, Target, Names, Other, Classes, ClassPermissions, Context, PerhapsContext, Range, Level, Address, ExtendedPermission, Constraint}
+use Rattle.cil_projection.specs.declared.piece.Piece as code
+use Rattle.cil_projection.specs.declared.kinds.TheConstants.{FORMS}
+use Rattle.cil_projection.specs.Pieces.{Piece, blanked, taken, declared, needed, a_class, opened, permission, closed, pieces_of}
+
+-- the pieces of one thing and then those of another, where both are there
+abbrev pub joined : Option (List Piece) → Option (List Piece) → Option (List Piece)
+joined None after = None
+joined (Some front) None = None
+joined (Some front) (Some after) = Some (front ++ after)
+
+-- the first of two answers
+abbrev pub or_else : Option (List Piece) → Option (List Piece) → Option (List Piece)
+or_else (Some found) other = Some found
+or_else None other = other
+
+-- the words that are no names where names are listed
+abbrev pub operators : List (List ℕ)
+operators = codes "and" ∷ codes "or" ∷ codes "xor" ∷ codes "not" ∷ codes "all" ∷ codes "eq" ∷ codes "neq" ∷ codes "range" ∷ codes "unordered" ∷ []
+
+abbrev pub name_or_operator : Table → List ℕ → List Piece
+name_or_operator table word = cond (is_among operators word) [] (needed table word ∷ [])
+
+-- the names in trees, and in the lists among them
+abbrev pub names_in : Table → Trees → List Piece
+names_in table none = []
+names_in table (a_word at word rest) = name_or_operator table word ++ names_in table rest
+names_in table (a_string at text rest) = names_in table rest
+names_in table (a_list at end items rest) = names_in table items ++ names_in table rest
+
+-- classes and nothing else
+abbrev pub classes_in : Trees → Option (List Piece)
+classes_in none = Some []
+classes_in (a_word at name rest) = joined (Some (a_class name ∷ [])) (classes_in rest)
+classes_in (a_string at text rest) = None
+classes_in (a_list at end items rest) = None
+
+-- permissions and nothing else, and no expression
+abbrev pub permissions_in : Trees → Option (List Piece)
+permissions_in none = Some []
+permissions_in (a_word at name rest) = joined (cond (is_among operators name) None (Some (permission name ∷ []))) (permissions_in rest)
+permissions_in (a_string at text rest) = None
+permissions_in (a_list at end items rest) = None
+
+-- a class with the permissions of a list
+abbrev pub listed : List ℕ → Trees → Option (List Piece)
+listed name items = joined (joined (Some (opened name ∷ [])) (permissions_in items)) (Some (closed ∷ []))
+
+-- a class and the list of its permissions
+abbrev pub class_permissions : Trees → Option (List Piece)
+class_permissions (a_word at name (a_list from end items none)) = listed name items
+class_permissions trees = None
+
+-- a sensitivity and categories
+abbrev pub level : Trees → Option (List Piece)
+level (a_word at name rest) = Some (needed Sensitivities name ∷ names_in Categories rest)
+level trees = None
+
+abbrev pub connectives : List (List ℕ)
+connectives = codes "and" ∷ codes "or" ∷ codes "not" ∷ []
+
+abbrev pub comparisons : List (List ℕ)
+comparisons = codes "eq" ∷ codes "neq" ∷ codes "dom" ∷ codes "domby" ∷ codes "incomp" ∷ []
+
+abbrev pub level_variables : List (List ℕ)
+level_variables = codes "l1" ∷ codes "l2" ∷ codes "h1" ∷ codes "h2" ∷ []
+
+-- whether a word is a variable of a constraint, and the table that its names are of; those of levels are compared with each other alone
+abbrev pub variable : List ℕ → Option Table
+variable word =
+    cond (is_among (codes "t1" ∷ codes "t2" ∷ codes "t3" ∷ []) word) (Some Types)
+    (cond (is_among (codes "r1" ∷ codes "r2" ∷ codes "r3" ∷ []) word) (Some Roles)
+    (cond (is_among (codes "u1" ∷ codes "u2" ∷ codes "u3" ∷ []) word) (Some Users) None))
+
+-- the piece of a word that is no variable
+abbrev pub unless_variable : Option Table → Piece → List Piece
+unless_variable None piece = piece ∷ []
+unless_variable (Some table) piece = []
+
+-- what a variable is compared with: a variable or a name, or names
+abbrev pub compared : Option Table → List ℕ → Option (List Piece)
+compared None word = cond (is_among level_variables word) (Some []) None
+compared (Some table) word = Some (unless_variable (variable word) (needed table word))
+
+abbrev pub compared_list : Option Table → Trees → Option (List Piece)
+compared_list None items = None
+compared_list (Some table) items = Some (names_in table items)
+
+abbrev pub comparison : Trees → Option (List Piece)
+comparison (a_word at left (a_word place right none)) = compared (variable left) right
+comparison (a_word at left (a_list place end items none)) = compared_list (variable left) items
+comparison trees = None
+
+abbrev pub operation : List ℕ → Trees → Option (List Piece) → Option (List Piece)
+operation operator operands inner = cond (is_among connectives operator) inner (cond (is_among comparisons operator) (comparison operands) None)
+
+-- constraints and nothing else
+abbrev pub constraints : Trees → Option (List Piece)
+constraints none = Some []
+constraints (a_list at end (a_word place operator operands) rest) = joined (operation operator operands (constraints operands)) (constraints rest)
+constraints trees = None
+
+-- the constraint that a list of these trees is
+abbrev pub constraint : Trees → Option (List Piece)
+constraint (a_word place operator operands) = operation operator operands (constraints operands)
+constraint trees = None
+
+-- what an argument is that is a word
+abbrev pub of_word : Part → List ℕ → Option (List Piece)
+of_word (Declared table) word = Some (declared table word ∷ [])
+of_word (Name table) word = cond (bytes_eq word (codes "self")) None (Some (needed table word ∷ []))
+of_word Target word = Some (cond (bytes_eq word (codes "self")) [] (needed Types word ∷ []))
+of_word (Names table) word = Some (name_or_operator table word)
+of_word Other word = Some []
+of_word parts.Class word = Some (a_class word ∷ [])
+of_word Classes word = Some (a_class word ∷ [])
+of_word Context word = Some (needed Contexts word ∷ [])
+of_word PerhapsContext word = Some (needed Contexts word ∷ [])
+of_word Range word = Some (needed Ranges word ∷ [])
+of_word Level word = Some (needed Levels word ∷ [])
+of_word Address word = Some (needed Addresses word ∷ [])
+of_word ExtendedPermission word = Some (needed ExtendedPermissions word ∷ [])
+of_word ClassPermissions word = None
+of_word Constraint word = None
+
+-- what the trees of a list are that is such an argument
+abbrev pub inner_parts : Part → List Part
+inner_parts Context = Name Users ∷ Name Roles ∷ Name Types ∷ Range ∷ []
+inner_parts PerhapsContext = Name Users ∷ Name Roles ∷ Name Types ∷ Range ∷ []
+inner_parts Range = Level ∷ Level ∷ []
+inner_parts ExtendedPermission = Other ∷ parts.Class ∷ Other ∷ []
+inner_parts part = []
+
+-- what an argument is that is a list of these trees; `inner` is what they are as its inner parts
+abbrev pub of_list : Part → Trees → Option (List Piece) → Option (List Piece)
+of_list (Names table) items inner = Some (names_in table items)
+of_list Other items inner = Some []
+of_list Classes items inner = classes_in items
+of_list ClassPermissions items inner = class_permissions items
+of_list Context items inner = inner
+of_list PerhapsContext none inner = Some []
+of_list PerhapsContext items inner = inner
+of_list Range items inner = inner
+of_list ExtendedPermission items inner = inner
+of_list Level items inner = level items
+of_list Address items inner = Some []
+of_list Constraint items inner = constraint items
+of_list part items inner = None
+
+-- what an argument is that is a string
+abbrev pub of_string : Part → Option (List Piece)
+of_string Other = Some []
+of_string part = None
+
+-- Arguments that fit the parts of a form, one for each: the names that they declare and need.
+abbrev pub fit : List Part → Trees → Option (List Piece)
+fit [] none = Some []
+fit [] trees = None
+fit (part ∷ more) none = None
+fit (part ∷ more) (a_word at word rest) = joined (of_word part word) (fit more rest)
+fit (part ∷ more) (a_string at text rest) = joined (of_string part) (fit more rest)
+fit (part ∷ more) (a_list at end items rest) = joined (of_list part items (fit (inner_parts part) items)) (fit more rest)
+
+-- what an argument is that is the first of trees
+abbrev pub of_first : Part → Trees → Option (List Piece)
+of_first part none = None
+of_first part (a_word at word rest) = of_word part word
+of_first part (a_string at text rest) = of_string part
+of_first part (a_list at end items rest) = of_list part items (fit (inner_parts part) items)
+
+-- the forms of statements that are taken by their names: their first words, and what their arguments are
+unfoldable pub forms : List (List ℕ × List Part)
+forms = map (λ row. (row.0.now, row.1.now)) FORMS
+
+-- forms as the code has them
+abbrev pub rows_of : List (Bor (List ℕ) × Bor (List Part)) → List (List ℕ × List Part)
+rows_of = map (λ row. (row.0.now, row.1.now))
+
+-- A statement with this first word from an offset up to another, of which the arguments fit a form: blanked, and the names behind it.
+abbrev pub taken_by : ℕ → ℕ → List ℕ → List Part → Trees → Option (List Piece)
+taken_by from to word parts arguments = joined (Some (blanked from to ∷ taken word ∷ [])) (fit parts arguments)
+
+-- the same by the first of some forms that it fits
+abbrev pub fitting : ℕ → ℕ → List (List ℕ × List Part) → List ℕ → Trees → Option (List Piece)
+fitting from to [] word arguments = None
+fitting from to ((keyword, parts) ∷ forms) word arguments =
+    or_else (cond (bytes_eq word keyword) (taken_by from to keyword parts arguments) None) (fitting from to forms word arguments)
+
+-- Pieces were added: those that are there, or none are.
+abbrev pub Adds : List code.Piece → List code.Piece → Bool → Option (List Piece) → Type 0
+Adds before after true found = joined (Some (pieces_of before)) found ≡ Some (pieces_of after)
+Adds before after false found = found ≡ None

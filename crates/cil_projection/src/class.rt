@@ -1,0 +1,94 @@
+//! Classes and their permissions.
+
+ghost use Rattle.std.specs.Prelude.{◌≡◌, IfOk};
+ghost use Rattle.cil_text.specs.Common.{trees_of};
+ghost use Rattle.cil_projection.specs.Forms.{Adds, class_permissions, classes_in, listed, permissions_in};
+
+use crate::names::OPERATORS;
+use crate::piece::Piece;
+use crate::split::split_word;
+use crate::words::is_among;
+use cil_text::{Tree, TreeSlice, Word};
+use std::alloc::{AllocError, Allocator};
+
+/// Adds classes, where trees are them and nothing else.
+pub fn add_classes<'a, A: Allocator>(
+    pieces: &mut Vec<Piece<'a>, A>,
+    trees: TreeSlice<'_, 'a>,
+) -> Result<bool, AllocError>
+    ensures { IfOk result (λ fits.
+        Adds pieces.old.items pieces.new.items fits (classes_in (trees_of trees.entry))) }
+{
+    let mut rest = trees;
+    while let Some((tree, behind)) = rest.split_first() {
+        let Tree::Word(word) = tree else {
+            return Ok(false);
+        };
+        pieces.push(Piece::Class { name: word.text })?;
+        rest = behind;
+    }
+    Ok(true)
+}
+
+/// Adds permissions, where trees are them and nothing else, and no expression.
+fn add_permissions<'a, A: Allocator>(
+    pieces: &mut Vec<Piece<'a>, A>,
+    trees: TreeSlice<'_, 'a>,
+) -> Result<bool, AllocError>
+    ensures { IfOk result (λ fits.
+        Adds pieces.old.items pieces.new.items fits (permissions_in (trees_of trees.entry))) }
+{
+    let mut rest = trees;
+    while let Some((tree, behind)) = rest.split_first() {
+        let Tree::Word(word) = tree else {
+            return Ok(false);
+        };
+        if is_among(&OPERATORS, word.text) {
+            return Ok(false);
+        }
+        pieces.push(Piece::Permission { name: word.text })?;
+        rest = behind;
+    }
+    Ok(true)
+}
+
+/// Adds a class with the permissions that these trees are, where they are permissions and nothing else.
+fn add_listed<'a, A: Allocator>(
+    pieces: &mut Vec<Piece<'a>, A>,
+    class: Word<'a>,
+    items: TreeSlice<'_, 'a>,
+) -> Result<bool, AllocError>
+    ensures { IfOk result (λ fits. Adds pieces.old.items pieces.new.items fits
+        (listed class.entry.text.now (trees_of items.entry))) }
+{
+    pieces.push(Piece::Opened { class: class.text })?;
+    if !add_permissions(pieces, items)? {
+        return Ok(false);
+    }
+    pieces.push(Piece::Closed)?;
+    Ok(true)
+}
+
+/// Adds a class and its permissions, where trees are a class and a list of permissions.
+pub fn add_class_permissions<'a, A: Allocator>(
+    pieces: &mut Vec<Piece<'a>, A>,
+    trees: TreeSlice<'_, 'a>,
+) -> Result<bool, AllocError>
+    ensures { IfOk result (λ fits.
+        Adds pieces.old.items pieces.new.items fits (class_permissions (trees_of trees.entry))) }
+{
+    let Some((class, rest)) = split_word(trees) else {
+        return Ok(false);
+    };
+    let Some((list, behind)) = rest.split_first() else {
+        return Ok(false);
+    };
+    let Tree::List { items, .. } = list else {
+        return Ok(false);
+    };
+    if !behind.is_empty() {
+        return Ok(false);
+    }
+    let fits = add_listed(pieces, class, items)?;
+    Ok(fits)
+}

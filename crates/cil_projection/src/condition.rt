@@ -1,0 +1,117 @@
+//! The values of conditions.
+
+ghost use Rattle.std.specs.Prelude.{◌≡◌, List, Bool, IfOk};
+ghost use Rattle.cil_specs.specs.Trees.{Trees};
+ghost use Rattle.cil_text.specs.Common.{tree_then, trees_of};
+ghost use Rattle.cil_projection.specs.Conditions.{AddsValues, applied, combined, first_value, list_value, opposite, settings_of, values};
+
+use crate::booleans::Booleans;
+use crate::names::OPERATORS;
+use crate::split::split_word;
+use crate::words::is_among;
+use cil_text::{Tree, TreeSlice};
+use std::alloc::{AllocError, Allocator};
+
+/// The value of an operator of one operand.
+fn opposite(operator: &[u8], x: bool) -> Option<bool>
+    ensures { result ≡ opposite operator.now x }
+{
+    (operator == b"not".as_slice()).then_some(!x)
+}
+
+/// The value of an operator of two operands.
+fn combined(operator: &[u8], x: bool, y: bool) -> Option<bool>
+    ensures { result ≡ combined operator.now x y }
+{
+    if operator == b"and".as_slice() {
+        Some(x && y)
+    } else if operator == b"or".as_slice() {
+        Some(x || y)
+    } else if is_among(&[b"xor", b"neq"], operator) {
+        Some(x != y)
+    } else if operator == b"eq".as_slice() {
+        Some(x == y)
+    } else {
+        None
+    }
+}
+
+/// The value of a list that begins with a word and goes on with operands of these values. `named` is the word's as a name.
+fn applied(word: &[u8], named: Option<bool>, operands: &[bool]) -> Option<bool>
+    ensures { result ≡ applied word.now named (Some operands.now) }
+{
+    match operands {
+        [] => {
+            if is_among(&OPERATORS, word) {
+                None
+            } else {
+                named
+            }
+        }
+        [x] => opposite(word, *x),
+        [x, y] => combined(word, *x, *y),
+        _ => None,
+    }
+}
+
+/// The value of a condition that is a list of these trees (CIL Reference Guide, "booleanif").
+#[cycle(condition)]
+pub fn list_value<A: Allocator + Copy>(
+    alloc: A,
+    booleans: &Booleans<'_, A>,
+    items: TreeSlice<'_, '_>,
+) -> Result<Option<bool>, AllocError>
+    ensures { IfOk result (λ found.
+        found ≡ list_value (settings_of booleans.now).value (trees_of items.entry)) }
+{
+    let Some((word, operands)) = split_word(items) else {
+        return Ok(None);
+    };
+    let mut values = Vec::new(alloc);
+    if !add_values(&mut values, alloc, booleans, operands)? {
+        return Ok(None);
+    }
+    Ok(applied(word.text, booleans.value(word.text), values.as_slice()))
+}
+
+/// The value of a condition, which is this tree.
+#[cycle(condition)]
+fn value<A: Allocator + Copy>(
+    alloc: A,
+    booleans: &Booleans<'_, A>,
+    tree: Tree<'_, '_>,
+) -> Result<Option<bool>, AllocError>
+    ensures { IfOk result (λ found. (rest : Trees)
+        → found ≡ first_value (settings_of booleans.now).value (tree_then tree.entry rest)) }
+{
+    match tree {
+        Tree::Word(word) => Ok(booleans.value(word.text)),
+        Tree::String(_) => Ok(None),
+        Tree::List { items, .. } => {
+            let found = list_value(alloc, booleans, items)?;
+            Ok(found)
+        }
+    }
+}
+
+/// Adds the values of conditions one after the other.
+#[cycle(condition)]
+fn add_values<A: Allocator + Copy>(
+    found: &mut Vec<bool, A>,
+    alloc: A,
+    booleans: &Booleans<'_, A>,
+    trees: TreeSlice<'_, '_>,
+) -> Result<bool, AllocError>
+    ensures { IfOk result (λ fits. AddsValues found.old.items found.new.items fits
+        (values (settings_of booleans.now).value (trees_of trees.entry))) }
+{
+    let mut rest = trees;
+    while let Some((tree, behind)) = rest.split_first() {
+        let Some(first) = value(alloc, booleans, tree)? else {
+            return Ok(false);
+        };
+        found.push(first)?;
+        rest = behind;
+    }
+    Ok(true)
+}

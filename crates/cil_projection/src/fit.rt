@@ -1,0 +1,185 @@
+//! Arguments that fit the forms of statements.
+
+ghost use Rattle.std.specs.Prelude.{◌≡◌, IfOk, option_map};
+ghost use Rattle.cil_projection.specs.Pieces.{pieces_of};
+ghost use Rattle.cil_specs.specs.Trees.{Trees};
+ghost use Rattle.cil_text.specs.Common.{tree_then, trees_of};
+ghost use Rattle.cil_projection.specs.Forms.{Adds, fit, inner_parts, level, of_first, of_list, of_word};
+
+use crate::class::{add_class_permissions, add_classes};
+use crate::constraint::add_constraint;
+use crate::names::{add_name, add_names};
+use crate::part::Part;
+use crate::piece::Piece;
+use crate::split::split_word;
+use crate::table::Table;
+use cil_text::{Tree, TreeSlice, Word};
+use std::alloc::{AllocError, Allocator};
+
+/// A user, a role, a type and a range (CIL Reference Guide, "context").
+const CONTEXT: [Part; 4] = [
+    Part::Name(Table::Users),
+    Part::Name(Table::Roles),
+    Part::Name(Table::Types),
+    Part::Range,
+];
+
+/// The levels of a range (CIL Reference Guide, "levelrange").
+const RANGE: [Part; 2] = [Part::Level, Part::Level];
+
+/// The kind, the class and the numbers of extended permissions (CIL Reference Guide, "permissionx").
+const EXTENDED_PERMISSION: [Part; 3] = [Part::Other, Part::Class, Part::Other];
+
+/// What the trees of a list are that is such an argument.
+fn inner_parts(part: Part) -> &'static [Part]
+    ensures { result.now ≡ inner_parts part }
+{
+    match part {
+        Part::Context | Part::PerhapsContext => &CONTEXT,
+        Part::Range => &RANGE,
+        Part::ExtendedPermission => &EXTENDED_PERMISSION,
+        _ => &[],
+    }
+}
+
+/// Adds the piece, where there is one.
+fn add_word<'a, A: Allocator>(
+    pieces: &mut Vec<Piece<'a>, A>,
+    part: Part,
+    word: Word<'a>,
+) -> Result<bool, AllocError>
+    ensures { IfOk result (λ fits.
+        Adds pieces.old.items pieces.new.items fits (of_word part word.entry.text.now)) }
+{
+    let name = word.text;
+    let table = match part {
+        Part::Declared(table) => {
+            pieces.push(Piece::Declared { table, name })?;
+            return Ok(true);
+        }
+        Part::Class | Part::Classes => {
+            pieces.push(Piece::Class { name })?;
+            return Ok(true);
+        }
+        Part::Names(table) => {
+            add_name(pieces, table, word)?;
+            return Ok(true);
+        }
+        Part::Target if name == b"self".as_slice() => return Ok(true),
+        Part::Other => return Ok(true),
+        Part::Name(_) if name == b"self".as_slice() => return Ok(false),
+        Part::ClassPermissions | Part::Constraint => return Ok(false),
+        Part::Name(table) => table,
+        Part::Target => Table::Types,
+        Part::Context | Part::PerhapsContext => Table::Contexts,
+        Part::Range => Table::Ranges,
+        Part::Level => Table::Levels,
+        Part::Address => Table::Addresses,
+        Part::ExtendedPermission => Table::ExtendedPermissions,
+    };
+    pieces.push(Piece::Needed { table, name })?;
+    Ok(true)
+}
+
+/// Adds a sensitivity and categories (CIL Reference Guide, "level").
+fn add_level<'a, A: Allocator>(
+    pieces: &mut Vec<Piece<'a>, A>,
+    items: TreeSlice<'_, 'a>,
+) -> Result<bool, AllocError>
+    ensures { IfOk result (λ fits.
+        Adds pieces.old.items pieces.new.items fits (level (trees_of items.entry))) }
+{
+    let Some((sensitivity, categories)) = split_word(items) else {
+        return Ok(false);
+    };
+    pieces.push(Piece::Needed {
+        table: Table::Sensitivities,
+        name: sensitivity.text,
+    })?;
+    add_names(pieces, Table::Categories, categories)?;
+    Ok(true)
+}
+
+/// Adds the names of an argument that is a list of these trees.
+#[cycle(fit)]
+fn add_list<'a, A: Allocator>(
+    pieces: &mut Vec<Piece<'a>, A>,
+    part: Part,
+    items: TreeSlice<'_, 'a>,
+) -> Result<bool, AllocError>
+    ensures { IfOk result (λ fits. Adds pieces.old.items pieces.new.items fits
+        (of_list part (trees_of items.entry) (fit (inner_parts part) (trees_of items.entry)))) }
+{
+    match part {
+        Part::Names(table) => {
+            add_names(pieces, table, items)?;
+            Ok(true)
+        }
+        Part::Other | Part::Address => Ok(true),
+        Part::Classes => add_classes(pieces, items),
+        Part::ClassPermissions => add_class_permissions(pieces, items),
+        Part::Level => add_level(pieces, items),
+        Part::Constraint => add_constraint(pieces, items),
+        Part::PerhapsContext if items.is_empty() => Ok(true),
+        Part::Context | Part::PerhapsContext | Part::Range | Part::ExtendedPermission => {
+            fit(pieces, inner_parts(part), items)
+        }
+        Part::Declared(_) | Part::Name(_) | Part::Target | Part::Class => Ok(false),
+    }
+}
+
+/// Adds the names of an argument, which is this tree.
+#[cycle(fit)]
+fn add_part<'a, A: Allocator>(
+    pieces: &mut Vec<Piece<'a>, A>,
+    part: Part,
+    tree: Tree<'_, 'a>,
+) -> Result<bool, AllocError>
+    ensures { IfOk result (λ fits. (rest : Trees) → Adds pieces.old.items pieces.new.items fits
+        (of_first part (tree_then tree.entry rest))) }
+{
+    match tree {
+        Tree::Word(word) => add_word(pieces, part, word),
+        Tree::String(_) => Ok(matches!(part, Part::Other)),
+        Tree::List { items, .. } => add_list(pieces, part, items),
+    }
+}
+
+/// Adds the names that arguments declare and need, where they fit the parts of a form, one for each.
+#[cycle(fit)]
+pub fn fit<'a, A: Allocator>(
+    pieces: &mut Vec<Piece<'a>, A>,
+    parts: &[Part],
+    trees: TreeSlice<'_, 'a>,
+) -> Result<bool, AllocError>
+    ensures { IfOk result (λ fits.
+        Adds pieces.old.items pieces.new.items fits (fit parts.now (trees_of trees.entry))) }
+{
+    let [part, more @ ..] = parts else {
+        return Ok(trees.is_empty());
+    };
+    let Some((tree, behind)) = trees.split_first() else {
+        return Ok(false);
+    };
+    if !add_part(pieces, *part, tree)? {
+        return Ok(false);
+    }
+    let fits = fit(pieces, more, behind)?;
+    Ok(fits)
+}
+
+/// The names that arguments declare and need, where they fit the parts of a form.
+pub fn fitted<'a, A: Allocator>(
+    alloc: A,
+    parts: &[Part],
+    trees: TreeSlice<'_, 'a>,
+) -> Result<Option<Vec<Piece<'a>, A>>, AllocError>
+    ensures { IfOk result (λ found.
+        option_map (λ pieces. pieces_of pieces.items) found ≡ fit parts.now (trees_of trees.entry)) }
+{
+    let mut pieces = Vec::new(alloc);
+    if !fit(&mut pieces, parts, trees)? {
+        return Ok(None);
+    }
+    Ok(Some(pieces))
+}

@@ -1,0 +1,26 @@
+//! The pieces of a projected text.
+
+use crate::table::Table;
+
+/// A piece of a projected text. Offsets are those of the text that is projected.
+#[derive(Clone, Copy, Debug)]
+pub enum Piece<'a> {
+    /// These bytes of the text.
+    Copied { from: u32, to: u32 },
+    /// As many spaces as these bytes, where they are no line feeds.
+    Blanked { from: u32, to: u32 },
+    /// A statement with this first word was taken by its names.
+    Taken { keyword: &'a [u8] },
+    /// The declaration of an attribute that stands for a name of a table.
+    Declared { table: Table, name: &'a [u8] },
+    /// A rule that needs the name and gives nothing.
+    Needed { table: Table, name: &'a [u8] },
+    /// A rule that needs the class and gives nothing.
+    Class { name: &'a [u8] },
+    /// The front of a rule that needs the class and permissions, and gives nothing.
+    Opened { class: &'a [u8] },
+    /// One of its permissions.
+    Permission { name: &'a [u8] },
+    /// Its end.
+    Closed,
+}

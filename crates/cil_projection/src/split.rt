@@ -1,0 +1,22 @@
+//! Trees from the front on.
+
+ghost use Rattle.std.specs.Prelude.{◌≡◌, ◌≢◌, MatchOption};
+ghost use Rattle.cil_specs.specs.Names.{Word as SpecWord};
+ghost use Rattle.cil_specs.specs.Trees.{Trees};
+ghost use Rattle.cil_specs.specs.Shape.{put_word};
+ghost use Rattle.cil_text.specs.Common.{trees_of, word_of};
+
+use cil_text::{Tree, TreeSlice, Word};
+
+/// The word in front, and the trees behind it.
+pub fn split_word<'t, 'a>(trees: TreeSlice<'t, 'a>) -> Option<(Word<'a>, TreeSlice<'t, 'a>)>
+    ensures { MatchOption result
+        ((word : SpecWord) (rest : Trees) → trees_of trees.entry ≢ put_word word rest)
+        (λ found. trees_of trees.entry ≡ put_word (word_of found.0) (trees_of found.1)) }
+{
+    let (first, rest) = trees.split_first()?;
+    let Tree::Word(word) = first else {
+        return None;
+    };
+    Some((word, rest))
+}

@@ -1,0 +1,183 @@
+//! Statements that hold no others.
+
+use crate::body::body_of;
+use crate::booleans::Booleans;
+use crate::by_names::{Span, by_names};
+use crate::condition::list_value;
+use crate::names::{add_name, add_names};
+use crate::needs::Choice;
+use crate::piece::Piece;
+use crate::split::split_word;
+use crate::table::Table;
+use cil_text::{Tree, TreeSlice};
+use std::alloc::{AllocError, Allocator};
+
+/// What statements are projected by.
+#[derive(Clone, Copy)]
+pub struct Projector<'w, 'm, A: Allocator> {
+    pub alloc: A,
+    pub booleans: &'w Booleans<'m, A>,
+}
+
+impl<'w, 'm, A: Allocator + Copy> Projector<'w, 'm, A> {
+    ghost use Rattle.std.specs.Prelude.{◌≡◌, ◌++◌, IfOk, OnOk, Some, option_map};
+    ghost use Rattle.cil_text.specs.Common.{tree_then, trees_of};
+    ghost use Rattle.cil_projection.specs.Pieces.{pieces_of};
+    ghost use Rattle.cil_projection.specs.Conditions.{settings_of};
+    ghost use Rattle.cil_projection.specs.Statements.{chosen, condition_names, condition_value, conditional, or_copied, projected, statement};
+    ghost use Rattle.cil_specs.specs.Trees.{Trees};
+
+    /// Adds the names of a condition, which is this tree, and finds its value.
+    fn add_condition<'a>(
+        &self,
+        names: &mut Vec<Piece<'a>, A>,
+        tree: Tree<'_, 'a>,
+    ) -> Result<Option<bool>, AllocError>
+        ensures names { OnOk result ((rest : Trees) → pieces_of names.new.items ≡ pieces_of names.old.items
+            ++ condition_names (tree_then tree.entry rest)) }
+        ensures value { IfOk result (λ found. (rest : Trees) → found
+            ≡ condition_value (settings_of self.now.booleans.now) (tree_then tree.entry rest)) }
+    {
+        match tree {
+            Tree::Word(word) => {
+                add_name(names, Table::Booleans, word)?;
+                Ok(self.booleans.value(word.text))
+            }
+            Tree::String(_) => Ok(None),
+            Tree::List { items, .. } => {
+                add_names(names, Table::Booleans, items)?;
+                let value = list_value(self.alloc, self.booleans, items)?;
+                Ok(value)
+            }
+        }
+    }
+
+    /// The pieces of a conditional statement whose condition has a value (CIL Reference Guide, "booleanif").
+    fn chosen<'a>(
+        &self,
+        span: Span,
+        holds: bool,
+        names: Vec<Piece<'a>, A>,
+        branches: TreeSlice<'_, 'a>,
+    ) -> Result<Option<Vec<Piece<'a>, A>>, AllocError>
+        ensures { IfOk result (λ found. option_map (λ pieces. pieces_of pieces.items) found
+            ≡ chosen (settings_of self.now.booleans.now) span.from span.to (Some holds)
+            (pieces_of names.entry.items) (trees_of branches.entry)) }
+    {
+        let choice = Choice {
+            booleans: self.booleans,
+            holds,
+        };
+        let mut names = names;
+        let mut pieces = Vec::new(self.alloc);
+        choice.add_kept(&mut pieces, span.from, branches, span.to)?;
+        pieces.push(Piece::Taken {
+            keyword: b"booleanif",
+        })?;
+        pieces.append(&mut names)?;
+        if !choice.add_branches(&mut pieces, self.alloc, branches)? {
+            return Ok(None);
+        }
+        Ok(Some(pieces))
+    }
+
+    /// The pieces of a conditional statement with these arguments.
+    fn conditional<'a>(
+        &self,
+        span: Span,
+        arguments: TreeSlice<'_, 'a>,
+    ) -> Result<Option<Vec<Piece<'a>, A>>, AllocError>
+        ensures { IfOk result (λ found. option_map (λ pieces. pieces_of pieces.items) found
+            ≡ conditional (settings_of self.now.booleans.now) span.from span.to
+            (trees_of arguments.entry)) }
+    {
+        let Some((condition, branches)) = arguments.split_first() else {
+            return Ok(None);
+        };
+        let mut names = Vec::new(self.alloc);
+        let Some(holds) = self.add_condition(&mut names, condition)? else {
+            return Ok(None);
+        };
+        let found = self.chosen(span, holds, names, branches)?;
+        Ok(found)
+    }
+
+    /// The pieces of a statement of these trees that holds no others, where it is taken by its names.
+    fn foreign<'a>(
+        &self,
+        span: Span,
+        items: TreeSlice<'_, 'a>,
+    ) -> Result<Option<Vec<Piece<'a>, A>>, AllocError>
+        ensures { IfOk result (λ found. option_map (λ pieces. pieces_of pieces.items) found
+            ≡ statement (settings_of self.now.booleans.now) span.from span.to
+            (trees_of items.entry)) }
+    {
+        let Some((word, arguments)) = split_word(items) else {
+            return Ok(None);
+        };
+        if word.text == b"booleanif".as_slice() {
+            let found = self.conditional(span, arguments)?;
+            return Ok(found);
+        }
+        let found = by_names(self.alloc, span, word, arguments)?;
+        Ok(found)
+    }
+
+    /// Adds the pieces of a statement of these trees that holds no others.
+    fn add_statement<'a>(
+        &self,
+        pieces: &mut Vec<Piece<'a>, A>,
+        span: Span,
+        items: TreeSlice<'_, 'a>,
+    ) -> Result<(), AllocError>
+        ensures { OnOk result (pieces_of pieces.new.items ≡ pieces_of pieces.old.items
+            ++ or_copied span.from span.to (statement (settings_of self.now.booleans.now)
+            span.from span.to (trees_of items.entry))) }
+    {
+        let Some(mut found) = self.foreign(span, items)? else {
+            pieces.push(Piece::Copied {
+                from: span.from,
+                to: span.to,
+            })?;
+            return Ok(());
+        };
+        pieces.append(&mut found)?;
+        Ok(())
+    }
+
+    /// Adds the pieces of statements one after the other, from an offset on up to another, with all that stands between them.
+    #[cycle(statements)]
+    pub fn add_statements<'a>(
+        &self,
+        pieces: &mut Vec<Piece<'a>, A>,
+        span: Span,
+        trees: TreeSlice<'_, 'a>,
+    ) -> Result<(), AllocError>
+        ensures { OnOk result (pieces_of pieces.new.items ≡ pieces_of pieces.old.items
+            ++ projected (settings_of self.now.booleans.now) span.from (trees_of trees.entry)
+            span.to) }
+    {
+        let mut from = span.from;
+        let mut rest = trees;
+        while let Some((tree, behind)) = rest.split_first() {
+            if let Tree::List { at, end, items } = tree {
+                pieces.push(Piece::Copied {
+                    from,
+                    to: at.offset,
+                })?;
+                let inner = Span {
+                    from: at.offset,
+                    to: end,
+                };
+                match body_of(items) {
+                    Some(body) => self.add_statements(pieces, inner, body)?,
+                    None => self.add_statement(pieces, inner, items)?,
+                }
+                from = end;
+            }
+            rest = behind;
+        }
+        pieces.push(Piece::Copied { from, to: span.to })?;
+        Ok(())
+    }
+}
