@@ -9,7 +9,7 @@ use Rattle.cil_store_specs.specs.Store.{Entry}
 use Rattle.cil_text.specs.Image.{FaultIs, kind_of, place_of, shown}
 use Rattle.cil_text.specs.declared.fault.TextFault.TheVariants as text_faults
 use Rattle.cil_projection.specs.Conditions.{Settings, Known, Collects, settings_of, with_value}
-use Rattle.cil_projection.specs.Statements.{Counts, IsProjectionFault, Projects, Tallies, kinds_of, no_counts, statements_of}
+use Rattle.cil_projection.specs.Statements.{Counts, IsProjectionFault, Projects, Tallies, no_counts}
 use Rattle.cil_projection.specs.declared.projecting.TheConstants.{DECLARATIONS}
 use Rattle.cil_program.specs.CommandLine.{Compiles, Content, IsEntryFor, IsReadOf, IsUnreadable, NamesModule, unreadable_line}
 use Rattle.cil_program.specs.Conditionals.{Conditionals, Setting}
@@ -63,7 +63,7 @@ pub data IsNotProjected (name text : List ℕ) (refusal : Refusal) : Type 0 wher
 -- how many statements of how many kinds are taken by their names
 abbrev pub note_line : Counts → List ℕ
 note_line counts =
-    codes "note: " ++ (decimal (statements_of counts) ++ (codes " statements of " ++ (decimal (kinds_of counts) ++ codes " kinds taken by their names alone\n")))
+    codes "note: " ++ (decimal counts.statements ++ (codes " statements of " ++ (decimal (length counts.keywords) ++ codes " kinds taken by their names alone\n")))
 
 -- the refusal that tells why files aren't projected
 abbrev pub IsRefusalBy : NotProjected → Refusal → Type 0

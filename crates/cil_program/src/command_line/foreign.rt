@@ -145,7 +145,7 @@ fn project_file<'m>(
     file: &'m ReadFile<'m, Global>,
     booleans: &Booleans<'m>,
     more: &[u8],
-    tally: &mut Tally,
+    tally: &mut Tally<'m>,
 ) -> Result<Vec<u8>, NotProjected<'m>>
     ensures ok { IfOk result (λ projected. (projection : List ℕ)
         × Projects (settings_of booleans.now) file.entry.now.text.items projection
@@ -172,7 +172,7 @@ fn project_all<'m>(
     alloc: Global,
     files: &'m [ReadFile<'m, Global>],
     booleans: &Booleans<'m>,
-    tally: &mut Tally,
+    tally: &mut Tally<'m>,
 ) -> Result<Vec<ReadFile<'m, Global>>, NotProjected<'m>>
     ensures paths { IfOk result (λ projected. map (λ f. f.path.now) projected.items
         ≡ map (λ f. f.path.now) files.entry.now) }
@@ -200,7 +200,7 @@ fn project_all<'m>(
 #[derive(Drop)]
 pub struct Projected<'m> {
     pub files: Vec<ReadFile<'m, Global>>,
-    pub tally: Tally,
+    pub tally: Tally<'m>,
 }
 
 /// Projects files.
@@ -218,7 +218,7 @@ pub fn project_files<'m>(
         (map (λ f. (f.path.now, f.text.items)) files.entry.now)) }
 {
     let booleans = booleans_of(alloc, seed, conditionals, files)?;
-    let mut tally = Tally::new();
+    let mut tally = Tally::new(alloc, seed);
     let files = project_all(alloc, files, &booleans, &mut tally)?;
     Ok(Projected { files, tally })
 }

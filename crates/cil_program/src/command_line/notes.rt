@@ -77,7 +77,7 @@ pub fn write_not_projected<E: Sink>(err: &mut E, why: NotProjected<'_>) -> Resul
 }
 
 /// Writes how many statements of how many kinds are taken by their names.
-pub fn write_note<E: Sink>(err: &mut E, tally: &Tally) -> Result<(), SinkFault>
+pub fn write_note<E: Sink>(err: &mut E, tally: &Tally<'_>) -> Result<(), SinkFault>
     ensures { Writes E.taken E.failures err.old err.new (note_line tally.now) result }
 {
     let mut statements = Buffer::new();
