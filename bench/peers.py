@@ -479,6 +479,21 @@ def kinds():
     print("    %d in optionals, %d outside; %d more are refused by secilc for something that isn't claimed" % (same, top, refused))
 
 
+def refused():
+    """Each statement of refused.cil is refused with its code, on its line."""
+    same, differences = 0, []
+    for line in content(os.path.join(HERE, "refused.cil")).splitlines():
+        if line.startswith("("):
+            statement, code = line.rsplit(" ; ", 1)
+            for text in ("\n%s\n" % statement, "\n(optional o %s)\n" % statement):
+                status, answer = told_by_ours(text)
+                if status and re.search("^refused %s small:2:" % code, answer, re.M):
+                    same += 1
+                else:
+                    differences.append("%s and not refused with %s: %s" % (answer.split("\n")[0], code, text.strip()))
+    told("refused", same, differences)
+
+
 def cases():
     """The cases of cases.cil, each a policy over front.cil."""
     for case in content(os.path.join(HERE, "cases.cil")).split("\n;; ")[1:]:
@@ -492,6 +507,7 @@ if __name__ == "__main__":
     if not parts or "kinds" in parts:
         kinds()
     if not parts or "cases" in parts:
+        refused()
         cases()
     distribution(parts)
     sys.exit(1 if bad else 0)

@@ -52,10 +52,10 @@ tell() {
 files=$(ls "$work/unedited"/*.cil)
 measure "$program" compile --foreign names $files > "$folder/answer"
 tell "compile --foreign names, all"
-measure "$program" compile --foreign names --booleans both --violations $files > "$folder/answer"
+measure "$program" compile --foreign names --violations $files > "$folder/answer"
 tell "compile --foreign names --violations, all"
-measure secilc -m -N -o "$folder/policy" -f /dev/null $files > "$folder/answer"
-tell "secilc -m -N, all"
-measure secilc -m -o "$folder/policy" -f /dev/null $files > "$folder/answer"
-tell "secilc -m, all"
+measure secilc -m -X 5000 -N -o "$folder/policy" -f /dev/null $files > "$folder/told"
+tell "secilc -m -X 5000 -N, all (attributes written out)"
+measure secilc -m -o "$folder/policy" -f /dev/null $files > "$folder/told"
+tell "secilc -m, all (neverallow rules checked)"
 exit $failed
