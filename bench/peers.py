@@ -256,8 +256,8 @@ def our_violations(path):
 
 
 def sets(what, theirs, mine):
-    told(what, len(theirs & mine), ["secilc only: " + x for x in sorted(theirs - mine)] +
-         ["ours only:   " + x for x in sorted(mine - theirs)])
+    return what, len(theirs & mine), (["secilc only: " + x for x in sorted(theirs - mine)] +
+                                      ["ours only:   " + x for x in sorted(mine - theirs)])
 
 
 class Judge:
@@ -274,8 +274,8 @@ class Judge:
 
 
 def compare(name, files, settings, never=[]):
-    """Rows, dropped optionals and violations for each setting of the booleans. For one that sets values, secilc reads copies in which
-    the declarations have these values."""
+    """Rows, dropped optionals and violations for each setting of the booleans: what was compared, how many are the same, and the
+    differences. For a setting with values, secilc reads copies in which the declarations have these values."""
     judges, mine, their = {}, os.path.join(WORK, "ours"), os.path.join(WORK, "theirs")
     for booleans in settings:
         what = "%s, %s: " % (name, booleans)
@@ -285,7 +285,7 @@ def compare(name, files, settings, never=[]):
         judge = judges[values]
         status, fault = ours(files, mine, "--booleans", booleans)
         if status or judge.status:
-            refusal(what, judge, status, content(mine) + fault)
+            yield refusal(what, judge, status, content(mine) + fault)
             continue
         with open(their, "w", encoding="latin-1") as f:
             f.writelines(judge.policy.listing(booleans == "both"))
@@ -294,15 +294,15 @@ def compare(name, files, settings, never=[]):
         d = []
         if run("cmp", "-s", their, mine).returncode:
             d = [l for l in run("diff", "--speed-large-files", their, mine).stdout.splitlines() if l[0] in "<>"]
-        told(what + "rows", n - sum(l[0] == "<" for l in d), d)
+        yield what + "rows", n - sum(l[0] == "<" for l in d), d
         dropped, fault = our_dropped(files, booleans)
         if dropped is None:
-            told(what + "dropped optionals", 0, [fault])
+            yield what + "dropped optionals", 0, [fault]
         else:
-            sets(what + "dropped optionals", judge.dropped, dropped)
+            yield sets(what + "dropped optionals", judge.dropped, dropped)
         ours(files + never, mine, "--booleans", booleans, "--violations")
-        sets(what + "violations", {v for v in judge.violations if booleans == "both" or v.split(" allow ")[1] not in judge.hidden},
-             our_violations(mine))
+        hidden = set() if booleans == "both" else judge.hidden
+        yield sets(what + "violations", {v for v in judge.violations if v.split(" allow ")[1] not in hidden}, our_violations(mine))
 
 
 def with_values(path, values):
@@ -320,10 +320,9 @@ def refusal(what, judge, status, answer):
     m = re.search(r"Failed to resolve \S+ statement at .*/(\S+)\.cil:(\d+)\nProblem", judge.text)
     at = m and re.search(r"^refused 42 %s:(\d+):" % m.group(1), answer, re.M)
     if status and at and int(at.group(1)) >= int(m.group(2)):
-        told(what + "refused", 1, [])
-    else:
-        told(what + "refused", 0, ["secilc: " + " / ".join(judge.text.splitlines()[-4:]) if judge.status else "secilc: accepted",
-                                   "ours: " + (answer if status else "accepted")])
+        return what + "refused", 1, []
+    return what + "refused", 0, ["secilc: " + (" / ".join(judge.text.splitlines()[-4:]) if judge.status else "accepted"),
+                                 "ours: " + (answer if status else "accepted")]
 
 
 def write(name, text):
@@ -400,7 +399,8 @@ def distribution(parts):
         if parts and name not in parts:
             continue
         files = lacking([os.path.join(UNEDITED, n + ".cil") for n in sorted(modules)])
-        compare(name, files, ["default", "both"], never)
+        for answer in compare(name, files, ["default", "both"], never):
+            told(*answer)
 
 
 # ---- small cases -----------------------------------------------------------
@@ -410,12 +410,26 @@ OTHERS = "nix ty ta ro ra us bo tu ca cs se le lr cx sd ad px cl com".split()
 
 
 def told_by_secilc(number, text):
-    """`kept`, `dropped`, `missing` (refused for a name that isn't found) or `refused`."""
+    """`kept`, `missing` (refused for a name that isn't found) or `refused`, and the optionals that drop."""
     path = write("small%d.cil" % number, text)
     status, said = secilc([FRONT, path], path + ".policy", "-N", "-vv")
     if status:
-        return "missing" if re.search(r"Failed to resolve \S+ statement", said) and "Invalid syntax" not in said else "refused"
-    return "dropped" if "\nDisabling optional " in said else "kept"
+        return "missing" if re.search(r"Failed to resolve \S+ statement", said) and "Invalid syntax" not in said else "refused", ()
+    return "kept", set(re.findall(r"^Disabling optional '(\w+)'", said, re.M))
+
+
+def in_optionals(number, texts):
+    """`kept`, `dropped` or `refused` for each text with an optional `oN`, by secilc. As many as it takes together are asked in one run."""
+    if not texts:
+        return {}
+    answer, gone = told_by_secilc(number, "".join(texts.values()))
+    if answer == "kept":
+        return {n: "dropped" if "o%d" % n in gone else "kept" for n in texts}
+    if len(texts) == 1:
+        return {n: "refused" for n in texts}
+    half = sorted(texts)[len(texts) // 2]
+    return {**in_optionals(number, {n: t for n, t in texts.items() if n < half}),
+            **in_optionals(number, {n: t for n, t in texts.items() if n >= half})}
 
 
 def told_by_ours(text):
@@ -443,40 +457,40 @@ def mutants(line):
 
 def kinds():
     """Each statement of kinds.cil in an optional, and in none, with each of its words replaced."""
-    same, differences, refused, top = 0, [], 0, 0
+    same, differences, unclaimed, top = 0, [], 0, 0
     pool = concurrent.futures.ThreadPoolExecutor(len(os.sched_getaffinity(0)))
-    for line in content(os.path.join(HERE, "kinds.cil")).splitlines():
-        if not line.startswith("("):
-            continue
-        ms = list(mutants(line))
-        theirs = list(pool.map(told_by_secilc, range(len(ms)), ["(optional o %s)\n" % m for m, _ in ms]))
-        taken = [(m, t) for (m, _), t in zip(ms, theirs) if t in ("kept", "dropped")]
-        refused += len(ms) - len(taken)
-        if theirs[0] != "kept":
-            differences.append("secilc has it %s: %s" % (theirs[0], line))
-        form = "(type m%d)(optional o%d %s (allow m%d m%d (cl (p))))\n"
-        texts = [form % (i, i, re.sub(r"\bnew\b", "new%d" % i, m), i, i) for i, (m, _) in enumerate(taken)]
-        status, answer = told_by_ours("".join(texts))
-        for i, (m, t) in enumerate(taken):
+    lines = [l for l in content(os.path.join(HERE, "kinds.cil")).splitlines() if l.startswith("(")]
+    lists = [list(mutants(l)) for l in lines]
+    form = "(type m%d)(optional o%d %s (allow m%d m%d (cl (p))))\n"
+    texts = [{i: form % (i, i, re.sub(r"\bnew\b", "new%d" % i, m), i, i) for i, (m, _) in enumerate(ms)} for ms in lists]
+    tops = [[m for m, n in ms if n in (None, "nix")] for ms in lists]
+    theirs = pool.map(in_optionals, range(len(lines)), texts)
+    their_tops = pool.map(lambda n: [told_by_secilc(n, m)[0] for m in tops[n]], range(len(lines)))
+    for line, ms, text, their in zip(lines, lists, texts, theirs):
+        if their[0] != "kept":
+            differences.append("secilc has it %s: %s" % (their[0], line))
+        taken = [i for i in their if their[i] != "refused"]
+        unclaimed += len(ms) - len(taken)
+        status, answer = told_by_ours("".join(text[i] for i in taken))
+        for i in taken:
+            mine = None
             if status:
-                one, answer = told_by_ours(texts[i])
+                one, answer = told_by_ours(text[i])
                 mine = re.search("^refused .*", answer, re.M).group() if one else None
-            else:
-                mine = None
             mine = mine or ("kept" if "allow m%d m%d:cl" % (i, i) in answer else "dropped")
-            if mine == t:
+            if mine == their[i]:
                 same += 1
             else:
-                differences.append("secilc: %s, ours: %s: %s" % (t, mine, m))
-        ms = [m for m, n in ms if n in (None, "nix")]
-        for m, t in zip(ms, pool.map(told_by_secilc, range(len(ms)), ms)):
-            if t != "refused":
+                differences.append("secilc: %s, ours: %s: %s" % (their[i], mine, ms[i][0]))
+    for m, t in ((m, t) for ms, ts in zip(tops, their_tops) for m, t in zip(ms, ts)):
+        if t != "refused":
+            status, answer = told_by_ours(m)
+            if (t == "missing") == bool(status) and (not status or re.search("^refused 42 ", answer, re.M)):
                 top += 1
-                status, answer = told_by_ours(m)
-                if (t == "missing") != bool(status) or (status and not re.search("^refused 42 ", answer, re.M)):
-                    differences.append("outside optionals, secilc: %s, ours: %s: %s" % (t, answer.split("\n")[0] if status else "kept", m))
+            else:
+                differences.append("outside optionals, secilc: %s, ours: %s: %s" % (t, answer.split("\n")[0] if status else "kept", m))
     told("kinds", same + top, differences)
-    print("    %d in optionals, %d outside; %d more are refused by secilc for something that isn't claimed" % (same, top, refused))
+    print("    %d in optionals, %d outside; secilc refuses %d more for what isn't claimed" % (same, top, unclaimed))
 
 
 def refused():
@@ -495,10 +509,11 @@ def refused():
 
 
 def cases():
-    """The cases of cases.cil, each a policy over front.cil."""
+    """The cases of cases.cil, each a policy over front.cil. What is the same is told in one line for each case."""
     for case in content(os.path.join(HERE, "cases.cil")).split("\n;; ")[1:]:
         name, text = case.split("\n", 1)
-        compare(name, [FRONT, write(name + ".cil", text)], ["default", "both", "bo=false,bo2=true,tu=false"])
+        answers = list(compare(name, [FRONT, write(name + ".cil", text)], ["default", "both", "bo=false,bo2=true,tu=false"]))
+        told(name, sum(same for _, same, _ in answers), [what + d for what, _, ds in answers for d in ds])
 
 
 if __name__ == "__main__":
