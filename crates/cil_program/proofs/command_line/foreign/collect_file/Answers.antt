@@ -1,4 +1,4 @@
-use Rattle.std.proofs.Common.{inl, subst}
+use Rattle.std.proofs.Common.{[], inl, subst}
 use Rattle.cil_specs.proofs.NamesLemmas.{contains-first}
 use Rattle.cil_specs.specs.Reading.{IsReadingFault}
 use Rattle.cil_text.specs.Image.{FaultIs}
@@ -10,6 +10,6 @@ returns-in-Err-clause-err c =
     let fault = c.in-Err.fault in
     let file = c.args.file.now in (
       file.text.items,
-      contains-first _ _,
+      contains-first _ [],
       fault-wider fault _ _ (λ f reads. inl reads) (subst (λ t. FaultIs fault (IsReadingFault t)) c.in_ok-text.ensures.ok c.in-Err.ensures.err),
     )
