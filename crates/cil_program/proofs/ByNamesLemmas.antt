@@ -9,7 +9,9 @@ use Rattle.cil_store_specs.specs.Script.{refusal_line}
 use Rattle.cil_store_specs.specs.Store.{Entry}
 use Rattle.cil_projection.specs.Conditions.{Settings}
 use Rattle.cil_projection.specs.Statements.{Projects}
-use Rattle.cil_text.specs.Image.{kind_of, place_of, shown}
+use Rattle.cil_specs.specs.TextFault.{TextFault}
+use Rattle.cil_text.specs.Image.{FaultIs, kind_of, place_of, shown}
+use Rattle.cil_text.specs.declared.fault.TextFault.{TextFault as CodeFault}
 use Rattle.cil_text.specs.declared.fault.TextFault.TheVariants as text_faults
 use Rattle.cil_program.specs.ByNames.{AnswersByNames, AreEntriesFor, AreHindered, AreProjections, InTurn, IsRefusalBy, is_at_fault, is_longer, none_held, one_not_projected}
 use Rattle.cil_program.specs.CommandLine.{Content, IsEntryFor, IsReadOf}
@@ -45,6 +47,11 @@ projections-more settings more (t ∷ texts) (p ∷ others) text projected are m
   are.0,
   projections-more settings [] texts others text projected are.1 (made.0, made.1, subst (λ b. projected ≡ made.0 ++ b) (sym (behind-nothing texts)) made.2),
 )
+
+-- a fault of which more is known
+pub fault-wider : (fault : CodeFault) (P Q : TextFault → Type 0) → ((f : TextFault) → P f → Q f) → FaultIs fault P → FaultIs fault Q
+fault-wider text_faults.Memory P Q wider is = tt
+fault-wider (text_faults.Found kind at word) P Q wider is = wider (record { kind = kind_of kind; at = place_of at; word = shown word }) is
 
 -- the texts of files that were read were read of them
 pub read-texts : {X : Type 0} (content : List ℕ → Content) (path text : X → List ℕ) (files : List X) → All (λ f. IsReadOf (content (path f)) (text f)) files
