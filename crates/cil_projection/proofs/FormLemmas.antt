@@ -4,18 +4,19 @@ use Rattle.std.proofs.Common.{◌∙◌, sym, ap, subst, arith, append_assoc, ap
 use Rattle.std.proofs.lemmas.List.{map-append, take_rest}
 use Rattle.cil_specs.specs.Place.{Place}
 use Rattle.cil_specs.specs.Names.{Word}
+use Rattle.cil_specs.specs.Expr.{IsListThen}
 use Rattle.cil_specs.specs.Trees.{Trees, none, a_word, a_string, a_list}
 use Rattle.cil_specs.specs.Shape.{put_word}
 use Rattle.cil_projection.specs.declared.piece.Piece as code
 use Rattle.cil_projection.specs.Pieces.{Piece, piece_of, pieces_of}
 use Rattle.cil_projection.specs.declared.part.Part.{Part}
-use Rattle.cil_projection.specs.Forms.{joined, classes_in, constraint, constraints, fit, of_first, permissions_in, Adds}
+use Rattle.cil_projection.specs.Forms.{joined, constraint, constraints, fit, of_first, Adds}
 use Rattle.cil_text.specs.declared.word.Word as code_word
 use Rattle.cil_text.specs.declared.place.Place as code_place
 use Rattle.cil_text.specs.declared.tree.TreeSlice.{TreeSlice}
 use Rattle.cil_text.specs.declared.tree.Tree.{Tree}
 use Rattle.cil_text.specs.declared.tree.Tree.TheVariants as trees
-use Rattle.cil_text.specs.Common.{tree_then}
+use Rattle.cil_text.specs.Common.{place_of, tree_then, trees_of}
 
 -- what is one thing for all trees but those with a word in front is it where none is there
 pub without_word_is : {X : Type 0} (x : X) (f : Trees → X) → f none ≡ x → ((at : Place) (text : List ℕ) (rest : Trees) → f (a_string at text rest) ≡ x)
@@ -30,6 +31,15 @@ pub without_word : {X : Type 0} (f : Trees → Option X) → f none ≡ None →
     → ((at : Place) (end : ℕ) (items rest : Trees) → f (a_list at end items rest) ≡ None)
     → (trees : Trees) → ((word : Word) (rest : Trees) → trees ≢ put_word word rest) → f trees ≡ None
 without_word f = without_word_is None f
+
+-- what is one thing for all trees but those with a list in front is it where none is there
+pub without_list_is : {X : Type 0} (x : X) (f : Trees → X) → f none ≡ x → ((at : Place) (text : List ℕ) (rest : Trees) → f (a_word at text rest) ≡ x)
+    → ((at : Place) (text : List ℕ) (rest : Trees) → f (a_string at text rest) ≡ x)
+    → (trees : Trees) → ((items rest : Trees) → IsListThen trees items rest → ⊥) → f trees ≡ x
+without_list_is x f at_end at_word at_string none absent = at_end
+without_list_is x f at_end at_word at_string (a_word at text rest) absent = at_word at text rest
+without_list_is x f at_end at_word at_string (a_string at text rest) absent = at_string at text rest
+without_list_is x f at_end at_word at_string (a_list at end items rest) absent = absurd (absent items rest (at, end, refl))
 
 pub joined_none : (x : Option (List Piece)) → joined x None ≡ None
 joined_none None = refl
@@ -88,17 +98,13 @@ pub not_begun : (start now : List code.Piece) (all rest first behind : Option (L
 not_begun start now all rest first behind completes is absent =
     completes now false (is ∙ ap (λ x. joined x behind) absent)
 
--- a tree that is no word begins no classes
-pub no_class : (tree : Tree) (all rest : Trees) → all ≡ tree_then tree rest → ((word : code_word.Word) → tree ≡ trees.Word word → ⊥) → classes_in all ≡ None
-no_class (trees.Word w) all rest is other = absurd (other w refl)
-no_class (trees.String w) all rest is other = ap classes_in is
-no_class (trees.List at end items) all rest is other = ap classes_in is
-
--- a tree that is no word begins no permissions
-pub no_permission : (tree : Tree) (all rest : Trees) → all ≡ tree_then tree rest → ((word : code_word.Word) → tree ≡ trees.Word word → ⊥) → permissions_in all ≡ None
-no_permission (trees.Word w) all rest is other = absurd (other w refl)
-no_permission (trees.String w) all rest is other = ap permissions_in is
-no_permission (trees.List at end items) all rest is other = ap permissions_in is
+-- what is nothing for trees with a string or a list in front is nothing where the first tree is no word
+pub no_word_first : (f : Trees → Option (List Piece)) → ((at : Place) (text : List ℕ) (rest : Trees) → f (a_string at text rest) ≡ None)
+    → ((at : Place) (end : ℕ) (items rest : Trees) → f (a_list at end items rest) ≡ None)
+    → (tree : Tree) (all rest : Trees) → all ≡ tree_then tree rest → ((word : code_word.Word) → tree ≡ trees.Word word → ⊥) → f all ≡ None
+no_word_first f at_string at_list (trees.Word w) all rest is other = absurd (other w refl)
+no_word_first f at_string at_list (trees.String w) all rest is other = ap f is ∙ at_string (place_of w.at) w.text.now rest
+no_word_first f at_string at_list (trees.List at end items) all rest is other = ap f is ∙ at_list (place_of at) end (trees_of items) rest
 
 -- a tree that is no list begins no constraints
 pub no_constraint : (tree : Tree) (all rest : Trees) → all ≡ tree_then tree rest
@@ -108,27 +114,28 @@ no_constraint (trees.String w) all rest is other = ap constraints is
 no_constraint (trees.List at end items) all rest is other = absurd (other at end items refl)
 
 -- pieces behind others, and then those of names
+pub names_behind : (old kept_pieces with_taken with_names names : List code.Piece) (x : code.Piece) (kept : List Piece) → pieces_of kept_pieces ≡ pieces_of old ++ kept
+    → with_taken ≡ kept_pieces ++ x ∷ [] → with_names ≡ with_taken ++ names → pieces_of with_names ≡ pieces_of old ++ (kept ++ piece_of x ∷ pieces_of names)
+names_behind old kept_pieces with_taken with_names names x kept are_kept are_taken are_named =
+    ap pieces_of are_named ∙ map-append piece_of with_taken names
+    ∙ ap (λ l. l ++ pieces_of names) (ap pieces_of are_taken ∙ map-append piece_of kept_pieces (x ∷ []) ∙ ap (λ l. l ++ piece_of x ∷ []) are_kept ∙ append_assoc (pieces_of old) kept (piece_of x ∷ []))
+    ∙ append_assoc (pieces_of old) (kept ++ piece_of x ∷ []) (pieces_of names) ∙ ap (λ l. pieces_of old ++ l) (append_assoc kept (piece_of x ∷ []) (pieces_of names))
+
+-- the same in front of what is needed
 pub adds_behind : (empty kept_pieces with_taken with_names names after : List code.Piece) (x : code.Piece) (kept : List Piece) (fits : Bool) (needs : Option (List Piece)) → empty ≡ []
     → pieces_of kept_pieces ≡ pieces_of empty ++ kept → with_taken ≡ kept_pieces ++ x ∷ [] → with_names ≡ with_taken ++ names → fits ≡ true → Adds with_names after fits needs
     → Some (pieces_of after) ≡ joined (Some (kept ++ piece_of x ∷ pieces_of names)) needs
 adds_behind empty kept_pieces with_taken with_names names after x kept fits needs none_yet are_kept are_taken are_named fit_all adds =
     let front : pieces_of with_names ≡ kept ++ piece_of x ∷ pieces_of names =
-    ap pieces_of are_named ∙ map-append piece_of with_taken names ∙ ap (λ l. pieces_of l ++ pieces_of names) are_taken
-    ∙ ap (λ l. l ++ pieces_of names) (map-append piece_of kept_pieces (x ∷ []))
-    ∙ ap (λ l. (l ++ piece_of x ∷ []) ++ pieces_of names) (are_kept ∙ ap (λ l. pieces_of l ++ kept) none_yet)
-    ∙ append_assoc kept (piece_of x ∷ []) (pieces_of names) in
+    names_behind empty kept_pieces with_taken with_names names x kept are_kept are_taken are_named ∙ ap (λ l. pieces_of l ++ (kept ++ piece_of x ∷ pieces_of names)) none_yet in
     sym (ap (λ l. joined (Some l) needs) (sym front) ∙ subst (λ b. Adds with_names after b needs) fit_all adds)
 
--- a piece and then others, where more is left
-pub adds_more : (now pushed after : List code.Piece) (x : code.Piece) (inner rest left : List Piece) → pushed ≡ now ++ x ∷ [] → pieces_of after ≡ pieces_of pushed ++ inner
-    → left ≡ (piece_of x ∷ inner) ++ rest → pieces_of after ++ rest ≡ pieces_of now ++ left
-adds_more now pushed after x inner rest left is_pushed added split =
-    ap (λ l. l ++ rest) (added ∙ ap (λ l. pieces_of l ++ inner) is_pushed ∙ ap (λ l. l ++ inner) (map-append piece_of now (x ∷ [])) ∙ append_assoc (pieces_of now) (piece_of x ∷ []) inner)
-    ∙ append_assoc (pieces_of now) (piece_of x ∷ inner) rest ∙ ap (λ l. pieces_of now ++ l) (sym split)
-
 -- one piece was added
+pub added_one : (now pushed : List code.Piece) (x : code.Piece) → pushed ≡ now ++ x ∷ [] → pieces_of pushed ≡ pieces_of now ++ piece_of x ∷ []
+added_one now pushed x is = ap pieces_of is ∙ map-append piece_of now (x ∷ [])
+
 pub pushed_one : (now pushed : List code.Piece) (x : code.Piece) → pushed ≡ now ++ x ∷ [] → Adds now pushed true (Some (piece_of x ∷ []))
-pushed_one now pushed x is = ap (λ l. Some l) (sym (map-append piece_of now (x ∷ [])) ∙ ap pieces_of (sym is))
+pushed_one now pushed x is = ap (λ l. Some l) (sym (added_one now pushed x is))
 
 -- three lists behind another
 pub three_behind : (old first second all : List ℕ) (a x b : List ℕ) → first ≡ old ++ a → second ≡ first ++ x → all ≡ second ++ b → all ≡ old ++ ((a ++ x) ++ b)

@@ -1,31 +1,21 @@
 -- How values are added one behind the other.
 use Rattle.std.specs.Prelude.{◌≡◌, ℕ, ◌++◌, Bool, true, false, List, [], ◌∷◌, Option, Some, None, option_map, refl}
 use Rattle.std.proofs.Common.{◌∙◌, sym, ap, subst, append_assoc, append-nil}
-use Rattle.cil_specs.specs.Place.{Place}
-use Rattle.cil_specs.specs.Trees.{Trees, none, a_word, a_string, a_list}
+use Rattle.cil_specs.specs.Trees.{Trees}
 use Rattle.cil_text.specs.declared.tree.Tree.{Tree}
 use Rattle.cil_text.specs.declared.tree.Tree.TheVariants as trees
-use Rattle.cil_text.specs.Common.{place_of, tree_then, trees_of}
-use Rattle.cil_projection.specs.Conditions.{in_front, values, list_value, first_value, AddsValues}
+use Rattle.cil_text.specs.Common.{tree_then}
+use Rattle.cil_projection.specs.Conditions.{in_front, values, first_value, AddsValues}
 
 -- what is added to some values completes what was to be added to others
 abbrev pub CompletesValues : List Bool → Option (List Bool) → List Bool → Option (List Bool) → Type 0
 CompletesValues start all now rest = (after : List Bool) (fits : Bool) → AddsValues now after fits rest → AddsValues start after fits all
 
-values_list : (value : List ℕ → Option Bool) (at : Place) (end : ℕ) (items rest : Trees) → values value (a_list at end items rest) ≡ in_front (list_value value items) (values value rest)
-values_list value at end none rest = refl
-values_list value at end (a_word place word operands) rest = refl
-values_list value at end (a_string place text more) rest = refl
-values_list value at end (a_list place last inner more) rest = refl
-
 pub values_first : (value : List ℕ → Option Bool) (tree : Tree) (all rest : Trees) → all ≡ tree_then tree rest
     → values value all ≡ in_front (first_value value (tree_then tree rest)) (values value rest)
 values_first value (trees.Word w) all rest is = ap (values value) is
 values_first value (trees.String w) all rest is = ap (values value) is
-values_first value (trees.List at end items) all rest is = ap (values value) is ∙ values_list value (place_of at) end (trees_of items) rest
-
-pub no_first : (found : Option (List Bool)) → in_front None found ≡ None
-no_first found = refl
+values_first value (trees.List at end items) all rest is = ap (values value) is
 
 pub none_left : (now : List Bool) → AddsValues now now true (Some [])
 none_left now = ap (λ l. Some l) (append-nil now)

@@ -1,13 +1,14 @@
 -- The names that the arguments of a statement declare and need, where they fit a form.
-use Rattle.std.specs.Prelude.{◌≡◌, ℕ, Bool, true, false, cond, List, [], ◌∷◌, ◌++◌, map, Option, Some, None, codes, bytes_eq}
+use Rattle.std.specs.Prelude.{◌≡◌, ℕ, Bool, true, false, cond, ◌&&◌, List, [], ◌∷◌, ◌++◌, map, Option, Some, None, codes, bytes_eq}
 use Rattle.std.specs.Borrow.{Bor}
+use Rattle.std.specs.Option.{option_map_or}
 use Rattle.cil_specs.specs.Trees.{Trees, none, a_word, a_string, a_list}
 use Rattle.cil_specs.specs.Shape.{is_among}
 use Rattle.cil_projection.specs.declared.table.Table.{Table}
 use Rattle.cil_projection.specs.declared.table.Table.TheVariants.{Types, Roles, Users, Categories, Sensitivities, Levels, Ranges, Contexts, Addresses, ExtendedPermissions}
 use Rattle.cil_projection.specs.declared.part.Part.{Part}
 use Rattle.cil_projection.specs.declared.part.Part.TheVariants as parts
-use Rattle.cil_projection.specs.declared.part.Part.TheVariants.{Declared, Name, Target, Names, Other, Classes, ClassPermissions, Context, PerhapsContext, Range, Level, Address, ExtendedPermission, Constraint}
+use Rattle.cil_projection.specs.declared.part.Part.TheVariants.{Declared, Name, Target, Expression, Names, Truth, Ignored, Classes, ClassPermissions, Context, PerhapsContext, Range, Level, Address, ExtendedPermission, Constraint}
 use Rattle.cil_projection.specs.declared.piece.Piece as code
 use Rattle.cil_projection.specs.declared.kinds.TheConstants.{FORMS}
 use Rattle.cil_projection.specs.Pieces.{Piece, blanked, taken, declared, needed, a_class, opened, permission, closed, pieces_of}
@@ -23,9 +24,9 @@ abbrev pub or_else : Option (List Piece) → Option (List Piece) → Option (Lis
 or_else (Some found) other = Some found
 or_else None other = other
 
--- the words that are no names where names are listed
+-- the words that are no names in expressions and in conditions
 abbrev pub operators : List (List ℕ)
-operators = codes "and" ∷ codes "or" ∷ codes "xor" ∷ codes "not" ∷ codes "all" ∷ codes "eq" ∷ codes "neq" ∷ codes "range" ∷ codes "unordered" ∷ []
+operators = codes "and" ∷ codes "or" ∷ codes "xor" ∷ codes "not" ∷ codes "all" ∷ codes "eq" ∷ codes "neq" ∷ codes "range" ∷ []
 
 abbrev pub name_or_operator : Table → List ℕ → List Piece
 name_or_operator table word = cond (is_among operators word) [] (needed table word ∷ [])
@@ -36,6 +37,28 @@ names_in table none = []
 names_in table (a_word at word rest) = name_or_operator table word ++ names_in table rest
 names_in table (a_string at text rest) = names_in table rest
 names_in table (a_list at end items rest) = names_in table items ++ names_in table rest
+
+-- whether there is no string in trees, nor in the lists among them
+abbrev pub has_no_string : Trees → Bool
+has_no_string none = true
+has_no_string (a_word at word rest) = has_no_string rest
+has_no_string (a_string at text rest) = false
+has_no_string (a_list at end items rest) = has_no_string items && has_no_string rest
+
+-- the names in an expression
+abbrev pub expression_names : Table → Trees → Option (List Piece)
+expression_names table trees = cond (has_no_string trees) (Some (names_in table trees)) None
+
+-- names and nothing else
+abbrev pub listed_names : Table → Trees → Option (List Piece)
+listed_names table none = Some []
+listed_names table (a_word at name rest) = joined (Some (needed table name ∷ [])) (listed_names table rest)
+listed_names table (a_string at text rest) = None
+listed_names table (a_list at end items rest) = None
+
+-- the value that a word is
+abbrev pub truth_word : List ℕ → Option Bool
+truth_word word = cond (bytes_eq word (codes "true")) (Some true) (cond (bytes_eq word (codes "false")) (Some false) None)
 
 -- classes and nothing else
 abbrev pub classes_in : Trees → Option (List Piece)
@@ -62,7 +85,7 @@ class_permissions trees = None
 
 -- a sensitivity and categories
 abbrev pub level : Trees → Option (List Piece)
-level (a_word at name rest) = Some (needed Sensitivities name ∷ names_in Categories rest)
+level (a_word at name rest) = joined (Some (needed Sensitivities name ∷ [])) (expression_names Categories rest)
 level trees = None
 
 abbrev pub connectives : List (List ℕ)
@@ -74,7 +97,7 @@ comparisons = codes "eq" ∷ codes "neq" ∷ codes "dom" ∷ codes "domby" ∷ c
 abbrev pub level_variables : List (List ℕ)
 level_variables = codes "l1" ∷ codes "l2" ∷ codes "h1" ∷ codes "h2" ∷ []
 
--- whether a word is a variable of a constraint, and the table that its names are of; those of levels are compared with each other alone
+-- whether a word is a variable of a constraint, and the table that its names are of
 abbrev pub variable : List ℕ → Option Table
 variable word =
     cond (is_among (codes "t1" ∷ codes "t2" ∷ codes "t3" ∷ []) word) (Some Types)
@@ -88,15 +111,20 @@ unless_variable (Some table) piece = []
 
 -- what a variable is compared with: a variable or a name, or names
 abbrev pub compared : Option Table → List ℕ → Option (List Piece)
-compared None word = cond (is_among level_variables word) (Some []) None
+compared None word = None
 compared (Some table) word = Some (unless_variable (variable word) (needed table word))
 
 abbrev pub compared_list : Option Table → Trees → Option (List Piece)
 compared_list None items = None
-compared_list (Some table) items = Some (names_in table items)
+compared_list (Some table) items = listed_names table items
 
+-- a comparison of two levels
+abbrev pub level_compared : List ℕ → Option (List Piece)
+level_compared right = cond (is_among level_variables right) (Some []) None
+
+-- Two operands. Levels are compared with each other alone.
 abbrev pub comparison : Trees → Option (List Piece)
-comparison (a_word at left (a_word place right none)) = compared (variable left) right
+comparison (a_word at left (a_word place right none)) = cond (is_among level_variables left) (level_compared right) (compared (variable left) right)
 comparison (a_word at left (a_list place end items none)) = compared_list (variable left) items
 comparison trees = None
 
@@ -119,8 +147,10 @@ abbrev pub of_word : Part → List ℕ → Option (List Piece)
 of_word (Declared table) word = Some (declared table word ∷ [])
 of_word (Name table) word = cond (bytes_eq word (codes "self")) None (Some (needed table word ∷ []))
 of_word Target word = Some (cond (bytes_eq word (codes "self")) [] (needed Types word ∷ []))
-of_word (Names table) word = Some (name_or_operator table word)
-of_word Other word = Some []
+of_word (Expression table) word = Some (name_or_operator table word)
+of_word (Names table) word = Some (needed table word ∷ [])
+of_word Truth word = option_map_or (λ b. Some []) (truth_word word) None
+of_word Ignored word = Some []
 of_word parts.Class word = Some (a_class word ∷ [])
 of_word Classes word = Some (a_class word ∷ [])
 of_word Context word = Some (needed Contexts word ∷ [])
@@ -137,13 +167,14 @@ abbrev pub inner_parts : Part → List Part
 inner_parts Context = Name Users ∷ Name Roles ∷ Name Types ∷ Range ∷ []
 inner_parts PerhapsContext = Name Users ∷ Name Roles ∷ Name Types ∷ Range ∷ []
 inner_parts Range = Level ∷ Level ∷ []
-inner_parts ExtendedPermission = Other ∷ parts.Class ∷ Other ∷ []
+inner_parts ExtendedPermission = Ignored ∷ parts.Class ∷ Ignored ∷ []
 inner_parts part = []
 
 -- what an argument is that is a list of these trees; `inner` is what they are as its inner parts
 abbrev pub of_list : Part → Trees → Option (List Piece) → Option (List Piece)
-of_list (Names table) items inner = Some (names_in table items)
-of_list Other items inner = Some []
+of_list (Expression table) items inner = expression_names table items
+of_list (Names table) items inner = listed_names table items
+of_list Ignored items inner = Some []
 of_list Classes items inner = classes_in items
 of_list ClassPermissions items inner = class_permissions items
 of_list Context items inner = inner
@@ -158,7 +189,7 @@ of_list part items inner = None
 
 -- what an argument is that is a string
 abbrev pub of_string : Part → Option (List Piece)
-of_string Other = Some []
+of_string Ignored = Some []
 of_string part = None
 
 -- Arguments that fit the parts of a form, one for each: the names that they declare and need.

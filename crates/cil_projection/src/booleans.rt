@@ -1,14 +1,11 @@
 //! Booleans, tunables and their values.
 
-ghost use Rattle.std.specs.Prelude.{◌≡◌, false, [], OnOk};
-ghost use Rattle.cil_text.specs.Common.{trees_of};
-ghost use Rattle.cil_projection.specs.Conditions.{Known, again, containers, declaration, declarations, noted, settings_of, with_value};
+ghost use Rattle.std.specs.Prelude.{◌≡◌, false, []};
 
 use crate::component::last_component;
-use crate::split::split_word;
+use crate::names::OPERATORS;
 use crate::words::is_among;
 use cil_names::{Names, Seed};
-use cil_text::TreeSlice;
 use std::alloc::{AllocError, Allocator, Global};
 use std::marker::Model;
 
@@ -34,13 +31,7 @@ impl Value {
         let Value::Own(own) = self else {
             return self;
         };
-        if own {
-            if value { self } else { Value::Both }
-        } else if value {
-            Value::Both
-        } else {
-            self
-        }
+        if own == value { self } else { Value::Both }
     }
 
     /// Which of the two it is, if it is one.
@@ -87,9 +78,7 @@ impl<'m, A: Allocator + Copy> Booleans<'m, A> {
 }
 
 impl<'m, A: Allocator> Booleans<'m, A> {
-    ghost use Rattle.std.specs.Prelude.{◌≡◌, None, OnOk, bytes_eq, position, true};
-    ghost use Rattle.cil_specs.specs.Trees.{Trees};
-    ghost use Rattle.cil_text.specs.Common.{trees_of};
+    ghost use Rattle.std.specs.Prelude.{◌≡◌, None, OnErr, OnOk, bytes_eq, position, true};
     ghost use Rattle.cil_projection.specs.Conditions.{appended, noted, settings_of, with_value};
 
     /// The rules of both branches are taken from now on.
@@ -106,10 +95,14 @@ impl<'m, A: Allocator> Booleans<'m, A> {
         self.both
     }
 
-    /// The value of a name, or none where it is declared with both. One without a declaration is false: it is missing anyway.
+    /// The value of a name, or none where it is declared with both, or is an operator. One without a declaration is false: it is missing
+    /// anyway.
     pub fn value(&self, name: &[u8]) -> Option<bool>
         ensures { result ≡ (settings_of self.now).value name.now }
     {
+        if is_among(&OPERATORS, name) {
+            return None;
+        }
         let Some(number) = self.names.find(last_component(name)) else {
             return Some(false);
         };
@@ -119,7 +112,8 @@ impl<'m, A: Allocator> Booleans<'m, A> {
     /// Adds a name that isn't there.
     fn append(&mut self, name: &'m [u8], value: Value) -> Result<(), AllocError>
         requires { position (bytes_eq name.now) self.old.names ≡ None }
-        ensures { OnOk result (self.new ≡ appended self.old name.now value) }
+        ensures ok { OnOk result (self.new ≡ appended self.old name.now value) }
+        ensures err { OnErr result (self.new ≡ self.old) }
     {
         self.values.reserve(1)?;
         let (_number, new) = self.names.insert(name)?;
@@ -131,7 +125,8 @@ impl<'m, A: Allocator> Booleans<'m, A> {
 
     /// Sets the value of a name, whatever declarations say.
     pub fn set(&mut self, name: &'m [u8], value: bool) -> Result<(), AllocError>
-        ensures { OnOk result (self.new ≡ with_value self.old name.now value) }
+        ensures ok { OnOk result (self.new ≡ with_value self.old name.now value) }
+        ensures err { OnErr result (self.new ≡ self.old) }
     {
         let Some(number) = self.names.find(name) else {
             return self.append(name, Value::Set(value));
@@ -142,7 +137,8 @@ impl<'m, A: Allocator> Booleans<'m, A> {
 
     /// Notes a declaration of a name.
     pub(crate) fn note(&mut self, name: &'m [u8], value: bool) -> Result<(), AllocError>
-        ensures { OnOk result (self.new ≡ noted self.old (name.now, value)) }
+        ensures ok { OnOk result (self.new ≡ noted self.old (name.now, value)) }
+        ensures err { OnErr result (self.new ≡ self.old) }
     {
         let Some(number) = self.names.find(name) else {
             return self.append(name, Value::Own(value));

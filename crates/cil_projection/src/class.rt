@@ -1,12 +1,12 @@
 //! Classes and their permissions.
 
-ghost use Rattle.std.specs.Prelude.{◌≡◌, IfOk};
+ghost use Rattle.std.specs.Prelude.{IfOk};
 ghost use Rattle.cil_text.specs.Common.{trees_of};
 ghost use Rattle.cil_projection.specs.Forms.{Adds, class_permissions, classes_in, listed, permissions_in};
 
 use crate::names::OPERATORS;
 use crate::piece::Piece;
-use crate::split::split_word;
+use crate::split::{split_list, split_word};
 use crate::words::is_among;
 use cil_text::{Tree, TreeSlice, Word};
 use std::alloc::{AllocError, Allocator};
@@ -80,10 +80,7 @@ pub fn add_class_permissions<'a, A: Allocator>(
     let Some((class, rest)) = split_word(trees) else {
         return Ok(false);
     };
-    let Some((list, behind)) = rest.split_first() else {
-        return Ok(false);
-    };
-    let Tree::List { items, .. } = list else {
+    let Some((items, behind)) = split_list(rest) else {
         return Ok(false);
     };
     if !behind.is_empty() {

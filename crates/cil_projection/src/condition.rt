@@ -1,13 +1,11 @@
 //! The values of conditions.
 
-ghost use Rattle.std.specs.Prelude.{◌≡◌, List, Bool, IfOk};
+ghost use Rattle.std.specs.Prelude.{◌≡◌, IfOk, Some};
 ghost use Rattle.cil_specs.specs.Trees.{Trees};
 ghost use Rattle.cil_text.specs.Common.{tree_then, trees_of};
 ghost use Rattle.cil_projection.specs.Conditions.{AddsValues, applied, combined, first_value, list_value, opposite, settings_of, values};
 
 use crate::booleans::Booleans;
-use crate::names::OPERATORS;
-use crate::split::split_word;
 use crate::words::is_among;
 use cil_text::{Tree, TreeSlice};
 use std::alloc::{AllocError, Allocator};
@@ -41,20 +39,14 @@ fn applied(word: &[u8], named: Option<bool>, operands: &[bool]) -> Option<bool>
     ensures { result ≡ applied word.now named (Some operands.now) }
 {
     match operands {
-        [] => {
-            if is_among(&OPERATORS, word) {
-                None
-            } else {
-                named
-            }
-        }
+        [] => named,
         [x] => opposite(word, *x),
         [x, y] => combined(word, *x, *y),
         _ => None,
     }
 }
 
-/// The value of a condition that is a list of these trees (CIL Reference Guide, "booleanif").
+/// The value of a condition that is a list of these trees (CIL Reference Guide, "booleanif"). A list of one list has that list's.
 #[cycle(condition)]
 pub fn list_value<A: Allocator + Copy>(
     alloc: A,
@@ -64,14 +56,39 @@ pub fn list_value<A: Allocator + Copy>(
     ensures { IfOk result (λ found.
         found ≡ list_value (settings_of booleans.now).value (trees_of items.entry)) }
 {
-    let Some((word, operands)) = split_word(items) else {
+    let Some((first, behind)) = items.split_first() else {
         return Ok(None);
     };
+    match first {
+        Tree::Word(word) => {
+            let found = applied_value(alloc, booleans, word.text, behind)?;
+            Ok(found)
+        }
+        Tree::List { items, .. } if behind.is_empty() => {
+            let found = list_value(alloc, booleans, items)?;
+            Ok(found)
+        }
+        _ => Ok(None),
+    }
+}
+
+/// The value of a list that begins with this word and goes on with operands.
+#[cycle(condition)]
+fn applied_value<A: Allocator + Copy>(
+    alloc: A,
+    booleans: &Booleans<'_, A>,
+    word: &[u8],
+    operands: TreeSlice<'_, '_>,
+) -> Result<Option<bool>, AllocError>
+    ensures { IfOk result (λ found. found ≡ applied word.now
+        ((settings_of booleans.now).value word.now)
+        (values (settings_of booleans.now).value (trees_of operands.entry))) }
+{
     let mut values = Vec::new(alloc);
     if !add_values(&mut values, alloc, booleans, operands)? {
         return Ok(None);
     }
-    Ok(applied(word.text, booleans.value(word.text), values.as_slice()))
+    Ok(applied(word, booleans.value(word), values.as_slice()))
 }
 
 /// The value of a condition, which is this tree.

@@ -1,10 +1,10 @@
 //! The names of constraints.
 
-ghost use Rattle.std.specs.Prelude.{◌≡◌, ◌++◌, IfOk, None, Some, option_map};
+ghost use Rattle.std.specs.Prelude.{◌≡◌, IfOk};
 ghost use Rattle.cil_text.specs.Common.{trees_of};
-ghost use Rattle.cil_projection.specs.Forms.{Adds, compared, compared_list, comparison, constraint, constraints, operation, variable};
+ghost use Rattle.cil_projection.specs.Forms.{Adds, compared, comparison, constraint, constraints, variable};
 
-use crate::names::add_names;
+use crate::names::add_listed;
 use crate::piece::Piece;
 use crate::split::split_word;
 use crate::table::Table;
@@ -24,7 +24,7 @@ const CONNECTIVES: [&[u8]; 3] = [b"and", b"or", b"not"];
 
 const COMPARISONS: [&[u8]; 5] = [b"eq", b"neq", b"dom", b"domby", b"incomp"];
 
-/// The table of the names that a variable is compared with. Levels are compared with each other alone.
+/// The table of the names that a variable is compared with.
 fn table_of(word: &[u8]) -> Option<Table>
     ensures { result ≡ variable word.now }
 {
@@ -50,7 +50,7 @@ fn add_compared<'a, A: Allocator>(
         Adds pieces.old.items pieces.new.items fits (compared table word.entry.text.now)) }
 {
     let Some(table) = table else {
-        return Ok(is_among(&LEVEL_VARIABLES, word.text));
+        return Ok(false);
     };
     if table_of(word.text).is_none() {
         pieces.push(Piece::Needed {
@@ -61,7 +61,7 @@ fn add_compared<'a, A: Allocator>(
     Ok(true)
 }
 
-/// Adds the names of a comparison's operands, of which the first is a variable.
+/// Adds the names of a comparison's operands. Levels are compared with each other alone.
 fn add_comparison<'a, A: Allocator>(
     pieces: &mut Vec<Piece<'a>, A>,
     operands: TreeSlice<'_, 'a>,
@@ -80,14 +80,17 @@ fn add_comparison<'a, A: Allocator>(
     }
     let table = table_of(left.text);
     match right {
+        Tree::Word(word) if is_among(&LEVEL_VARIABLES, left.text) => {
+            Ok(is_among(&LEVEL_VARIABLES, word.text))
+        }
         Tree::Word(word) => add_compared(pieces, table, word),
         Tree::String(_) => Ok(false),
         Tree::List { items, .. } => {
             let Some(table) = table else {
                 return Ok(false);
             };
-            add_names(pieces, table, items)?;
-            Ok(true)
+            let fits = add_listed(pieces, table, items)?;
+            Ok(fits)
         }
     }
 }

@@ -3,14 +3,15 @@
 ghost use Rattle.std.specs.Prelude.{◌≡◌, ◌∷◌, []};
 ghost use Rattle.std.specs.Option.{option_map_or};
 ghost use Rattle.cil_text.specs.Common.{trees_of};
-ghost use Rattle.cil_projection.specs.Conditions.{declaration, truth_word};
+ghost use Rattle.cil_projection.specs.Conditions.{declaration};
+ghost use Rattle.cil_projection.specs.Forms.{truth_word};
 
 use crate::split::split_word;
 use crate::words::is_among;
 use cil_text::TreeSlice;
 
 /// The value that a word is.
-fn truth(word: &[u8]) -> Option<bool>
+pub fn truth(word: &[u8]) -> Option<bool>
     ensures { result ≡ truth_word word.now }
 {
     if word == b"true".as_slice() {

@@ -8,7 +8,8 @@ ghost use Rattle.cil_projection.specs.Forms.{Adds, fit, inner_parts, level, of_f
 
 use crate::class::{add_class_permissions, add_classes};
 use crate::constraint::add_constraint;
-use crate::names::{add_name, add_names};
+use crate::declaration::truth;
+use crate::names::{add_expression, add_listed, add_name};
 use crate::part::Part;
 use crate::piece::Piece;
 use crate::split::split_word;
@@ -28,7 +29,7 @@ const CONTEXT: [Part; 4] = [
 const RANGE: [Part; 2] = [Part::Level, Part::Level];
 
 /// The kind, the class and the numbers of extended permissions (CIL Reference Guide, "permissionx").
-const EXTENDED_PERMISSION: [Part; 3] = [Part::Other, Part::Class, Part::Other];
+const EXTENDED_PERMISSION: [Part; 3] = [Part::Ignored, Part::Class, Part::Ignored];
 
 /// What the trees of a list are that is such an argument.
 fn inner_parts(part: Part) -> &'static [Part]
@@ -42,7 +43,7 @@ fn inner_parts(part: Part) -> &'static [Part]
     }
 }
 
-/// Adds the piece, where there is one.
+/// Adds the name of an argument that is a word, where it fits.
 fn add_word<'a, A: Allocator>(
     pieces: &mut Vec<Piece<'a>, A>,
     part: Part,
@@ -61,15 +62,16 @@ fn add_word<'a, A: Allocator>(
             pieces.push(Piece::Class { name })?;
             return Ok(true);
         }
-        Part::Names(table) => {
+        Part::Expression(table) => {
             add_name(pieces, table, word)?;
             return Ok(true);
         }
+        Part::Truth => return Ok(truth(name).is_some()),
         Part::Target if name == b"self".as_slice() => return Ok(true),
-        Part::Other => return Ok(true),
+        Part::Ignored => return Ok(true),
         Part::Name(_) if name == b"self".as_slice() => return Ok(false),
         Part::ClassPermissions | Part::Constraint => return Ok(false),
-        Part::Name(table) => table,
+        Part::Name(table) | Part::Names(table) => table,
         Part::Target => Table::Types,
         Part::Context | Part::PerhapsContext => Table::Contexts,
         Part::Range => Table::Ranges,
@@ -96,8 +98,8 @@ fn add_level<'a, A: Allocator>(
         table: Table::Sensitivities,
         name: sensitivity.text,
     })?;
-    add_names(pieces, Table::Categories, categories)?;
-    Ok(true)
+    let fits = add_expression(pieces, Table::Categories, categories)?;
+    Ok(fits)
 }
 
 /// Adds the names of an argument that is a list of these trees.
@@ -111,11 +113,9 @@ fn add_list<'a, A: Allocator>(
         (of_list part (trees_of items.entry) (fit (inner_parts part) (trees_of items.entry)))) }
 {
     match part {
-        Part::Names(table) => {
-            add_names(pieces, table, items)?;
-            Ok(true)
-        }
-        Part::Other | Part::Address => Ok(true),
+        Part::Expression(table) => add_expression(pieces, table, items),
+        Part::Names(table) => add_listed(pieces, table, items),
+        Part::Ignored | Part::Address => Ok(true),
         Part::Classes => add_classes(pieces, items),
         Part::ClassPermissions => add_class_permissions(pieces, items),
         Part::Level => add_level(pieces, items),
@@ -124,7 +124,7 @@ fn add_list<'a, A: Allocator>(
         Part::Context | Part::PerhapsContext | Part::Range | Part::ExtendedPermission => {
             fit(pieces, inner_parts(part), items)
         }
-        Part::Declared(_) | Part::Name(_) | Part::Target | Part::Class => Ok(false),
+        Part::Declared(_) | Part::Name(_) | Part::Target | Part::Truth | Part::Class => Ok(false),
     }
 }
 
@@ -140,7 +140,7 @@ fn add_part<'a, A: Allocator>(
 {
     match tree {
         Tree::Word(word) => add_word(pieces, part, word),
-        Tree::String(_) => Ok(matches!(part, Part::Other)),
+        Tree::String(_) => Ok(matches!(part, Part::Ignored)),
         Tree::List { items, .. } => add_list(pieces, part, items),
     }
 }

@@ -1,9 +1,9 @@
 //! The names in trees.
 
-ghost use Rattle.std.specs.Prelude.{◌≡◌, ◌++◌, OnOk};
+ghost use Rattle.std.specs.Prelude.{◌≡◌, ◌++◌, IfOk, OnOk};
 ghost use Rattle.cil_text.specs.Common.{trees_of};
 ghost use Rattle.cil_projection.specs.Pieces.{pieces_of};
-ghost use Rattle.cil_projection.specs.Forms.{name_or_operator, names_in};
+ghost use Rattle.cil_projection.specs.Forms.{Adds, expression_names, has_no_string, listed_names, name_or_operator, names_in};
 
 use crate::piece::Piece;
 use crate::table::Table;
@@ -11,17 +11,9 @@ use crate::words::is_among;
 use cil_text::{Tree, TreeSlice, Word};
 use std::alloc::{AllocError, Allocator};
 
-/// The words that are no names where names are listed.
-pub const OPERATORS: [&[u8]; 9] = [
-    b"and",
-    b"or",
-    b"xor",
-    b"not",
-    b"all",
-    b"eq",
-    b"neq",
-    b"range",
-    b"unordered",
+/// The words that are no names in expressions and in conditions.
+pub const OPERATORS: [&[u8]; 8] = [
+    b"and", b"or", b"xor", b"not", b"all", b"eq", b"neq", b"range",
 ];
 
 /// Adds a name that is needed, where the word is one and no operator.
@@ -62,4 +54,64 @@ pub fn add_names<'a, A: Allocator>(
         rest = behind;
     }
     Ok(())
+}
+
+/// Whether there is no string in trees, nor in the lists among them.
+#[cycle(strings)]
+fn has_no_string(trees: TreeSlice<'_, '_>) -> bool
+    ensures { result ≡ has_no_string (trees_of trees.entry) }
+{
+    let mut rest = trees;
+    while let Some((tree, behind)) = rest.split_first() {
+        match tree {
+            Tree::Word(_) => {}
+            Tree::String(_) => return false,
+            Tree::List { items, .. } => {
+                if !has_no_string(items) {
+                    return false;
+                }
+            }
+        }
+        rest = behind;
+    }
+    true
+}
+
+/// Adds the names of an expression, where there is no string in it.
+pub fn add_expression<'a, A: Allocator>(
+    pieces: &mut Vec<Piece<'a>, A>,
+    table: Table,
+    trees: TreeSlice<'_, 'a>,
+) -> Result<bool, AllocError>
+    ensures { IfOk result (λ fits. Adds pieces.old.items pieces.new.items fits
+        (expression_names table (trees_of trees.entry))) }
+{
+    if !has_no_string(trees) {
+        return Ok(false);
+    }
+    add_names(pieces, table, trees)?;
+    Ok(true)
+}
+
+/// Adds names, where trees are them and nothing else.
+pub fn add_listed<'a, A: Allocator>(
+    pieces: &mut Vec<Piece<'a>, A>,
+    table: Table,
+    trees: TreeSlice<'_, 'a>,
+) -> Result<bool, AllocError>
+    ensures { IfOk result (λ fits. Adds pieces.old.items pieces.new.items fits
+        (listed_names table (trees_of trees.entry))) }
+{
+    let mut rest = trees;
+    while let Some((tree, behind)) = rest.split_first() {
+        let Tree::Word(word) = tree else {
+            return Ok(false);
+        };
+        pieces.push(Piece::Needed {
+            table,
+            name: word.text,
+        })?;
+        rest = behind;
+    }
+    Ok(true)
 }

@@ -9,6 +9,7 @@ ghost use Rattle.cil_projection.specs.Statements.{of_first_list, rule_needs, rul
 ghost use Rattle.cil_specs.specs.Shape.{is_among};
 
 use crate::booleans::Booleans;
+use crate::branches::is_for;
 use crate::fit::{fit, fitted};
 use crate::part::Part;
 use crate::piece::Piece;
@@ -42,7 +43,7 @@ const NAMED_TYPE_RULE: [Part; 5] = [
     Part::Name(Table::Types),
     Part::Target,
     Part::Class,
-    Part::Other,
+    Part::Ignored,
     Part::Name(Table::Types),
 ];
 
@@ -157,11 +158,7 @@ impl<'w, 'm, A: Allocator + Copy> Choice<'w, 'm, A> {
         if self.booleans.takes_both() {
             return true;
         }
-        if self.holds {
-            branch == b"true".as_slice()
-        } else {
-            branch == b"false".as_slice()
-        }
+        is_for(self.holds, branch)
     }
 
     /// Adds the names that a branch needs, which is this tree.

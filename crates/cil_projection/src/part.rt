@@ -10,10 +10,14 @@ pub enum Part {
     Name(Table),
     /// A type, or `self`.
     Target,
-    /// A name, or a list of names and operators, lists of them inside it too.
+    /// A name, or an expression: a list of names and operators, lists of them inside it too.
+    Expression(Table),
+    /// A name, or a list of names.
     Names(Table),
+    /// `true` or `false`.
+    Truth,
     /// Anything. It isn't looked at.
-    Other,
+    Ignored,
     Class,
     /// A class, or a list of classes.
     Classes,

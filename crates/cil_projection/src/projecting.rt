@@ -18,7 +18,8 @@ use std::alloc::Allocator;
 pub const DECLARATIONS: &[u8] = b"\n(class cilsem__none ())(typeattribute cilsem__none)\n";
 
 /// A text with each statement outside the language that is taken by its names in the place of rules that need these and give nothing,
-/// and with the rules of conditional statements that are taken. Statements of the language stay as they are, on their lines.
+/// and with the rules of `booleanif`s and the statements of `tunableif`s that are taken. Statements of the language stay as they are, on
+/// their lines.
 ///
 /// # Errors
 ///
@@ -48,9 +49,10 @@ pub fn project<'a, A: Allocator + Copy>(
     };
     let projector = Projector { alloc, booleans };
     let mut pieces = Vec::new(alloc);
-    projector.add_statements(&mut pieces, whole, forest.trees())?;
+    projector.add_statements(&mut pieces, whole, true, forest.trees())?;
     tally.count_all(pieces.as_slice())?;
     let mut bytes = Vec::with_capacity(alloc, text.len())?;
     render(&mut bytes, text, pieces.as_slice())?;
+    bytes.shrink_to_fit();
     Ok(bytes)
 }

@@ -81,19 +81,19 @@ fn put_declared<A: Allocator>(
     Ok(())
 }
 
-/// Appends a rule that needs a name.
+/// Appends a rule that needs a name. It stands in the place of the source, where `self` is a name as others are.
 fn put_needed<A: Allocator>(
     out: &mut Vec<u8, A>,
     table: Table,
     name: &[u8],
 ) -> Result<(), AllocError>
     ensures { OnOk result (out.new.items ≡ out.old.items
-        ++ (codes "(dontaudit cilsem__none " ++ attribute_of table name.now
-        ++ codes " (cilsem__none ()))")) }
+        ++ (codes "(dontaudit " ++ attribute_of table name.now
+        ++ codes " cilsem__none (cilsem__none ()))")) }
 {
-    out.extend_from_slice(b"(dontaudit cilsem__none ")?;
+    out.extend_from_slice(b"(dontaudit ")?;
     put_attribute(out, table, name)?;
-    out.extend_from_slice(b" (cilsem__none ()))")?;
+    out.extend_from_slice(b" cilsem__none (cilsem__none ()))")?;
     Ok(())
 }
 

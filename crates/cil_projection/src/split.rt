@@ -3,6 +3,7 @@
 ghost use Rattle.std.specs.Prelude.{◌≡◌, ◌≢◌, MatchOption};
 ghost use Rattle.cil_specs.specs.Names.{Word as SpecWord};
 ghost use Rattle.cil_specs.specs.Trees.{Trees};
+ghost use Rattle.cil_specs.specs.Expr.{IsListThen};
 ghost use Rattle.cil_specs.specs.Shape.{put_word};
 ghost use Rattle.cil_text.specs.Common.{trees_of, word_of};
 
@@ -19,4 +20,19 @@ pub fn split_word<'t, 'a>(trees: TreeSlice<'t, 'a>) -> Option<(Word<'a>, TreeSli
         return None;
     };
     Some((word, rest))
+}
+
+/// The trees of the list in front, and the trees behind it.
+pub fn split_list<'t, 'a>(
+    trees: TreeSlice<'t, 'a>,
+) -> Option<(TreeSlice<'t, 'a>, TreeSlice<'t, 'a>)>
+    ensures { MatchOption result
+        ((items rest : Trees) → IsListThen (trees_of trees.entry) items rest → ⊥)
+        (λ found. IsListThen (trees_of trees.entry) (trees_of found.0) (trees_of found.1)) }
+{
+    let (first, rest) = trees.split_first()?;
+    let Tree::List { items, .. } = first else {
+        return None;
+    };
+    Some((items, rest))
 }

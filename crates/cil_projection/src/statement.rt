@@ -1,15 +1,17 @@
 //! Statements that hold no others.
 
-use crate::body::body_of;
+ghost use Rattle.std.specs.Prelude.{◌≡◌, ◌++◌, ◌∷◌, [], OnOk};
+ghost use Rattle.cil_projection.specs.Pieces.{copied, pieces_of};
+
 use crate::booleans::Booleans;
+use crate::branches::are_branches;
 use crate::by_names::{Span, by_names};
 use crate::condition::list_value;
 use crate::names::{add_name, add_names};
 use crate::needs::Choice;
 use crate::piece::Piece;
-use crate::split::split_word;
 use crate::table::Table;
-use cil_text::{Tree, TreeSlice};
+use cil_text::{Tree, TreeSlice, Word};
 use std::alloc::{AllocError, Allocator};
 
 /// What statements are projected by.
@@ -19,33 +21,49 @@ pub struct Projector<'w, 'm, A: Allocator> {
     pub booleans: &'w Booleans<'m, A>,
 }
 
+/// Adds a statement as it is.
+pub fn add_copied<'a, A: Allocator>(
+    pieces: &mut Vec<Piece<'a>, A>,
+    span: Span,
+) -> Result<(), AllocError>
+    ensures { OnOk result (pieces_of pieces.new.items
+        ≡ pieces_of pieces.old.items ++ copied span.from span.to ∷ []) }
+{
+    pieces.push(Piece::Copied {
+        from: span.from,
+        to: span.to,
+    })?;
+    Ok(())
+}
+
 impl<'w, 'm, A: Allocator + Copy> Projector<'w, 'm, A> {
     ghost use Rattle.std.specs.Prelude.{◌≡◌, ◌++◌, IfOk, OnOk, Some, option_map};
     ghost use Rattle.cil_text.specs.Common.{tree_then, trees_of};
     ghost use Rattle.cil_projection.specs.Pieces.{pieces_of};
     ghost use Rattle.cil_projection.specs.Conditions.{settings_of};
-    ghost use Rattle.cil_projection.specs.Statements.{chosen, condition_names, condition_value, conditional, or_copied, projected, statement};
+    ghost use Rattle.cil_projection.specs.Statements.{chosen, condition_names, condition_value, conditional, or_copied, statement};
     ghost use Rattle.cil_specs.specs.Trees.{Trees};
 
-    /// Adds the names of a condition, which is this tree, and finds its value.
-    fn add_condition<'a>(
+    /// Adds the names of a condition, which is this tree, and finds its value. The names are of this table.
+    pub fn add_condition<'a>(
         &self,
         names: &mut Vec<Piece<'a>, A>,
+        table: Table,
         tree: Tree<'_, 'a>,
     ) -> Result<Option<bool>, AllocError>
         ensures names { OnOk result ((rest : Trees) → pieces_of names.new.items ≡ pieces_of names.old.items
-            ++ condition_names (tree_then tree.entry rest)) }
+            ++ condition_names table (tree_then tree.entry rest)) }
         ensures value { IfOk result (λ found. (rest : Trees) → found
             ≡ condition_value (settings_of self.now.booleans.now) (tree_then tree.entry rest)) }
     {
         match tree {
             Tree::Word(word) => {
-                add_name(names, Table::Booleans, word)?;
+                add_name(names, table, word)?;
                 Ok(self.booleans.value(word.text))
             }
             Tree::String(_) => Ok(None),
             Tree::List { items, .. } => {
-                add_names(names, Table::Booleans, items)?;
+                add_names(names, table, items)?;
                 let value = list_value(self.alloc, self.booleans, items)?;
                 Ok(value)
             }
@@ -64,6 +82,9 @@ impl<'w, 'm, A: Allocator + Copy> Projector<'w, 'm, A> {
             ≡ chosen (settings_of self.now.booleans.now) span.from span.to (Some holds)
             (pieces_of names.entry.items) (trees_of branches.entry)) }
     {
+        if !are_branches(branches) {
+            return Ok(None);
+        }
         let choice = Choice {
             booleans: self.booleans,
             holds,
@@ -95,26 +116,24 @@ impl<'w, 'm, A: Allocator + Copy> Projector<'w, 'm, A> {
             return Ok(None);
         };
         let mut names = Vec::new(self.alloc);
-        let Some(holds) = self.add_condition(&mut names, condition)? else {
+        let Some(holds) = self.add_condition(&mut names, Table::Booleans, condition)? else {
             return Ok(None);
         };
         let found = self.chosen(span, holds, names, branches)?;
         Ok(found)
     }
 
-    /// The pieces of a statement of these trees that holds no others, where it is taken by its names.
+    /// The pieces of a statement with this first word that holds no others, where it is taken by its names.
     fn foreign<'a>(
         &self,
         span: Span,
-        items: TreeSlice<'_, 'a>,
+        word: Word<'a>,
+        arguments: TreeSlice<'_, 'a>,
     ) -> Result<Option<Vec<Piece<'a>, A>>, AllocError>
         ensures { IfOk result (λ found. option_map (λ pieces. pieces_of pieces.items) found
-            ≡ statement (settings_of self.now.booleans.now) span.from span.to
-            (trees_of items.entry)) }
+            ≡ statement (settings_of self.now.booleans.now) span.from span.to word.entry.text.now
+            (trees_of arguments.entry)) }
     {
-        let Some((word, arguments)) = split_word(items) else {
-            return Ok(None);
-        };
         if word.text == b"booleanif".as_slice() {
             let found = self.conditional(span, arguments)?;
             return Ok(found);
@@ -123,61 +142,22 @@ impl<'w, 'm, A: Allocator + Copy> Projector<'w, 'm, A> {
         Ok(found)
     }
 
-    /// Adds the pieces of a statement of these trees that holds no others.
-    fn add_statement<'a>(
+    /// Adds the pieces of a statement with this first word that holds no others.
+    pub fn add_statement<'a>(
         &self,
         pieces: &mut Vec<Piece<'a>, A>,
         span: Span,
-        items: TreeSlice<'_, 'a>,
+        word: Word<'a>,
+        arguments: TreeSlice<'_, 'a>,
     ) -> Result<(), AllocError>
         ensures { OnOk result (pieces_of pieces.new.items ≡ pieces_of pieces.old.items
             ++ or_copied span.from span.to (statement (settings_of self.now.booleans.now)
-            span.from span.to (trees_of items.entry))) }
+            span.from span.to word.entry.text.now (trees_of arguments.entry))) }
     {
-        let Some(mut found) = self.foreign(span, items)? else {
-            pieces.push(Piece::Copied {
-                from: span.from,
-                to: span.to,
-            })?;
-            return Ok(());
+        let Some(mut found) = self.foreign(span, word, arguments)? else {
+            return add_copied(pieces, span);
         };
         pieces.append(&mut found)?;
-        Ok(())
-    }
-
-    /// Adds the pieces of statements one after the other, from an offset on up to another, with all that stands between them.
-    #[cycle(statements)]
-    pub fn add_statements<'a>(
-        &self,
-        pieces: &mut Vec<Piece<'a>, A>,
-        span: Span,
-        trees: TreeSlice<'_, 'a>,
-    ) -> Result<(), AllocError>
-        ensures { OnOk result (pieces_of pieces.new.items ≡ pieces_of pieces.old.items
-            ++ projected (settings_of self.now.booleans.now) span.from (trees_of trees.entry)
-            span.to) }
-    {
-        let mut from = span.from;
-        let mut rest = trees;
-        while let Some((tree, behind)) = rest.split_first() {
-            if let Tree::List { at, end, items } = tree {
-                pieces.push(Piece::Copied {
-                    from,
-                    to: at.offset,
-                })?;
-                let inner = Span {
-                    from: at.offset,
-                    to: end,
-                };
-                match body_of(items) {
-                    Some(body) => self.add_statements(pieces, inner, body)?,
-                    None => self.add_statement(pieces, inner, items)?,
-                }
-                from = end;
-            }
-            rest = behind;
-        }
-        pieces.push(Piece::Copied { from, to: span.to })?;
         Ok(())
     }
 }

@@ -1,13 +1,14 @@
-use Rattle.std.proofs.Common.{◌∙◌, ap, true, false, Some}
+use Rattle.std.proofs.Common.{◌∙◌, ap, refl, true, false, Some}
 use Rattle.cil_text.specs.Common.{trees_of}
 use Rattle.cil_projection.specs.Forms.{classes_in, joined}
 use Rattle.cil_projection.specs.Pieces.{pieces_of}
-use Rattle.cil_projection.proofs.FormLemmas.{no_class, none_left}
+use Rattle.cil_projection.proofs.FormLemmas.{no_word_first, none_left}
 use Rattle.cil_projection.proofs.class.add_classes.Goals as goal
 
 pub returns-in_default-tree : goal.returns-in_default-tree
 returns-in_default-tree g c =
-    c.loop-tree.invariant c.loop-tree.pieces.items false (no_class c.in-Some.tree (trees_of c.loop-tree.rest) (trees_of c.in-Some.behind) c.in-Some.ensures c.in_default-tree.not-Word)
+    c.loop-tree.invariant c.loop-tree.pieces.items false
+    (no_word_first classes_in (λ at text rest. refl) (λ at end items rest. refl) c.in-Some.tree (trees_of c.loop-tree.rest) (trees_of c.in-Some.behind) c.in-Some.ensures c.in_default-tree.not-Word)
 
 pub returns : goal.returns
 returns g c =

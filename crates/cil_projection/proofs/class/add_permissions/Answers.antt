@@ -1,15 +1,15 @@
-use Rattle.std.proofs.Common.{◌∙◌, ◌≡◌, ap, sym, true, false, Some, None, List, [], ◌∷◌, cond}
+use Rattle.std.proofs.Common.{◌∙◌, ◌≡◌, ap, refl, sym, true, false, Some, None, List, [], ◌∷◌, cond}
 use Rattle.cil_specs.specs.Shape.{is_among}
 use Rattle.cil_text.specs.Common.{trees_of, tree_then}
 use Rattle.cil_projection.specs.Pieces.{Piece, permission, pieces_of}
 use Rattle.cil_projection.specs.Forms.{joined, operators, permissions_in}
-use Rattle.cil_projection.proofs.FormLemmas.{completes_more, no_permission, none_left, pushed_one}
+use Rattle.cil_projection.proofs.FormLemmas.{completes_more, no_word_first, none_left, pushed_one}
 use Rattle.cil_projection.proofs.class.add_permissions.Goals as goal
 
 pub returns-in_default-tree : goal.returns-in_default-tree
 returns-in_default-tree g c =
     c.loop-tree.invariant c.loop-tree.pieces.items false
-    (no_permission c.in-Some.tree (trees_of c.loop-tree.rest) (trees_of c.in-Some.behind) c.in-Some.ensures c.in_default-tree.not-Word)
+    (no_word_first permissions_in (λ at text rest. refl) (λ at end items rest. refl) c.in-Some.tree (trees_of c.loop-tree.rest) (trees_of c.in-Some.behind) c.in-Some.ensures c.in_default-tree.not-Word)
 
 pub returns : goal.returns
 returns g c =

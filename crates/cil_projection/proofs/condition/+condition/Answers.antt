@@ -1,15 +1,10 @@
-use Rattle.std.proofs.Common.{◌++◌, ◌∙◌, sym, ap, subst, refl, arith, true, false}
+use Rattle.std.proofs.Common.{◌++◌, ◌∙◌, sym, ap, subst, arith, true, false}
 use Rattle.std.specs.Option.{option_map}
 use Rattle.cil_text.specs.Common.{trees_of}
 use Rattle.cil_text.proofs.Nodes.{size_behind}
-use Rattle.cil_projection.specs.Conditions.{in_front, list_value, settings_of, values}
-use Rattle.cil_projection.proofs.FormLemmas.{without_word}
+use Rattle.cil_projection.specs.Conditions.{in_front, settings_of, values}
 use Rattle.cil_projection.proofs.ValueLemmas.{CompletesValues, completes_more, none_left, values_first}
 use Rattle.cil_projection.proofs.condition.+condition.Goals as goal
-
-pub list_value-returns-in_default : goal.list_value-returns-in_default
-list_value-returns-in_default g t c =
-    sym (without_word (list_value (settings_of c.args.booleans.now).value) refl (λ at text rest. refl) (λ at end items rest. refl) (trees_of c.args.items) c.in_default.ensures)
 
 pub add_values-returns-in_default-2 : goal.add_values-returns-in_default-2
 add_values-returns-in_default-2 g t c =

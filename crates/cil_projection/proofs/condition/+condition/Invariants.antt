@@ -9,6 +9,9 @@ use Rattle.cil_projection.proofs.condition.+condition.Given as goal
 abbrev pub decreases-list_value : goal.decreases-list_value
 decreases-list_value g l = 3 * tree_size (trees_of l.items) + 2
 
+abbrev pub decreases-applied_value : goal.decreases-applied_value
+decreases-applied_value g l = 3 * tree_size (trees_of l.operands) + 2
+
 abbrev pub decreases-value : goal.decreases-value
 decreases-value g l = 3 * tree_size (tree_then l.tree none)
 

@@ -1,51 +1,66 @@
-use Rattle.std.proofs.Common.{◌≡◌, ◌+◌, ◌∙◌, ap, arith}
-use Rattle.cil_specs.specs.Trees.{none}
-use Rattle.cil_text.specs.Common.{place_of, tree_then, trees_of}
-use Rattle.cil_text.proofs.Nodes.{tree_size, size_behind, size_first}
+use Rattle.std.proofs.Common.{◌≡◌, ◌++◌, ◌∷◌, [], ◌∙◌, OnOk, false, codes, sym, ap, subst, refl, arith}
+use Rattle.std.specs.Option.{option_map_or}
+use Rattle.cil_text.specs.Common.{tree_then, trees_of}
+use Rattle.cil_projection.specs.declared.table.Table.TheVariants.{Tunables}
+use Rattle.cil_projection.specs.Pieces.{blanked, copied, pieces_of, taken}
 use Rattle.cil_projection.specs.Conditions.{settings_of}
-use Rattle.cil_projection.specs.Statements.{or_copied, projected, statement}
-use Rattle.cil_projection.proofs.FormLemmas.{adds_more}
-use Rattle.cil_projection.proofs.BodyLemmas.{body_size, projected_body, projected_other}
+use Rattle.cil_projection.specs.Statements.{body_projected, branch_projected, condition_names, one_projected, projected, tunable_projected}
+use Rattle.cil_projection.proofs.FormLemmas.{added_one, names_behind, without_word_is}
+use Rattle.cil_projection.proofs.BranchLemmas.{branch_is, branch_size, tunable_is}
 use Rattle.cil_projection.proofs.statement.Projector.+statements.Goals as goal
 
-pub add_statements-requires : goal.add_statements-requires
-add_statements-requires g t c κs within =
-    let first = size_first (trees_of c.loop-tree.rest) c.in-Some.tree (trees_of c.in-Some.behind) c.in-Some.ensures in
-    let inside : tree_size (tree_then c.in-Some.tree none) ≡ tree_size (trees_of c.in-List.items) + 0 + 1 = ap (λ tree. tree_size (tree_then tree none)) c.in-List.is in
-    let body = body_size (trees_of c.in-List.items) (trees_of c.in-Some-body_of.body) c.in-Some-body_of.ensures in
-    (omega (arith, c.decreases, first, inside, body, c.loop-tree.invariant.smaller), within)
-
-pub loop-tree-preserved-in_ok-add_statements-in-Some-body_of : goal.loop-tree-preserved-in_ok-add_statements-in-Some-body_of
-loop-tree-preserved-in_ok-add_statements-in-Some-body_of g t c =
-    let settings = settings_of c.args.self.now.booleans.now in
-    let list = c.in-List in
+pub add_one-returns-in_default : goal.add_one-returns-in_default
+add_one-returns-in_default g t c =
+    let from = c.args.span.from in
     let to = c.args.span.to in
-    let from = c.loop-tree.from in
-    let rest = trees_of c.in-Some.behind in
-    let body = trees_of c.in-Some-body_of.body in
-    let front = c.in-Some.ensures ∙ ap (λ tree. tree_then tree rest) list.is in
-    let split = ap (λ trees. projected settings from trees to) front
-    ∙ projected_body settings from (place_of list.at) list.end (trees_of list.items) rest body to c.in-Some-body_of.ensures in
-    record {
-      added = adds_more c.loop-tree.pieces.items c.push.new.self.items c.add_statements.new.pieces.items _ (projected settings list.at.offset body list.end) (projected settings list.end rest to)
-          (projected settings from (trees_of c.loop-tree.rest) to) c.in_ok-push.ensures.items c.in_ok-add_statements-in-Some-body_of.ensures split ∙ c.loop-tree.invariant.added;
-      smaller = omega (arith, c.loop-tree.invariant.smaller, size_behind (trees_of c.loop-tree.rest) c.in-Some.tree rest c.in-Some.ensures);
-    }
-
-pub loop-tree-preserved-in_ok-add_statement-in-None : goal.loop-tree-preserved-in_ok-add_statement-in-None
-loop-tree-preserved-in_ok-add_statement-in-None g t c =
     let settings = settings_of c.args.self.now.booleans.now in
-    let list = c.in-List in
+    let is = without_word_is (copied from to ∷ []) (one_projected settings from to) refl (λ at text more. refl) (λ at end inner more. refl) (trees_of c.args.items) c.in_default.ensures in
+    subst (λ added. OnOk c.add_copied.result (pieces_of c.add_copied.new.pieces.items ≡ pieces_of c.args.pieces.now.items ++ added)) (sym is) c.add_copied.ensures
+
+pub add_body-returns-in_default : goal.add_body-returns-in_default
+add_body-returns-in_default g t c =
+    let from = c.args.span.from in
     let to = c.args.span.to in
-    let from = c.loop-tree.from in
-    let rest = trees_of c.in-Some.behind in
-    let items = trees_of list.items in
-    let front = c.in-Some.ensures ∙ ap (λ tree. tree_then tree rest) list.is in
-    let split = ap (λ trees. projected settings from trees to) front
-    ∙ projected_other settings from (place_of list.at) list.end items rest to c.in-None.ensures in
-    record {
-      added = adds_more c.loop-tree.pieces.items c.push.new.self.items c.add_statement.new.pieces.items _ (or_copied list.at.offset list.end (statement settings list.at.offset list.end items))
-          (projected settings list.end rest to) (projected settings from (trees_of c.loop-tree.rest) to) c.in_ok-push.ensures.items c.in_ok-add_statement-in-None.ensures split
-          ∙ c.loop-tree.invariant.added;
-      smaller = omega (arith, c.loop-tree.invariant.smaller, size_behind (trees_of c.loop-tree.rest) c.in-Some.tree rest c.in-Some.ensures);
-    }
+    let settings = settings_of c.args.self.now.booleans.now in
+    let is = without_word_is (copied from to ∷ []) (body_projected settings from to) refl (λ at text more. refl) (λ at end inner more. refl) (trees_of c.args.arguments) c.in_default.ensures in
+    subst (λ added. OnOk c.add_copied.result (pieces_of c.add_copied.new.pieces.items ≡ pieces_of c.args.pieces.now.items ++ added)) (sym is) c.add_copied.ensures
+
+pub add_branch-returns-in_default : goal.add_branch-returns-in_default
+add_branch-returns-in_default g t c =
+    let from = c.args.span.from in
+    let to = c.args.span.to in
+    let holds = c.args.holds in
+    let settings = settings_of c.args.self.now.booleans.now in
+    let branches = trees_of c.args.branches in
+    let is = ap (λ found. option_map_or (λ inner. projected settings false from inner to) found (blanked from to ∷ [])) c.in_default.ensures ∙ branch_is settings holds from to branches in
+    added_one c.args.pieces.now.items c.push.new.self.items _ c.in_ok-push.ensures.items ∙ ap (λ added. pieces_of c.args.pieces.now.items ++ added) is
+
+pub add_branch-add_statements-requires : goal.add_branch-add_statements-requires
+add_branch-add_statements-requires g t c κs within =
+    (omega (arith, c.decreases, branch_size c.args.holds (trees_of c.in-Some.inner) (trees_of c.args.branches) c.in-Some.ensures), within)
+
+pub add_branch-returns : goal.add_branch-returns
+add_branch-returns g t c =
+    let from = c.args.span.from in
+    let to = c.args.span.to in
+    let holds = c.args.holds in
+    let settings = settings_of c.args.self.now.booleans.now in
+    let branches = trees_of c.args.branches in
+    let is = ap (λ found. option_map_or (λ inner. projected settings false from inner to) found (blanked from to ∷ [])) c.in-Some.ensures ∙ branch_is settings holds from to branches in
+    subst (λ added. OnOk c.add_statements.result (pieces_of c.add_statements.new.pieces.items ≡ pieces_of c.args.pieces.now.items ++ added)) is c.add_statements.ensures
+
+pub add_tunable-returns : goal.add_tunable-returns
+add_tunable-returns g t c =
+    let from = c.args.span.from in
+    let to = c.args.span.to in
+    let settings = settings_of c.args.self.now.booleans.now in
+    let inner = trees_of c.in-Some.branches in
+    let holds = c.in-Some-2.holds in
+    let kept = branch_projected settings holds from to inner in
+    let old = c.args.pieces.now.items in
+    let names = c.in_ok-holds.ensures.names inner ∙ ap (λ l. pieces_of l ++ condition_names Tunables (tree_then c.in-Some.condition inner)) c.new-names.ensures.items in
+    let branches = sym c.are_branches.ensures ∙ c.if-not-are_branches.false in
+    let value = sym c.in-Some-2.is ∙ c.in_ok-holds.ensures.value inner in
+    names_behind old c.add_branch.new.pieces.items c.push.new.self.items c.append.new.self.items c.add_condition.new.names.items _ kept c.in_ok-add_branch.ensures c.in_ok-push.ensures.items c.in_ok-append.ensures.items
+    ∙ ap (λ names. pieces_of old ++ (kept ++ taken (codes "tunableif") ∷ names)) names
+    ∙ ap (λ added. pieces_of old ++ added) (tunable_is settings from to c.in-Some.condition inner holds branches value ∙ ap (tunable_projected settings from to) (sym c.in-Some.ensures))
