@@ -1,5 +1,5 @@
 -- Entries and names in order, by their places.
-use Rattle.cil_store.proofs.Common.{◌≡◌, ℕ, zero, suc, ◌-◌, ◌<◌, ◌≤◌, ◌==◌, Bool, true, false, List, [], ◌∷◌, ◌++◌, length, take, drop, filter, not, get_or, slice_set, bytes_eq, Some, Result, Ok, Err, OnOk, OnErr, refl, sym, ap, ◌∙◌, subst, true≢false, arith, insert, remove, prefix_len, list_any, IsStrictlySortedBy, IsPartitionedBy, IsPartitionPoint, MatchOption, is_lt, nat_cmp, ordering_then, Ordering, Less, Equal, Greater, nat_list_cmp_total, ranked, tied_itself, slice_get_read, name_cmp, IsTiedAt, leaves, partitioned, prefix-of-point, Entry, entry_cmp, is_entry, put_by, puts, entry_at}
+use Rattle.cil_store.proofs.Common.{◌≡◌, ℕ, zero, suc, ◌<◌, ◌≤◌, ◌==◌, Bool, true, false, List, [], ◌∷◌, ◌++◌, length, take, drop, filter, not, get_or, slice_set, bytes_eq, Some, Result, Ok, Err, OnOk, OnErr, refl, sym, ap, ◌∙◌, subst, true≢false, arith, insert, remove, prefix_len, list_any, IsStrictlySortedBy, IsPartitionedBy, IsPartitionPoint, MatchOption, is_lt, nat_cmp, ordering_then, Ordering, Less, Equal, Greater, nat_list_cmp_total, ranked, tied_itself, slice_get_read, name_cmp, IsTiedAt, leaves, partitioned, prefix-of-point, Entry, entry_cmp, is_entry, put_by, puts, entry_at}
 use Rattle.std.specs.Cmp.{IsTotalOrder}
 use Rattle.std.proofs.Common.{slice_get}
 use Rattle.std.specs.Cmp.{nat_cmp_is}

@@ -1,12 +1,11 @@
 //! Entries that are compiled at once.
 
 ghost use Rattle.std.specs.Prelude.{◌≡◌, ◌≤◌, List, IfErr, IfOk, IsErrOf, OnErr, flat_map, length, map};
-ghost use Rattle.cil_store.specs.Common.{HasFailed, Gains, GainsFront, is_in_table, AreAtoms, Row, row_line, Violation, AreViolations, violations_text, meaning_in, listed, Of, accepts, install_of, AreRowsOf, AreViolationsOf, empty, refusal_of, AreRefused, entry_of};
+ghost use Rattle.cil_store.specs.Common.{HasFailed, Gains, GainsFront, is_in_table, AreAtoms, Row, row_line, Violation, AreViolations, violations_text, meaning_in, listed, IsMeaningOf, Of, accepts, install_of, AreRowsOf, AreViolationsOf, Store, empty, refusal_of, AreRefused, entry_of};
 
 use crate::compiled::WriteFault;
 use crate::counted_policy::{CountedPolicy, Prepared, SharedPolicy};
 use crate::entry::Entry;
-use crate::modules::Store;
 use crate::refusal::Refusal;
 use crate::resolving::resolve_nothing;
 use cil_counters::violations_at_once;
@@ -18,25 +17,25 @@ use cil_violations::Violations;
 use std::alloc::{AllocError, Allocator, Global};
 use std::marker::Model;
 
-/// A store that entries led to, with its policy, of which nothing is counted: what is written of it is worked out then, from nothing.
+/// The policy that a list of entries leads to, without its store. Nothing of it is counted: what is written of it is worked out
+/// then, from nothing. Contracts see it as the resolved policy.
 #[derive(Drop)]
 pub struct Policy<A: Allocator = Global> {
     alloc: A,
     seed: Seed,
-    store: Store<A>,
     policy: SharedPolicy<A>,
 }
 
 impl<A: Allocator> Model for Policy<A> {
-    ghost use Rattle.cil_resolve.specs.Resolved.{meaning_in};
-    ghost use Rattle.cil_store_specs.specs.Next.{IsMeaningOf};
-    ghost use Rattle.cil_store_specs.specs.Store.{Store};
+    ghost use Rattle.std.specs.Coded.{codes};
+    ghost use Rattle.std.proofs.Props.{props};
+    ghost use Rattle.cil_resolve.specs.declared.resolved.Resolved.{Resolved};
 
-    ghost Value = { Store };
+    ghost Value = { Resolved A };
 
-    ghost view = { λ p. p.store };
+    ghost coded = { Prim.hlevel (codes, props) };
 
-    ghost invariant = { λ p. IsMeaningOf p.store (meaning_in p.policy) };
+    ghost view = { λ p. p.policy };
 }
 
 /// The accesses that a listing of a policy has, counted from nothing.
@@ -67,9 +66,11 @@ fn violations_of<A: Allocator + Copy>(
 
 impl<A: Allocator + Copy> Policy<A> {
     /// Compiles a list of entries: each is installed in turn in an empty store, whose tables of names are hashed by a seed, and the
-    /// policy is judged once, at the end.
+    /// policy is judged once, at the end. The store is given up then.
     pub fn of(alloc: A, seed: Seed, entries: &[Entry<'_>]) -> Result<Self, Refusal<A>>
-        ensures ok { IfOk result (λ policy. Of (map entry_of entries.now) (accepts policy)) }
+        ensures ok { IfOk result (λ policy. (store : Store)
+            × Of (map entry_of entries.now) (accepts store)
+            × IsMeaningOf store (meaning_in policy)) }
         ensures err { IfErr result (λ refusal.
             AreRefused empty (map install_of (map entry_of entries.now)) (refusal_of refusal)) }
     {
@@ -77,17 +78,18 @@ impl<A: Allocator + Copy> Policy<A> {
         Ok(Policy {
             alloc,
             seed,
-            store: prepared.store,
             policy: prepared.policy,
         })
     }
 
     /// Writes the listing, a line for each row, and tells how many there are.
     pub fn write_listing<W: Sink>(&self, sink: &mut W) -> Result<u128, WriteFault>
-        ensures ok { IfOk result (λ n. (rows : List Row) × AreRowsOf self.now rows
+        ensures ok { (store : Store) → IsMeaningOf store (meaning_in self.now) → IfOk result (λ n.
+            (rows : List Row) × AreRowsOf store rows
             × (n ≡ length rows)
             × Gains (W.taken sink.old) (W.taken sink.new) (flat_map row_line rows)) }
-        ensures err { OnErr result ((rows : List Row) × AreRowsOf self.now rows
+        ensures err { (store : Store) → IsMeaningOf store (meaning_in self.now) → OnErr result (
+            (rows : List Row) × AreRowsOf store rows
             × GainsFront (W.taken sink.old) (W.taken sink.new) (flat_map row_line rows)) }
         ensures memory { IsErrOf result WriteFault.Memory → W.taken sink.new ≡ W.taken sink.old }
         ensures failed { IsErrOf result WriteFault.Sink → HasFailed (W.failures sink.old) (W.failures sink.new) }
@@ -104,12 +106,13 @@ impl<A: Allocator + Copy> Policy<A> {
 
     /// Writes the violations of neverallow rules, a line for each, and tells how many there are.
     pub fn write_violations<W: Sink>(&self, sink: &mut W) -> Result<usize, WriteFault>
-        ensures ok { IfOk result (λ n.
-            (violations : List Violation) × AreViolationsOf self.now violations
+        ensures ok { (store : Store) → IsMeaningOf store (meaning_in self.now) → IfOk result (λ n.
+            (violations : List Violation) × AreViolationsOf store violations
             × (n ≡ length violations)
             × Gains (W.taken sink.old) (W.taken sink.new) (violations_text violations)) }
-        ensures err { IsErrOf result WriteFault.Sink →
-            (violations : List Violation) × AreViolationsOf self.now violations
+        ensures err { (store : Store) → IsMeaningOf store (meaning_in self.now)
+            → IsErrOf result WriteFault.Sink
+            → (violations : List Violation) × AreViolationsOf store violations
             × GainsFront (W.taken sink.old) (W.taken sink.new) (violations_text violations) }
         ensures memory { IsErrOf result WriteFault.Memory → W.taken sink.new ≡ W.taken sink.old }
         ensures failed { IsErrOf result WriteFault.Sink → HasFailed (W.failures sink.old) (W.failures sink.new) }

@@ -1,9 +1,11 @@
 //! The compilation of entries at once.
 
 ghost use Rattle.std.specs.Prelude.{◌≡◌, ◌⊎◌, ◌≤◌, [], List, ℕ, map, length, IfOk, IsErrOf, OnErr};
-ghost use Rattle.cil_program.specs.Common.{Gains, GainsFront, HasFailed, for_memory, Of, accepts, refusal_line, entry_of, Compiles};
+ghost use Rattle.cil_program.specs.Common.{Gains, GainsFront, HasFailed, for_memory, IsMeaningOf, Of, accepts, Store, entry_of, Compiles};
+ghost use Rattle.cil_resolve.specs.Resolved.{meaning_in};
+ghost use Rattle.cil_program.specs.Meanings.{refusal_text};
 
-use crate::script::reply;
+use crate::command_line::meanings::{write_no_memory, write_refusal};
 use cil_store::{Entry, Policy, Seed, WriteFault};
 use cil_stream::{Sink, SinkFault};
 use std::alloc::Allocator;
@@ -17,38 +19,43 @@ pub enum Report {
     Violations,
 }
 
-/// What is asked of a compilation: what is written, and what the tables of names are hashed by.
+/// What is asked of a compilation: what is written, whether refusals are explained, and what the tables of names are hashed by.
 #[derive(Clone, Copy)]
 pub struct Asked {
     pub report: Report,
+    pub explained: bool,
     pub seed: Seed,
 }
 
-/// Writes that memory ran out, and gives the exit status.
-pub fn refuse_for_memory<E: Sink>(err: &mut E) -> Result<u8, SinkFault>
+/// Writes that memory ran out, and what that means where it is explained, and gives the exit status.
+pub fn refuse_for_memory<E: Sink>(err: &mut E, explained: bool) -> Result<u8, SinkFault>
     ensures ok { IfOk result (λ status. (status ≡ 1)
-        × Gains (E.taken err.old) (E.taken err.new) (refusal_line for_memory)) }
+        × Gains (E.taken err.old) (E.taken err.new) (refusal_text explained for_memory)) }
     ensures err { OnErr result
-        (GainsFront (E.taken err.old) (E.taken err.new) (refusal_line for_memory)) }
+        (GainsFront (E.taken err.old) (E.taken err.new) (refusal_text explained for_memory)) }
     ensures failed { OnErr result (HasFailed (E.failures err.old) (E.failures err.new)) }
     ensures counted { E.failures err.old ≤ E.failures err.new }
 {
-    reply::write_no_memory(err)?;
+    write_no_memory(err, explained)?;
     Ok(1)
 }
 
-/// Writes a report, and gives the exit status.
+/// Writes a report of the policy of a store, and gives the exit status.
 fn write_report<W: Sink, A: Allocator + Copy>(
     policy: &Policy<A>,
     report: Report,
     out: &mut W,
 ) -> Result<u8, WriteFault>
-    ensures ok { (entries : _) → Of entries (accepts policy.now) → IfOk result (λ status. (printed : List ℕ)
-        × Gains (W.taken out.old) (W.taken out.new) printed × Compiles entries report printed [] status) }
-    ensures err { (entries : _) → Of entries (accepts policy.now)
+    ensures ok { (explained : _) (entries : _) (store : Store)
+        → Of entries (accepts store) → IsMeaningOf store (meaning_in policy.now)
+        → IfOk result (λ status. (printed : List ℕ)
+        × Gains (W.taken out.old) (W.taken out.new) printed
+        × Compiles explained entries report printed [] status) }
+    ensures err { (explained : _) (entries : _) (store : Store)
+        → Of entries (accepts store) → IsMeaningOf store (meaning_in policy.now)
         → IsErrOf result WriteFault.Sink → (printed : List ℕ) × (status : ℕ)
         × GainsFront (W.taken out.old) (W.taken out.new) printed
-        × Compiles entries report printed [] status }
+        × Compiles explained entries report printed [] status }
     ensures memory { IsErrOf result WriteFault.Memory → W.taken out.new ≡ W.taken out.old }
     ensures failed { IsErrOf result WriteFault.Sink → HasFailed (W.failures out.old) (W.failures out.new) }
     ensures counted { W.failures out.old ≤ W.failures out.new }
@@ -81,11 +88,11 @@ pub fn compile_entries<W: Sink, E: Sink, A: Allocator + Copy>(
     ensures ok { IfOk result (λ status. (printed : List ℕ) × (told : List ℕ)
         × Gains (W.taken out.old) (W.taken out.new) printed
         × Gains (E.taken err.old) (E.taken err.new) told
-        × Compiles (map entry_of entries.now) asked.report printed told status) }
+        × Compiles asked.explained (map entry_of entries.now) asked.report printed told status) }
     ensures err { OnErr result ((printed : List ℕ) × (told : List ℕ) × (status : ℕ)
         × GainsFront (W.taken out.old) (W.taken out.new) printed
         × GainsFront (E.taken err.old) (E.taken err.new) told
-        × Compiles (map entry_of entries.now) asked.report printed told status) }
+        × Compiles asked.explained (map entry_of entries.now) asked.report printed told status) }
     ensures failed { OnErr result (HasFailed (W.failures out.old) (W.failures out.new)
         ⊎ HasFailed (E.failures err.old) (E.failures err.new)) }
     ensures out_counted { W.failures out.old ≤ W.failures out.new }
@@ -94,13 +101,13 @@ pub fn compile_entries<W: Sink, E: Sink, A: Allocator + Copy>(
     let policy = match Policy::of(alloc, asked.seed, entries) {
         Ok(policy) => policy,
         Err(refusal) => {
-            reply::write_refusal(err, &refusal)?;
+            write_refusal(err, &refusal, asked.explained)?;
             return Ok(1);
         }
     };
     match write_report(&policy, asked.report, out) {
         Ok(status) => Ok(status),
-        Err(WriteFault::Memory) => refuse_for_memory(err),
+        Err(WriteFault::Memory) => refuse_for_memory(err, asked.explained),
         Err(WriteFault::Sink) => Err(SinkFault),
     }
 }

@@ -6,10 +6,8 @@ returns-in_err-prepared-clause-err g c =
     let made = err_from_is_err_and c.from_residual.result c.from_residual.ensures.1 in
     rw (made.1, made.2) c.in_err-prepared.ensures.err
 
-pub invariant_of-result : goal.invariant_of-result
-invariant_of-result g c = c.in_ok-prepared.ensures.means
-
 pub returns-clause-ok : goal.returns-clause-ok
 returns-clause-ok g c =
     let to : Store = c.in_ok-prepared.prepared.store in
-    all_good to (meaning_in c.in_ok-prepared.prepared.policy) c.in_ok-prepared.ensures.taken c.in_ok-prepared.ensures.means refl
+    let means = c.in_ok-prepared.ensures.means in
+    (to, all_good to (meaning_in c.in_ok-prepared.prepared.policy) c.in_ok-prepared.ensures.taken means refl, means)
