@@ -15,6 +15,11 @@ _cilsem() {
             COMPREPLY=($(compgen -W 'default both' -- "$word"))
             return
             ;;
+        -o | --output)
+            compopt -o filenames
+            COMPREPLY=($(compgen -d -- "$word"))
+            return
+            ;;
     esac
     case $command in
         compile | project)
@@ -22,6 +27,8 @@ _cilsem() {
                 local options='--booleans --help'
                 if [ "$command" = compile ]; then
                     options="--violations --foreign $options"
+                else
+                    options="--list --output $options"
                 fi
                 COMPREPLY=($(compgen -W "$options" -- "$word"))
             else

@@ -1,5 +1,5 @@
 -- The batch of a session.
-use Rattle.cil_program.proofs.Common.{◌≡◌, ◌++◌, ◌∷◌, [], ℕ, ◌+◌, ◌≤◌, ◌||◌, Bool, true, false, nat_le, List, length, take, min, nat_lt, Option, Some, None, Ok, Err, refl, ap, sym, ◌∙◌, subst, length-append, length-take, arith, sum_by, take_all, Edit, install, remove, enable, disable, held_bytes, is_too_long, Batch, all_held, IsHeld, holds, passes_the_limits, has_no_memory, held_as, name_of, behind_fault, given_up, held_of, opened, held_answer, CanHold, IsOpen, Adds, IsGiven, TooLong, Memory}
+use Rattle.cil_program.proofs.Common.{◌≡◌, ◌++◌, ◌∷◌, [], ℕ, ◌+◌, ◌||◌, Bool, true, false, nat_le, List, length, take, min, nat_lt, Option, Some, None, Ok, Err, refl, ap, sym, ◌∙◌, subst, length-append, length-take, arith, sum_by, take_all, Edit, install, remove, enable, disable, held_bytes, is_too_long, Batch, all_held, IsHeld, holds, passes_the_limits, has_no_memory, held_as, name_of, behind_fault, given_up, held_of, opened, held_answer, CanHold, IsOpen, Adds, IsGiven, TooLong, Memory}
 use Rattle.std.proofs.lemmas.Bool.{leb-true}
 use Rattle.std.proofs.lemmas.Bool.Decides.{nat_tests}
 use Rattle.std.proofs.lemmas.List.Sums.{sum_by-append, sum_by-cons}

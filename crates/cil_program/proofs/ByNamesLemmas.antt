@@ -1,11 +1,10 @@
 -- What is done with one thing more, and files by their paths and texts.
-use Rattle.std.proofs.Common.{◌≡◌, ◌++◌, ◌∷◌, ◌⊎◌, inl, inr, [], All, List, ℕ, arith, ap, map, refl, subst, sym}
+use Rattle.std.proofs.Common.{◌≡◌, ◌∙◌, ◌++◌, ◌∷◌, ◌⊎◌, inl, inr, true, [], All, List, ℕ, append-nil, arith, ap, map, refl, subst, sym}
 use Rattle.std.specs.Prelude.{Contains}
 use Rattle.std.specs.List.{AllZip, concat, flat_map}
 use Rattle.std.proofs.lemmas.List.Elements.{All-head, All-tail}
 use Rattle.cil_specs.proofs.NamesLemmas.{contains-cases, contains-first, contains-other}
-use Rattle.cil_store_specs.specs.Next.{Refusal}
-use Rattle.cil_store_specs.specs.Script.{refusal_line}
+use Rattle.cil_store_specs.specs.Next.{Refusal, for_memory}
 use Rattle.cil_store_specs.specs.Store.{Entry}
 use Rattle.cil_projection.specs.Conditions.{Settings}
 use Rattle.cil_projection.specs.Statements.{Projects}
@@ -13,12 +12,14 @@ use Rattle.cil_specs.specs.TextFault.{TextFault}
 use Rattle.cil_text.specs.Image.{FaultIs, kind_of, place_of, shown}
 use Rattle.cil_text.specs.declared.fault.TextFault.{TextFault as CodeFault}
 use Rattle.cil_text.specs.declared.fault.TextFault.TheVariants as text_faults
-use Rattle.cil_program.specs.ByNames.{AnswersByNames, AreEntriesFor, AreHindered, AreProjections, InTurn, IsRefusalBy, is_at_fault, is_longer, none_held, one_not_projected}
+use Rattle.cil_program.specs.ByNames.{AnswersByNames, AreEntriesFor, AreHindered, AreProjections, InTurn, IsRefusalBy, hint_by, is_at_fault, is_longer, none_held, one_not_projected}
 use Rattle.cil_program.specs.CommandLine.{Content, IsEntryFor, IsReadOf}
 use Rattle.cil_program.specs.Conditionals.{Conditionals}
+use Rattle.cil_program.specs.Meanings.{refusal_text}
+use Rattle.cil_program.specs.Packed.{packed_text}
+use Rattle.cil_program.specs.Wanted.{Wanted}
 use Rattle.cil_program.specs.declared.command_line.foreign.NotProjected.{NotProjected}
 use Rattle.cil_program.specs.declared.command_line.foreign.NotProjected.TheVariants.{AtFault, TooLong, Memory}
-use Rattle.cil_program.specs.declared.command_line.foreign.Wanted.{Wanted}
 
 pub in_turn-more : {X S : Type 0} (R : X → S → S → Type 0) (xs : List X) (x : X) (old mid new : S) → InTurn R xs old mid → R x mid new → InTurn R (xs ++ x ∷ []) old new
 in_turn-more R [] x old mid new same done = (new, subst (λ m. R x m new) same done, refl)
@@ -75,18 +76,23 @@ a-file content path text (f ∷ files) p t read c =
     )
     by (inr other) others = let found = others other in (contains-other (path f) (map path files) p found.0, found.1)
 
+-- nothing is told behind it where memory ran out
+no-hint : (refusal : Refusal) → refusal ≡ for_memory → refusal_text true refusal ++ [] ≡ refusal_text true for_memory
+no-hint refusal is = append-nil (refusal_text true refusal) ∙ ap (refusal_text true) is
+
 -- the refusal of files that aren't projected answers them
 pub refused-by : {X : Type 0} (content : List ℕ → Content) (path text : X → List ℕ) (files : List X) (conditionals : Conditionals) (wanted : Wanted) (why : NotProjected) (refusal : Refusal)
     → All (λ f. IsReadOf (content (path f)) (text f)) files → AreHindered (map (λ f. (path f, text f)) files) why → IsRefusalBy why refusal
-    → AnswersByNames content (map path files) conditionals wanted [] (refusal_line refusal) 1
-refused-by content path text files conditionals wanted (AtFault p text_faults.Memory) refusal read hindered is = none_held refl (ap refusal_line is) refl
-refused-by content path text files conditionals wanted (AtFault p (text_faults.Found kind at word)) refusal read hindered is =
+    → AnswersByNames content (map path files) conditionals wanted [] (refusal_text true refusal ++ hint_by why) 1
+refused-by content path text files conditionals wanted (AtFault p text_faults.Memory packed) refusal read hindered is = none_held refl (no-hint refusal is) refl
+refused-by content path text files conditionals wanted (AtFault p (text_faults.Found kind at word) packed) refusal read hindered is =
     let found = a-file content path text files p.now hindered.0 read hindered.1 in
-    one_not_projected p.now hindered.0 is.0 refusal found.0 found.1 is.1 (is_at_fault (record { kind = kind_of kind; at = place_of at; word = shown word }) hindered.2 is.2) refl refl refl
+    one_not_projected p.now hindered.0 is.0 (packed_text packed) refusal found.0 found.1 is.1
+    (is_at_fault (record { kind = kind_of kind; at = place_of at; word = shown word }) hindered.2 is.2 (ap packed_text hindered.3)) refl refl refl
 refused-by content path text files conditionals wanted (TooLong p) refusal read hindered is =
     let found = a-file content path text files p.now hindered.0 read hindered.1 in
-    one_not_projected p.now hindered.0 is.0 refusal found.0 found.1 is.1 (is_longer hindered.2 is.2) refl refl refl
-refused-by content path text files conditionals wanted Memory refusal read hindered is = none_held refl (ap refusal_line is) refl
+    one_not_projected p.now hindered.0 is.0 [] refusal found.0 found.1 is.1 (is_longer hindered.2 is.2 refl) refl refl refl
+refused-by content path text files conditionals wanted Memory refusal read hindered is = none_held refl (no-hint refusal is) refl
 
 -- the entries of files are those for their paths and texts
 pub entries-for : {X Y : Type 0} (path text : X → List ℕ) (entry : Y → Entry) (files : List X) (entries : List Y) → AllZip (λ f e. IsEntryFor (path f) (text f) (entry e)) files entries

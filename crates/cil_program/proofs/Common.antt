@@ -1,14 +1,17 @@
 -- The names from elsewhere that this crate's proofs cite most, passed on from one place.
 pub use Rattle.cil_program.specs.Batch.{Adds, CanHold, IsGiven, IsOpen, behind_fault, given_up, held_answer, held_of, opened}
-pub use Rattle.cil_program.specs.ByNames.{AnswersByNames, AnswersProjected, AreProjected, answers, are_compiled, are_not_held, are_printed, none_held, note_line, one_unreadable}
+pub use Rattle.cil_program.specs.ByNames.{AnswersByNames, AnswersProjected, AreProjected, answers, are_compiled, are_counted, are_not_held, are_printed, are_stored, hint_by, none_held, note_line, one_unreadable, one_unwritable, unreadable_text}
 pub use Rattle.cil_program.specs.CommandLine.{Compiles, CompilesFiles, Content, IsBaseName, IsEntryAt, IsEntryFor, IsReadOf, compiles, exit_status_of, is_not_held, is_refused, is_unreadable, lacks_memory, lists, status_of_violations, tells, unreadable_line, untold}
 pub use Rattle.cil_program.specs.Conditionals.{Conditionals, Foreign, by_names, conditionals_in, foreign_in, misuse_text, misused, refused as refused_foreign}
 pub use Rattle.cil_program.specs.Dump.{disable_command, edit_command, install_command}
+pub use Rattle.cil_program.specs.Given.{AnswersGiven, answers_files, lists_none}
 pub use Rattle.cil_program.specs.HeldEdit.{held_edit}
 pub use Rattle.cil_program.specs.Input.{EndsLine, Fits, HasRead, HasStopped, Held, IsOther, IsShort, IsWholeText, Takes, stays}
-pub use Rattle.cil_program.specs.Program.{IsCompiled, IsProjected, IsReportAsked, IsReportFor, IsToBePrinted, IsToBeWritten, bare_program, conditionals_asked, files_asked, foreign_asked, is_misuse, lacks_memory_for_it, program_app}
+pub use Rattle.cil_program.specs.Meanings.{refusal_text}
+pub use Rattle.cil_program.specs.Program.{IsCompiled, IsProjected, IsReportAsked, IsReportFor, IsToBePrinted, IsToBeWritten, IsWanted, bare_program, conditionals_asked, files_asked, foreign_asked, is_misuse, lacks_memory_for_it, program_app}
 pub use Rattle.cil_program.specs.Reply.{Writes, counts_line}
 pub use Rattle.cil_program.specs.Session.{Advances, AllDone, AnswersBatch, AreGoodWords, Comes, Does, HasAnswered, HasBegun, HasTold, HasToldSome, IsAnswerFor, IsBad, IsInstallCut, IsInstallOutcome, IsLast, IsLeftAside, IsLineCut, IsOutcome, IsSessionCut, IsTurn, IsTurnCut, IsWhole, Leaves, LeavesByRead, LeavesByWrite, Makes, Moment, Point, Progress, Standing, Tries, after_answer, answer_aside, batch_behind, end_of, install_line, outcome_of, status_at, status_of, stood, told, turn_by, turn_of}
+pub use Rattle.cil_program.specs.Wanted.{Wanted, compiled, in_folder, projections, wanted_in}
 pub use Rattle.cil_program.specs.declared.script.batch.NotHeld.TheVariants.{Memory, TooLong}
 pub use Rattle.cil_program.specs.declared.script.input.LineEnd.TheVariants.{LastByte, LineFeed}
 pub use Rattle.cil_program.specs.declared.script.outcome.SessionFault.{SessionFault}

@@ -7,6 +7,9 @@ pub mod AnswerLemmas
 pub mod SessionLemmas
 pub mod ScriptLemmas
 pub mod ReplyLemmas
+pub mod MeaningLemmas
 pub mod CommandLineLemmas
+pub mod ZipLemmas
 pub mod ByNamesLemmas
+pub mod GivenLemmas
 pub mod LawLemmas

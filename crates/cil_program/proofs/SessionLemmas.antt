@@ -1,5 +1,5 @@
 -- A line of a script, and a turn of a session.
-use Rattle.cil_program.proofs.Common.{◌≡◌, ◌≢◌, ℕ, ◌+◌, ◌≤◌, Bool, true, false, List, [], ◌∷◌, ◌++◌, length, IsTrue, IfErr, IsErr, IsErrAnd, Option, Result, Ok, Err, inl, inr, refl, ap, sym, ◌∙◌, subst, append_assoc, append-nil, length-append, true≢false, arith, list_all, list_all-append, HasEnded, has_ended, install, remove, enable, disable, Answer, Answers, Command, makes, begins, commits, aborts, asks_rules, asks_violations, asks_dropped, asks_modules, asks_dump, line_of, behind, HasGoodWords, IsCommand, MayLackItsEnd, IsNoCommand, BeginsNoCommand, a_line, end_line, Gains, GainsFront, HasFailed, front-longer, both_true, Fits, HasStopped, EndsLine, stays, Writes, Moment, Progress, Advances, outcome_of, HasAnswered, HasBegun, Tries, HasTold, HasToldSome, Does, AreGoodWords, install_line, IsInstallOutcome, IsInstallCut, IsWhole, IsBad, IsOutcome, IsLineCut, IsTurn, IsTurnCut, Point, State, Comes, told, turn_by, turn_of, failed-later, LineFeed, LastByte, SessionFault, Read, Write}
+use Rattle.cil_program.proofs.Common.{◌≡◌, ◌≢◌, ℕ, ◌+◌, ◌≤◌, Bool, true, false, List, [], ◌∷◌, ◌++◌, length, IsTrue, IsErrAnd, Option, Result, Ok, Err, inl, inr, refl, ap, sym, ◌∙◌, subst, append_assoc, append-nil, length-append, true≢false, arith, list_all, list_all-append, HasEnded, has_ended, install, remove, enable, disable, Answer, Answers, Command, makes, begins, commits, aborts, asks_rules, asks_violations, asks_dropped, asks_modules, asks_dump, line_of, behind, HasGoodWords, IsCommand, MayLackItsEnd, IsNoCommand, BeginsNoCommand, a_line, end_line, Gains, GainsFront, HasFailed, front-longer, both_true, Fits, HasStopped, EndsLine, stays, Writes, Moment, Progress, Advances, outcome_of, HasAnswered, HasBegun, Tries, HasTold, HasToldSome, Does, AreGoodWords, install_line, IsInstallOutcome, IsInstallCut, IsWhole, IsBad, IsOutcome, IsLineCut, IsTurn, IsTurnCut, Point, State, Comes, told, turn_by, turn_of, failed-later, LineFeed, LastByte, SessionFault, Read, Write}
 use Rattle.std.specs.Result.{result_and}
 use Rattle.cil_stream.specs.declared.sink.SinkFault.{SinkFault}
 use Rattle.cil_store_specs.proofs.LineLemmas.{has-feed, command-line, no-line-command, no-last-command, no-long-command}

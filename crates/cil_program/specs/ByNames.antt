@@ -1,10 +1,9 @@
 -- What is answered where statements outside the language are taken by their names alone.
-use Rattle.std.specs.Prelude.{◌≡◌, ◌<◌, ℕ, List, [], ◌∷◌, ◌++◌, Contains, length, codes, decimal}
+use Rattle.std.specs.Prelude.{◌≡◌, ◌<◌, ℕ, true, List, [], ◌∷◌, ◌++◌, Contains, length, codes, decimal}
 use Rattle.std.specs.List.{AllZip, concat}
 use Rattle.cil_specs.specs.TextFault.{TextFault}
 use Rattle.cil_specs.specs.TextFault as text_fault
 use Rattle.cil_store_specs.specs.Next.{Refusal, at_place, by_store, for_memory}
-use Rattle.cil_store_specs.specs.Script.{refusal_line}
 use Rattle.cil_store_specs.specs.Store.{Entry}
 use Rattle.cil_text.specs.Image.{FaultIs, kind_of, place_of, shown}
 use Rattle.cil_text.specs.declared.fault.TextFault.TheVariants as text_faults
@@ -13,9 +12,14 @@ use Rattle.cil_projection.specs.Statements.{Counts, IsProjectionFault, Projects,
 use Rattle.cil_projection.specs.declared.projecting.TheConstants.{DECLARATIONS}
 use Rattle.cil_program.specs.CommandLine.{Compiles, Content, IsEntryFor, IsReadOf, IsUnreadable, NamesModule, unreadable_line}
 use Rattle.cil_program.specs.Conditionals.{Conditionals, Setting}
+use Rattle.cil_program.specs.Meanings.{refusal_text}
+use Rattle.cil_program.specs.Packed.{packed_of, packed_text}
+use Rattle.cil_program.specs.Reasons.{reason_line}
+use Rattle.cil_program.specs.Kinds.{kinds_text}
+use Rattle.cil_program.specs.Targets.{IsPathIn, unwritable_text}
+use Rattle.cil_program.specs.Wanted.{Wanted, compiled, in_folder, kinds, projections}
 use Rattle.cil_program.specs.declared.command_line.compile.Report.{Report}
-use Rattle.cil_program.specs.declared.command_line.foreign.Wanted.{Wanted}
-use Rattle.cil_program.specs.declared.command_line.foreign.Wanted.TheVariants.{Compiled, Projections}
+use Rattle.cil_program.specs.declared.command_line.reason.Reason.{Reason}
 use Rattle.cil_program.specs.declared.command_line.foreign.NotProjected.{NotProjected}
 use Rattle.cil_program.specs.declared.command_line.foreign.NotProjected.TheVariants.{AtFault, TooLong, Memory}
 
@@ -51,14 +55,17 @@ pub record AreProjected (conditionals : Conditionals) (texts projected : List (L
 
 -- why files aren't projected, of which these are the paths and the texts
 abbrev pub AreHindered : List (List ℕ × List ℕ) → NotProjected → Type 0
-AreHindered files (AtFault path fault) = (text : List ℕ) × Contains files (path.now, text) × FaultIs fault (IsProjectionFault text)
+AreHindered files (AtFault path fault packed) =
+    (text : List ℕ) × Contains files (path.now, text) × FaultIs fault (IsProjectionFault text) × (packed ≡ packed_of text)
 AreHindered files (TooLong path) = (text : List ℕ) × Contains files (path.now, text) × (16777216 < length text)
 AreHindered files Memory = Unit {0}
 
--- Why the text of a module isn't projected: it is longer than a store takes, or it has a fault.
-pub data IsNotProjected (name text : List ℕ) (refusal : Refusal) : Type 0 where
-  is_longer : 16777216 < length text → refusal ≡ by_store 34 name → IsNotProjected name text refusal
-  is_at_fault : (fault : TextFault) → IsProjectionFault text fault → refusal ≡ at_place (text_fault.code_of fault.kind) name fault.at fault.word → IsNotProjected name text refusal
+-- Why the text of a module isn't projected, and what else is told of it: it is longer than a store takes; or it has a fault, and may
+-- look like a package.
+pub data IsNotProjected (name text : List ℕ) (refusal : Refusal) (hint : List ℕ) : Type 0 where
+  is_longer : 16777216 < length text → refusal ≡ by_store 34 name → hint ≡ [] → IsNotProjected name text refusal hint
+  is_at_fault : (fault : TextFault) → IsProjectionFault text fault → refusal ≡ at_place (text_fault.code_of fault.kind) name fault.at fault.word
+      → hint ≡ packed_text (packed_of text) → IsNotProjected name text refusal hint
 
 -- how many statements of how many kinds are taken by their names
 abbrev pub note_line : Counts → List ℕ
@@ -67,11 +74,22 @@ note_line counts =
 
 -- the refusal that tells why files aren't projected
 abbrev pub IsRefusalBy : NotProjected → Refusal → Type 0
-IsRefusalBy (AtFault path text_faults.Memory) refusal = refusal ≡ for_memory
-IsRefusalBy (AtFault path (text_faults.Found kind at word)) refusal =
+IsRefusalBy (AtFault path text_faults.Memory packed) refusal = refusal ≡ for_memory
+IsRefusalBy (AtFault path (text_faults.Found kind at word) packed) refusal =
     (name : List ℕ) × NamesModule path.now name × (refusal ≡ at_place (text_fault.code_of (kind_of kind)) name (place_of at) (shown word))
 IsRefusalBy (TooLong path) refusal = (name : List ℕ) × NamesModule path.now name × (refusal ≡ by_store 34 name)
 IsRefusalBy Memory refusal = refusal ≡ for_memory
+
+-- and what is told behind it
+abbrev pub hint_by : NotProjected → List ℕ
+hint_by (AtFault path text_faults.Memory packed) = []
+hint_by (AtFault path (text_faults.Found kind at word) packed) = packed_text packed
+hint_by (TooLong path) = []
+hint_by Memory = []
+
+-- a file that can't be read, and why
+abbrev pub unreadable_text : List ℕ → Reason → List ℕ
+unreadable_text path reason = unreadable_line path ++ reason_line reason
 
 -- entries for files at paths, of these texts
 abbrev pub AreEntriesFor : List (List ℕ) → List (List ℕ) → List Entry → Type 0
@@ -80,15 +98,23 @@ AreEntriesFor (path ∷ paths) (text ∷ texts) (entry ∷ entries) = IsEntryFor
 AreEntriesFor paths texts entries = ⊥
 
 -- What is printed and told of projected files, and the exit status: the note, and then what is of them where they are compiled, or the
--- projections; or that memory ran out.
+-- projections, or the kinds of statements that were taken by their names, or that a projection can't be written, and why; or that memory
+-- ran out. Of what stands in files that are written nothing is told.
 pub data AnswersProjected (paths projected : List (List ℕ)) (counts : Counts) (wanted : Wanted)
     (printed told : List ℕ) (status : ℕ) : Type 0 where
-  are_compiled : (report : Report) (entries : List Entry) (answer : List ℕ) → wanted ≡ Compiled report → AreEntriesFor paths projected entries
-      → Compiles entries report printed answer status → told ≡ note_line counts ++ answer
+  are_compiled : (report : Report) (entries : List Entry) (answer : List ℕ) → wanted ≡ compiled report → AreEntriesFor paths projected entries
+      → Compiles true entries report printed answer status → told ≡ note_line counts ++ answer
       → AnswersProjected paths projected counts wanted printed told status
-  are_printed : wanted ≡ Projections → printed ≡ concat projected → told ≡ note_line counts → status ≡ 0
+  are_printed : wanted ≡ projections → printed ≡ concat projected → told ≡ note_line counts → status ≡ 0
       → AnswersProjected paths projected counts wanted printed told status
-  are_not_held : printed ≡ [] → told ≡ refusal_line for_memory → status ≡ 1
+  are_counted : wanted ≡ kinds → printed ≡ kinds_text counts → told ≡ note_line counts → status ≡ 0
+      → AnswersProjected paths projected counts wanted printed told status
+  are_stored : (folder : List ℕ) → wanted ≡ in_folder folder → printed ≡ [] → told ≡ note_line counts → status ≡ 0
+      → AnswersProjected paths projected counts wanted printed told status
+  one_unwritable : (folder path target : List ℕ) (reason : Reason) → wanted ≡ in_folder folder → Contains paths path → IsPathIn folder path target
+      → printed ≡ [] → told ≡ note_line counts ++ unwritable_text target reason → status ≡ 3
+      → AnswersProjected paths projected counts wanted printed told status
+  are_not_held : printed ≡ [] → told ≡ refusal_text true for_memory → status ≡ 1
       → AnswersProjected paths projected counts wanted printed told status
 
 -- What is printed and told of files whose statements outside the language are taken by their names alone, and the exit status: what is
@@ -98,11 +124,11 @@ pub data AnswersByNames (content : List ℕ → Content) (paths : List (List ℕ
   answers : (texts projected : List (List ℕ)) (counts : Counts) → AllZip (λ path text. IsReadOf (content path) text) paths texts
       → AreProjected conditionals texts projected counts → AnswersProjected paths projected counts wanted printed told status
       → AnswersByNames content paths conditionals wanted printed told status
-  one_unreadable : (path : List ℕ) → Contains paths path → IsUnreadable (content path)
-      → printed ≡ [] → told ≡ unreadable_line path → status ≡ 3
+  one_unreadable : (path : List ℕ) (reason : Reason) → Contains paths path → IsUnreadable (content path)
+      → printed ≡ [] → told ≡ unreadable_text path reason → status ≡ 3
       → AnswersByNames content paths conditionals wanted printed told status
-  one_not_projected : (path text name : List ℕ) (refusal : Refusal) → Contains paths path → IsReadOf (content path) text
-      → NamesModule path name → IsNotProjected name text refusal → printed ≡ [] → told ≡ refusal_line refusal → status ≡ 1
+  one_not_projected : (path text name hint : List ℕ) (refusal : Refusal) → Contains paths path → IsReadOf (content path) text
+      → NamesModule path name → IsNotProjected name text refusal hint → printed ≡ [] → told ≡ refusal_text true refusal ++ hint → status ≡ 1
       → AnswersByNames content paths conditionals wanted printed told status
-  none_held : printed ≡ [] → told ≡ refusal_line for_memory → status ≡ 1
+  none_held : printed ≡ [] → told ≡ refusal_text true for_memory → status ≡ 1
       → AnswersByNames content paths conditionals wanted printed told status

@@ -1,5 +1,5 @@
 -- The words of a command line, what answers them, and exit statuses.
-use Rattle.std.specs.Prelude.{◌≡◌, ◌≢◌, ℕ, ◌<◌, List, [], ◌∷◌, ◌++◌, flat_map, length, drop, codes, slice_index, Contains, Option, Result, Ok, Err, IfOk, ◌⊎◌}
+use Rattle.std.specs.Prelude.{◌≡◌, ◌≢◌, ℕ, ◌<◌, List, [], ◌∷◌, ◌++◌, Bool, false, flat_map, length, drop, codes, slice_index, Contains, Option, None, Some, Result, Ok, Err, IfOk, ◌⊎◌}
 use Rattle.std.specs.List.{AllZip}
 use Rattle.cil_specs.specs.Report.{Row, row_line}
 use Rattle.cil_specs.specs.Violations.{Violation, violations_text}
@@ -8,6 +8,7 @@ use Rattle.cil_store_specs.specs.Store.{Entry, Store, empty}
 use Rattle.cil_store_specs.specs.Next.{Refusal, accepts, refuses, for_memory, Of}
 use Rattle.cil_store_specs.specs.Run.{AreRowsOf, AreViolationsOf}
 use Rattle.cil_store_specs.specs.Script.{refusal_line}
+use Rattle.cil_program.specs.Meanings.{refusal_text}
 use Rattle.cil_program.specs.Session.{Leaves, LeavesByRead, LeavesByWrite}
 use Rattle.cil_program.specs.declared.command_line.compile.Report.{Report}
 use Rattle.cil_program.specs.declared.command_line.compile.Report.TheVariants.{Listing, Violations}
@@ -60,14 +61,15 @@ status_of_violations [] = 0
 status_of_violations (violation ∷ violations) = 1
 
 -- What is printed and told of entries that are compiled at once, and the exit status: the listing or the violations of their store
--- are printed; or their refusal is told, or that memory ran out, and nothing is printed.
-pub data Compiles (entries : List Entry) (report : Report) (printed told : List ℕ) (status : ℕ) : Type 0 where
+-- are printed; or their refusal is told, or that memory ran out, and nothing is printed. What is told is explained or not.
+pub data Compiles (explained : Bool) (entries : List Entry) (report : Report) (printed told : List ℕ) (status : ℕ) : Type 0 where
   lists : (store : Store) (rows : List Row) → report ≡ Listing → Of entries (accepts store) → AreRowsOf store rows
-      → printed ≡ flat_map row_line rows → told ≡ [] → status ≡ 0 → Compiles entries report printed told status
+      → printed ≡ flat_map row_line rows → told ≡ [] → status ≡ 0 → Compiles explained entries report printed told status
   tells : (store : Store) (violations : List Violation) → report ≡ Violations → Of entries (accepts store) → AreViolationsOf store violations
-      → printed ≡ violations_text violations → told ≡ [] → status ≡ status_of_violations violations → Compiles entries report printed told status
-  is_refused : (refusal : Refusal) → Of entries (refuses refusal) → printed ≡ [] → told ≡ refusal_line refusal → status ≡ 1 → Compiles entries report printed told status
-  lacks_memory : printed ≡ [] → told ≡ refusal_line for_memory → status ≡ 1 → Compiles entries report printed told status
+      → printed ≡ violations_text violations → told ≡ [] → status ≡ status_of_violations violations → Compiles explained entries report printed told status
+  is_refused : (refusal : Refusal) → Of entries (refuses refusal) → printed ≡ [] → told ≡ refusal_text explained refusal → status ≡ 1
+      → Compiles explained entries report printed told status
+  lacks_memory : printed ≡ [] → told ≡ refusal_text explained for_memory → status ≡ 1 → Compiles explained entries report printed told status
 
 -- what stands behind the last slash of a path; all of it where there is none
 pub record IsBaseName (path base : List ℕ) : Type 0 where
@@ -82,11 +84,12 @@ IsStem base name = (base ≡ name ++ codes ".cil") ⊎ ((base ≡ name) × ((fro
 abbrev pub NamesModule : List ℕ → List ℕ → Type 0
 NamesModule path name = (base : List ℕ) × IsBaseName path base × IsStem base name
 
--- what is told of the file at a path: nothing, that it can't be read, or its text
+-- what is told of what stands at a path: nothing, that it can't be read, a file's text, or the names in a folder
 pub data Content : Type 0 where
   untold : Content
   unreadable : Content
   holds : List ℕ → Content
+  is_folder : List (List ℕ) → Content
 
 -- all of a text was read, or a beginning that is longer than a store takes
 abbrev pub IsTextOf : List ℕ → List ℕ → Type 0
@@ -98,12 +101,21 @@ abbrev pub IsReadOf : Content → List ℕ → Type 0
 IsReadOf untold text = Unit {0}
 IsReadOf unreadable text = ⊥
 IsReadOf (holds whole) text = IsTextOf whole text
+IsReadOf (is_folder names) text = ⊥
 
 -- a file can't be read, where that is told
 abbrev pub IsUnreadable : Content → Type 0
 IsUnreadable untold = Unit {0}
 IsUnreadable unreadable = Unit {0}
 IsUnreadable (holds whole) = ⊥
+IsUnreadable (is_folder names) = Unit {0}
+
+-- the names in a folder were found, or that there is no folder
+abbrev pub IsListed : Content → Option (List (List ℕ)) → Type 0
+IsListed untold names = Unit {0}
+IsListed unreadable names = names ≡ None
+IsListed (holds whole) names = names ≡ None
+IsListed (is_folder told) names = names ≡ Some told
 
 -- an entry for a file at a path, of which a text was read
 pub record IsEntryFor (path read : List ℕ) (entry : Entry) : Type 0 where
@@ -125,7 +137,7 @@ unreadable_line path = codes "unreadable " ++ (path ++ codes "\n")
 pub data CompilesFiles (content : List ℕ → Content) (paths : List (List ℕ)) (report : Report)
     (printed told : List ℕ) (status : ℕ) : Type 0 where
   compiles : (entries : List Entry) → AllZip (IsEntryAt content) paths entries
-      → Compiles entries report printed told status
+      → Compiles false entries report printed told status
       → CompilesFiles content paths report printed told status
   is_unreadable : (path : List ℕ) → Contains paths path → IsUnreadable (content path)
       → printed ≡ [] → told ≡ unreadable_line path → status ≡ 3

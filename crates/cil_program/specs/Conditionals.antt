@@ -1,9 +1,9 @@
 -- How statements outside the language are taken, by the words of a command line.
 use Rattle.std.specs.Prelude.{ℕ, ◌==◌, ◌-◌, Bool, true, false, ◌&&◌, if◌then◌else◌, nat_lt, List, [], ◌∷◌, ◌++◌, map, length, take, drop, codes, bytes_eq, Option, None, Some, option_map}
-use Rattle.std.specs.List.{slice_split}
+use Rattle.std.specs.List.{list_any, slice_split}
 use Rattle.std.specs.Option.{option_or}
 use Rattle.cil_program.specs.declared.command_line.conditionals.Misuse.{Misuse}
-use Rattle.cil_program.specs.declared.command_line.conditionals.Misuse.TheVariants.{NoForeign, OtherForeign, OtherBooleans}
+use Rattle.cil_program.specs.declared.command_line.conditionals.Misuse.TheVariants.{NoForeign, OtherForeign, OtherBooleans, ListAndOutput}
 use Rattle.cil_program.specs.declared.command_line.conditionals.Setting as code_setting
 use Rattle.cil_program.specs.declared.command_line.conditionals.Conditionals as code_conditionals
 use Rattle.cil_program.specs.declared.command_line.conditionals.Foreign as code
@@ -33,8 +33,17 @@ abbrev pub given : Bool → Option (List ℕ) → Option Setting
 given value = option_map (λ name. record { name = name; value = value })
 
 -- `NAME=true` or `NAME=false`
+abbrev pub any_setting_of : List ℕ → Option Setting
+any_setting_of word = option_or (given true (front_before (codes "=true") word)) (given false (front_before (codes "=false") word))
+
+-- a setting of a boolean by its own name, which has no dot
+abbrev pub by_own_name : Option Setting → Option Setting
+by_own_name None = None
+by_own_name (Some setting) = if list_any (λ b. b == 46) setting.name then None else Some setting
+
+-- `NAME=true` or `NAME=false`, where NAME has no dot, since booleans are told apart by their last components
 abbrev pub setting_of : List ℕ → Option Setting
-setting_of word = option_or (given true (front_before (codes "=true") word)) (given false (front_before (codes "=false") word))
+setting_of word = by_own_name (any_setting_of word)
 
 -- a setting in front of others, where all are there
 abbrev pub in_front : Option Setting → Option (List Setting) → Option (List Setting)
@@ -78,7 +87,8 @@ foreign_by (Some foreign) booleans = if bytes_eq foreign (codes "names") then na
 abbrev pub misuse_line : Misuse → List ℕ
 misuse_line NoForeign = codes "error: '--booleans' goes with '--foreign names'\n"
 misuse_line OtherForeign = codes "error: '--foreign' takes the word names alone\n"
-misuse_line OtherBooleans = codes "error: '--booleans' takes default, both, or NAME=true and NAME=false with commas between them\n"
+misuse_line OtherBooleans = codes "error: '--booleans' takes default, both, or NAME=true and NAME=false with commas between them; a NAME has no dots\n"
+misuse_line ListAndOutput = codes "error: '--list' and '--output' don't go together\n"
 
 abbrev pub misuse_text : Misuse → List ℕ
 misuse_text misuse = misuse_line misuse ++ codes "\nFor more information, try '--help'.\n"

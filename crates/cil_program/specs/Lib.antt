@@ -7,7 +7,14 @@ pub mod Dump
 pub mod Reply
 pub mod Session
 pub mod Laws
+pub mod Meanings
+pub mod Reasons
+pub mod Packed
 pub mod CommandLine
 pub mod Conditionals
+pub mod Wanted
+pub mod Kinds
+pub mod Targets
 pub mod ByNames
+pub mod Given
 pub mod Program

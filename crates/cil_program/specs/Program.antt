@@ -1,20 +1,20 @@
 -- The program's command line, as `clap` reads it.
-use Rattle.std.specs.Prelude.{◌≡◌, ◌⊎◌, ℕ, List, [], true, Option, None, Some, codes, unwrap_or}
+use Rattle.std.specs.Prelude.{◌≡◌, ◌⊎◌, ℕ, List, [], Bool, true, false, Option, None, Some, codes, unwrap_or}
 use Rattle.cil_stream.specs.Device.{Gains, GainsFront, HasFailed}
 use Rattle.clap.specs.Lexer.{usize_max}
 use Rattle.clap.specs.Walk.{Row, Rule, Text, all_of, first_of, one_of}
 use Rattle.clap.specs.Simple.{App, new_app, new_rule, on_top, with_rule, with_subcommand}
 use Rattle.clap.specs.declared.builder.action.ArgAction.TheVariants.{Append, Set, SetTrue}
 use Rattle.cil_store_specs.specs.Next.{for_memory}
-use Rattle.cil_store_specs.specs.Script.{refusal_line}
-use Rattle.cil_program.specs.ByNames.{AnswersByNames}
 use Rattle.cil_program.specs.CommandLine.{CompilesFiles, Content, Written}
+use Rattle.cil_program.specs.Given.{AnswersGiven}
 use Rattle.cil_program.specs.Conditionals.{Conditionals, Foreign, by_names, conditionals_by, foreign_by, misused, misuse_text, refused}
+use Rattle.cil_program.specs.Meanings.{refusal_text}
+use Rattle.cil_program.specs.Wanted.{Wanted, compiled, wanted_by}
 use Rattle.cil_program.specs.declared.command_line.compile.Report.{Report}
 use Rattle.cil_program.specs.declared.command_line.compile.Report.TheVariants.{Listing, Violations}
 use Rattle.cil_program.specs.declared.command_line.conditionals.Misuse.{Misuse}
-use Rattle.cil_program.specs.declared.command_line.conditionals.Misuse.TheVariants.{OtherBooleans}
-use Rattle.cil_program.specs.declared.command_line.foreign.Wanted.TheVariants.{Compiled, Projections}
+use Rattle.cil_program.specs.declared.command_line.conditionals.Misuse.TheVariants.{ListAndOutput, OtherBooleans}
 
 abbrev pub session_app : App
 session_app = new_app (codes "session")
@@ -33,11 +33,18 @@ foreign_rule = record (new_rule (codes "foreign")) { long = Some (codes "foreign
 abbrev pub booleans_rule : Rule
 booleans_rule = record (new_rule (codes "booleans")) { long = Some (codes "booleans"); action = Some Set; value_names = 1 }
 
+-- whether kinds are listed in place of projections, and the folder to which projections are written
+abbrev pub list_rule : Rule
+list_rule = record (new_rule (codes "list")) { long = Some (codes "list"); action = Some SetTrue }
+
+abbrev pub output_rule : Rule
+output_rule = record (new_rule (codes "output")) { short = Some 111; long = Some (codes "output"); action = Some Set; value_names = 1 }
+
 abbrev pub compile_app : App
 compile_app = with_rule (with_rule (with_rule (with_rule (new_app (codes "compile")) violations_rule) foreign_rule) booleans_rule) files_rule
 
 abbrev pub project_app : App
-project_app = with_rule (with_rule (new_app (codes "project")) booleans_rule) files_rule
+project_app = with_rule (with_rule (with_rule (with_rule (new_app (codes "project")) list_rule) output_rule) booleans_rule) files_rule
 
 abbrev pub bare_program : App
 bare_program = on_top (λ s. record s { has_version = true; subcommand_required = true }) (new_app (codes "cilsem"))
@@ -65,21 +72,33 @@ foreign_asked rows = foreign_by (first_of (codes "foreign") rows) (first_of (cod
 abbrev pub conditionals_asked : List Row → Option Conditionals
 conditionals_asked rows = conditionals_by (first_of (codes "booleans") rows)
 
+-- whether `--list` is among what was found behind `project`, by what stands for it, which `clap` fills in
+abbrev pub IsListFor : Option Text → Bool → Type 0
+IsListFor text is_list = (text ≡ Some (codes "true") → is_list ≡ true) × (text ≡ Some (codes "false") → is_list ≡ false)
+
+abbrev pub IsListAsked : List Row → Bool → Type 0
+IsListAsked rows is_list = IsListFor (one_of (codes "list") rows) is_list
+
+-- what is wanted of projections, by that and by what `--output` says
+abbrev pub IsWanted : List Row → Option Wanted → Type 0
+IsWanted rows wanted = (is_list : Bool) × IsListAsked rows is_list × (wanted ≡ wanted_by is_list (first_of (codes "output") rows))
+
 -- What is told where words of the command line have no meaning: why; or that memory ran out before that was found.
 pub data TellsMisuse (misuse : Misuse) (printed told : List ℕ) (status : ℕ) : Type 0 where
   is_misuse : printed ≡ [] → told ≡ misuse_text misuse → status ≡ 2 → TellsMisuse misuse printed told status
-  lacks_memory_for_it : printed ≡ [] → told ≡ refusal_line for_memory → status ≡ 1 → TellsMisuse misuse printed told status
+  lacks_memory_for_it : printed ≡ [] → told ≡ refusal_text true for_memory → status ≡ 1 → TellsMisuse misuse printed told status
 
 -- what is to be printed and told of files that are compiled, by how statements outside the language are taken, and the exit status
 abbrev pub IsCompiled : Foreign → (List ℕ → Content) → List (List ℕ) → Report → List ℕ → List ℕ → ℕ → Type 0
 IsCompiled refused content paths report printed told status = CompilesFiles content paths report printed told status
-IsCompiled (by_names conditionals) content paths report printed told status = AnswersByNames content paths conditionals (Compiled report) printed told status
+IsCompiled (by_names conditionals) content paths report printed told status = AnswersGiven content paths conditionals (compiled report) printed told status
 IsCompiled (misused misuse) content paths report printed told status = TellsMisuse misuse printed told status
 
--- and of files that are projected, by how conditional statements are taken
-abbrev pub IsProjected : Option Conditionals → (List ℕ → Content) → List (List ℕ) → List ℕ → List ℕ → ℕ → Type 0
-IsProjected (Some conditionals) content paths printed told status = AnswersByNames content paths conditionals Projections printed told status
-IsProjected None content paths printed told status = TellsMisuse OtherBooleans printed told status
+-- and of files that are projected, by what is wanted and how conditional statements are taken
+abbrev pub IsProjected : Option Wanted → Option Conditionals → (List ℕ → Content) → List (List ℕ) → List ℕ → List ℕ → ℕ → Type 0
+IsProjected None conditionals content paths printed told status = TellsMisuse ListAndOutput printed told status
+IsProjected (Some wanted) None content paths printed told status = TellsMisuse OtherBooleans printed told status
+IsProjected (Some wanted) (Some conditionals) content paths printed told status = AnswersGiven content paths conditionals wanted printed told status
 
 -- by what was found behind `compile` this is to be printed and told, and this is the exit status
 abbrev pub IsToBeWritten : (List ℕ → Content) → List Row → List ℕ → List ℕ → ℕ → Type 0
@@ -89,7 +108,9 @@ IsToBeWritten content rows printed told status =
 
 -- and by what was found behind `project`
 abbrev pub IsToBePrinted : (List ℕ → Content) → List Row → List ℕ → List ℕ → ℕ → Type 0
-IsToBePrinted content rows printed told status = IsProjected (conditionals_asked rows) content (files_asked rows) printed told status
+IsToBePrinted content rows printed told status =
+    (wanted : Option Wanted) × IsWanted rows wanted
+    × IsProjected wanted (conditionals_asked rows) content (files_asked rows) printed told status
 
 -- What is to be written was written; or a sink failed, and a beginning was written.
 abbrev pub IsAnswered :

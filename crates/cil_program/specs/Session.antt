@@ -1,5 +1,5 @@
 -- One line of a script, and what came of it.
-use Rattle.std.specs.Prelude.{◌≡◌, ◌≢◌, ℕ, ◌+◌, ◌≤◌, Bool, true, false, List, [], ◌∷◌, ◌++◌, length, flat_map, codes, decimal, Option, None, Result, Ok, Err, IfOk, IfErr, IsErrOf, OnErr, IsTrue, ◌⊎◌}
+use Rattle.std.specs.Prelude.{◌≡◌, ◌≢◌, ℕ, ◌+◌, ◌≤◌, Bool, true, false, List, [], ◌∷◌, ◌++◌, length, flat_map, codes, decimal, Option, Result, Ok, Err, IfOk, IfErr, IsErrOf, OnErr, IsTrue, ◌⊎◌}
 use Rattle.std.specs.List.{join_with_byte}
 use Rattle.cil_stream.specs.Device.{Account, Gains, GainsFront, Gives, HasEnded, HasFailed, IsLeft, has_ended}
 use Rattle.cil_stream.specs.declared.sink.SinkFault.{SinkFault}

@@ -1,9 +1,9 @@
 //! The command line: what its words ask for, and the exit status.
 
-ghost use Rattle.std.specs.Prelude.{◌≡◌, ◌≢◌, ◌⊎◌, ◌≤◌, ℕ, true, List, [], Result, Some, codes, map, option_map, unwrap_or, IfOk, OnErr, OnOk};
+ghost use Rattle.std.specs.Prelude.{◌≡◌, ◌≢◌, ◌++◌, ◌⊎◌, ◌≤◌, ℕ, true, List, [], Result, Some, codes, map, option_map, unwrap_or, IfOk, OnErr, OnOk, All};
 ghost use Rattle.cil_store_specs.specs.Next.{Refusal};
-ghost use Rattle.cil_program.specs.Common.{Row, found_of, kind_of, rows_of, subcommand_of, takes, OutOfMemory, Gains, GainsFront, HasFailed, for_memory, refusal_line, AsksSession, AnswersSession, CompilesFiles, LacksMemory, exit_status_of, unreadable_line, untold, AnswersByNames, AnswersCompile, AnswersProject, AnswersProjected, IsRefusalBy, IsReportAsked, IsToBePrinted, IsToBeWritten, conditionals_asked, conditionals_in, foreign_asked, foreign_in, misuse_text, program_app};
-ghost use Rattle.cil_program.specs.declared.command_line.foreign.Wanted.TheVariants.{Compiled, Projections};
+ghost use Rattle.cil_program.specs.Common.{Row, found_of, kind_of, rows_of, subcommand_of, takes, OutOfMemory, Gains, GainsFront, HasFailed, for_memory, refusal_line, AsksSession, AnswersSession, CompilesFiles, LacksMemory, exit_status_of, unreadable_line, untold, AnswersByNames, AnswersGiven, AnswersCompile, AnswersProject, AnswersProjected, IsRefusalBy, hint_by, refusal_text, unreadable_text, IsReportAsked, IsToBePrinted, IsToBeWritten, conditionals_asked, conditionals_in, foreign_asked, foreign_in, misuse_text, program_app, IsStored, IsWanted, compiled, in_folder, kinds, projections, unwritable_text, wanted_in};
+ghost use Rattle.cil_program.specs.Conditionals.{refused};
 ghost use Rattle.cil_program.specs.declared.command_line.compile.Report.{Report};
 ghost use Rattle.cil_program.specs.declared.script.outcome.SessionFault.{SessionFault};
 ghost use Rattle.cil_program.specs.declared.script.outcome.Status.{Status};
@@ -11,8 +11,16 @@ ghost use Rattle.cil_program.specs.declared.script.outcome.Status.{Status};
 pub mod compile;
 pub mod conditionals;
 pub mod files;
+mod folders;
 pub mod foreign;
+mod kinds;
+mod meanings;
 mod notes;
+pub mod packed;
+pub mod reason;
+mod same_names;
+pub mod targets;
+pub mod wanted;
 mod words;
 
 use crate::command_line::compile::{Asked, Report, compile_entries, refuse_for_memory};
@@ -20,10 +28,16 @@ use crate::command_line::conditionals::{
     Conditionals, Foreign, Misuse, conditionals_by, foreign_by,
 };
 use crate::command_line::files::{ReadFault, TextFiles, entries_of, read_files};
-use crate::command_line::foreign::{NotProjected, Projected, Wanted, project_files};
+use crate::command_line::folders::{paths_for, texts_of};
+use crate::command_line::foreign::{NotProjected, Projected, project_files};
+use crate::command_line::kinds::write_kinds;
 use crate::command_line::notes::{write_not_projected, write_note, write_texts};
+use crate::command_line::reason::Reason;
+use crate::command_line::same_names::{same_named, write_same_names};
+use crate::command_line::targets::{Unwritable, targets_of, write_targets};
+use crate::command_line::wanted::{Wanted, wanted_by};
 use crate::command_line::words::{
-    BOOLEANS, COMPILE, FILES, FOREIGN, PROJECT, VIOLATIONS, matches_of,
+    BOOLEANS, COMPILE, FILES, FOREIGN, LIST, OUTPUT, PROJECT, VIOLATIONS, matches_of,
 };
 use crate::script::outcome::{SessionFault, Status};
 use crate::script::session::session;
@@ -85,10 +99,10 @@ fn tell<W: Sink, E: Sink>(
     ensures err_counted { E.failures err.old ≤ E.failures err.new }
 {
     if matches!(error.kind(), ErrorKind::OutOfMemory) {
-        return refuse_for_memory(err);
+        return refuse_for_memory(err, false);
     }
     let Ok(text) = error.to_string(alloc) else {
-        return refuse_for_memory(err);
+        return refuse_for_memory(err, false);
     };
     if error.use_stderr() {
         write_all(err, text.as_bytes())?;
@@ -111,7 +125,21 @@ fn tell_unreadable<E: Sink>(err: &mut E, path: &str) -> Result<u8, SinkFault>
     Ok(3)
 }
 
-/// Compiles files and writes the report, and gives the exit status. All are read first.
+/// Writes which file can't be read and why, and gives the exit status.
+fn explain_unreadable<E: Sink>(err: &mut E, path: &str, reason: Reason) -> Result<u8, SinkFault>
+    ensures ok { IfOk result (λ status. (status ≡ 3)
+        × Gains (E.taken err.old) (E.taken err.new) (unreadable_text path.now reason)) }
+    ensures err { OnErr result
+        (GainsFront (E.taken err.old) (E.taken err.new) (unreadable_text path.now reason)) }
+    ensures failed { OnErr result (HasFailed (E.failures err.old) (E.failures err.new)) }
+    ensures counted { E.failures err.old ≤ E.failures err.new }
+{
+    let status = tell_unreadable(err, path)?;
+    write_all(err, reason.line())?;
+    Ok(status)
+}
+
+/// Compiles files and writes the report, and gives the exit status. All are read first. No refusal is explained.
 fn compile_files<'a, F: TextFiles, W: Sink, E: Sink>(
     from: &F,
     alloc: Global,
@@ -138,21 +166,27 @@ fn compile_files<'a, F: TextFiles, W: Sink, E: Sink>(
 {
     let files = match read_files(from, alloc, paths) {
         Ok(files) => files,
-        Err(ReadFault::Memory) => return refuse_for_memory(err),
-        Err(ReadFault::Unreadable(path)) => return tell_unreadable(err, path),
+        Err(ReadFault::Memory) => return refuse_for_memory(err, false),
+        Err(ReadFault::Unreadable { path, .. }) => return tell_unreadable(err, path),
     };
     let Ok(entries) = entries_of(alloc, files.as_slice()) else {
-        return refuse_for_memory(err);
+        return refuse_for_memory(err, false);
+    };
+    let asked = Asked {
+        explained: false,
+        ..asked
     };
     compile_entries(alloc, entries.as_slice(), asked, out, err)
 }
 
-/// Writes why files were not projected, and gives the exit status.
+/// Writes why files were not projected and what that means, and gives the exit status.
 fn tell_not_projected<E: Sink>(err: &mut E, why: NotProjected<'_>) -> Result<u8, SinkFault>
     ensures ok { IfOk result (λ status. (refusal : Refusal) × IsRefusalBy why.entry refusal
-        × (status ≡ 1) × Gains (E.taken err.old) (E.taken err.new) (refusal_line refusal)) }
+        × (status ≡ 1) × Gains (E.taken err.old) (E.taken err.new)
+        (refusal_text true refusal ++ hint_by why.entry)) }
     ensures err { OnErr result ((refusal : Refusal) × IsRefusalBy why.entry refusal
-        × GainsFront (E.taken err.old) (E.taken err.new) (refusal_line refusal)) }
+        × GainsFront (E.taken err.old) (E.taken err.new)
+        (refusal_text true refusal ++ hint_by why.entry)) }
     ensures failed { OnErr result (HasFailed (E.failures err.old) (E.failures err.new)) }
     ensures counted { E.failures err.old ≤ E.failures err.new }
 {
@@ -174,11 +208,12 @@ fn tell_misuse<E: Sink>(err: &mut E, misuse: Misuse) -> Result<u8, SinkFault>
     Ok(2)
 }
 
-/// Compiles projected files and writes the note and the report, and gives the exit status.
+/// Compiles projected files and writes the note and the report, and gives the exit status. Refusals are explained.
 fn compile_projected<W: Sink, E: Sink>(
     alloc: Global,
+    seed: Seed,
     projected: &Projected<'_>,
-    asked: Asked,
+    report: Report,
     out: &mut W,
     err: &mut E,
 ) -> Result<u8, SinkFault>
@@ -187,22 +222,27 @@ fn compile_projected<W: Sink, E: Sink>(
         × Gains (E.taken err.old) (E.taken err.new) told
         × AnswersProjected (map (λ file. file.path.now) projected.now.files.items)
         (map (λ file. file.text.items) projected.now.files.items) projected.now.tally
-        (Compiled asked.report) printed told status) }
+        (compiled report) printed told status) }
     ensures err { OnErr result ((printed : List ℕ) × (told : List ℕ) × (status : ℕ)
         × GainsFront (W.taken out.old) (W.taken out.new) printed
         × GainsFront (E.taken err.old) (E.taken err.new) told
         × AnswersProjected (map (λ file. file.path.now) projected.now.files.items)
         (map (λ file. file.text.items) projected.now.files.items) projected.now.tally
-        (Compiled asked.report) printed told status) }
+        (compiled report) printed told status) }
     ensures failed { OnErr result (HasFailed (W.failures out.old) (W.failures out.new)
         ⊎ HasFailed (E.failures err.old) (E.failures err.new)) }
     ensures out_counted { W.failures out.old ≤ W.failures out.new }
     ensures err_counted { E.failures err.old ≤ E.failures err.new }
 {
     let Ok(entries) = entries_of(alloc, projected.files.as_slice()) else {
-        return refuse_for_memory(err);
+        return refuse_for_memory(err, true);
     };
     write_note(err, &projected.tally)?;
+    let asked = Asked {
+        report,
+        explained: true,
+        seed,
+    };
     compile_entries(alloc, entries.as_slice(), asked, out, err)
 }
 
@@ -217,13 +257,13 @@ fn print_projected<W: Sink, E: Sink>(
         × Gains (E.taken err.old) (E.taken err.new) told
         × AnswersProjected (map (λ file. file.path.now) projected.now.files.items)
         (map (λ file. file.text.items) projected.now.files.items) projected.now.tally
-        Projections printed told status) }
+        projections printed told status) }
     ensures err { OnErr result ((printed : List ℕ) × (told : List ℕ) × (status : ℕ)
         × GainsFront (W.taken out.old) (W.taken out.new) printed
         × GainsFront (E.taken err.old) (E.taken err.new) told
         × AnswersProjected (map (λ file. file.path.now) projected.now.files.items)
         (map (λ file. file.text.items) projected.now.files.items) projected.now.tally
-        Projections printed told status) }
+        projections printed told status) }
     ensures failed { OnErr result (HasFailed (W.failures out.old) (W.failures out.new)
         ⊎ HasFailed (E.failures err.old) (E.failures err.new)) }
     ensures out_counted { W.failures out.old ≤ W.failures out.new }
@@ -234,12 +274,9 @@ fn print_projected<W: Sink, E: Sink>(
     Ok(0)
 }
 
-/// Answers what is wanted of projected files, and gives the exit status.
-fn answer_projected<W: Sink, E: Sink>(
-    alloc: Global,
-    seed: Seed,
+/// Writes the note and the kinds of statements in files, and gives the exit status.
+fn print_kinds<W: Sink, E: Sink>(
     projected: &Projected<'_>,
-    wanted: Wanted,
     out: &mut W,
     err: &mut E,
 ) -> Result<u8, SinkFault>
@@ -248,33 +285,114 @@ fn answer_projected<W: Sink, E: Sink>(
         × Gains (E.taken err.old) (E.taken err.new) told
         × AnswersProjected (map (λ file. file.path.now) projected.now.files.items)
         (map (λ file. file.text.items) projected.now.files.items) projected.now.tally
-        wanted printed told status) }
+        kinds printed told status) }
     ensures err { OnErr result ((printed : List ℕ) × (told : List ℕ) × (status : ℕ)
         × GainsFront (W.taken out.old) (W.taken out.new) printed
         × GainsFront (E.taken err.old) (E.taken err.new) told
         × AnswersProjected (map (λ file. file.path.now) projected.now.files.items)
         (map (λ file. file.text.items) projected.now.files.items) projected.now.tally
-        wanted printed told status) }
+        kinds printed told status) }
     ensures failed { OnErr result (HasFailed (W.failures out.old) (W.failures out.new)
         ⊎ HasFailed (E.failures err.old) (E.failures err.new)) }
     ensures out_counted { W.failures out.old ≤ W.failures out.new }
     ensures err_counted { E.failures err.old ≤ E.failures err.new }
 {
-    match wanted {
-        Wanted::Compiled(report) => {
-            compile_projected(alloc, projected, Asked { report, seed }, out, err)
-        }
-        Wanted::Projections => print_projected(projected, out, err),
+    write_note(err, &projected.tally)?;
+    write_kinds(out, &projected.tally)?;
+    Ok(0)
+}
+
+/// Writes which file can't be written and why, and gives the exit status.
+fn tell_unwritable<E: Sink>(err: &mut E, path: &str, reason: Reason) -> Result<u8, SinkFault>
+    ensures ok { IfOk result (λ status. (status ≡ 3)
+        × Gains (E.taken err.old) (E.taken err.new) (unwritable_text path.now reason)) }
+    ensures err { OnErr result
+        (GainsFront (E.taken err.old) (E.taken err.new) (unwritable_text path.now reason)) }
+    ensures failed { OnErr result (HasFailed (E.failures err.old) (E.failures err.new)) }
+    ensures counted { E.failures err.old ≤ E.failures err.new }
+{
+    write_pieces(err, &[b"unwritable ", path.as_bytes(), b"\n"])?;
+    write_all(err, reason.line())?;
+    Ok(3)
+}
+
+/// Writes the note, and the projections of files to files in a folder, and gives the exit status.
+fn store_projected<F: TextFiles, E: Sink>(
+    to: &F,
+    alloc: Global,
+    folder: &str,
+    projected: &Projected<'_>,
+    err: &mut E,
+) -> Result<u8, SinkFault>
+    ensures ok { IfOk result (λ status. (told : List ℕ)
+        × Gains (E.taken err.old) (E.taken err.new) told
+        × AnswersProjected (map (λ file. file.path.now) projected.now.files.items)
+        (map (λ file. file.text.items) projected.now.files.items) projected.now.tally
+        (in_folder folder.now) [] told status) }
+    ensures stored { IfOk result (λ status. status ≡ 0 → All
+        (λ file. IsStored (F.written to.now) folder.now file.path.now file.text.items)
+        projected.now.files.items) }
+    ensures err { OnErr result ((told : List ℕ) × (status : ℕ)
+        × GainsFront (E.taken err.old) (E.taken err.new) told
+        × AnswersProjected (map (λ file. file.path.now) projected.now.files.items)
+        (map (λ file. file.text.items) projected.now.files.items) projected.now.tally
+        (in_folder folder.now) [] told status) }
+    ensures failed { OnErr result (HasFailed (E.failures err.old) (E.failures err.new)) }
+    ensures counted { E.failures err.old ≤ E.failures err.new }
+{
+    let Ok(targets) = targets_of(alloc, folder, projected.files.as_slice()) else {
+        return refuse_for_memory(err, true);
+    };
+    write_note(err, &projected.tally)?;
+    match write_targets(to, targets.as_slice()) {
+        Ok(()) => Ok(0),
+        Err(Unwritable { path, reason }) => tell_unwritable(err, path, reason),
     }
 }
 
 /// What is asked of files whose statements outside the language are taken by their names alone.
 #[derive(Clone, Copy)]
-struct Request<'r> {
+struct Request<'r, 'w> {
     paths: &'r [&'r str],
     conditionals: &'r Conditionals<'r>,
-    wanted: Wanted,
+    wanted: Wanted<'w>,
     seed: Seed,
+}
+
+/// Answers what is wanted of projected files, and gives the exit status.
+fn answer_projected<F: TextFiles, W: Sink, E: Sink>(
+    to: &F,
+    alloc: Global,
+    request: Request<'_, '_>,
+    projected: &Projected<'_>,
+    out: &mut W,
+    err: &mut E,
+) -> Result<u8, SinkFault>
+    ensures ok { IfOk result (λ status. (printed : List ℕ) × (told : List ℕ)
+        × Gains (W.taken out.old) (W.taken out.new) printed
+        × Gains (E.taken err.old) (E.taken err.new) told
+        × AnswersProjected (map (λ file. file.path.now) projected.now.files.items)
+        (map (λ file. file.text.items) projected.now.files.items) projected.now.tally
+        (wanted_in request.entry.wanted) printed told status) }
+    ensures err { OnErr result ((printed : List ℕ) × (told : List ℕ) × (status : ℕ)
+        × GainsFront (W.taken out.old) (W.taken out.new) printed
+        × GainsFront (E.taken err.old) (E.taken err.new) told
+        × AnswersProjected (map (λ file. file.path.now) projected.now.files.items)
+        (map (λ file. file.text.items) projected.now.files.items) projected.now.tally
+        (wanted_in request.entry.wanted) printed told status) }
+    ensures failed { OnErr result (HasFailed (W.failures out.old) (W.failures out.new)
+        ⊎ HasFailed (E.failures err.old) (E.failures err.new)) }
+    ensures out_counted { W.failures out.old ≤ W.failures out.new }
+    ensures err_counted { E.failures err.old ≤ E.failures err.new }
+{
+    match request.wanted {
+        Wanted::Compiled(report) => {
+            compile_projected(alloc, request.seed, projected, report, out, err)
+        }
+        Wanted::Projections => print_projected(projected, out, err),
+        Wanted::Kinds => print_kinds(projected, out, err),
+        Wanted::InFolder(folder) => store_projected(to, alloc, folder, projected, err),
+    }
 }
 
 /// Reads files, takes their statements outside the language by their names alone, answers what is wanted of them, and gives the exit
@@ -282,7 +400,7 @@ struct Request<'r> {
 fn answer_by_names<F: TextFiles, W: Sink, E: Sink>(
     from: &F,
     alloc: Global,
-    request: Request<'_>,
+    request: Request<'_, '_>,
     out: &mut W,
     err: &mut E,
 ) -> Result<u8, SinkFault>
@@ -290,12 +408,14 @@ fn answer_by_names<F: TextFiles, W: Sink, E: Sink>(
         × Gains (W.taken out.old) (W.taken out.new) printed
         × Gains (E.taken err.old) (E.taken err.new) told
         × AnswersByNames (F.content from.now) (map (λ path. path.now) request.entry.paths.now)
-        (conditionals_in request.entry.conditionals.now) request.entry.wanted printed told status) }
+        (conditionals_in request.entry.conditionals.now) (wanted_in request.entry.wanted)
+        printed told status) }
     ensures err { OnErr result ((printed : List ℕ) × (told : List ℕ) × (status : ℕ)
         × GainsFront (W.taken out.old) (W.taken out.new) printed
         × GainsFront (E.taken err.old) (E.taken err.new) told
         × AnswersByNames (F.content from.now) (map (λ path. path.now) request.entry.paths.now)
-        (conditionals_in request.entry.conditionals.now) request.entry.wanted printed told status) }
+        (conditionals_in request.entry.conditionals.now) (wanted_in request.entry.wanted)
+        printed told status) }
     ensures failed { OnErr result (HasFailed (W.failures out.old) (W.failures out.new)
         ⊎ HasFailed (E.failures err.old) (E.failures err.new)) }
     ensures out_counted { W.failures out.old ≤ W.failures out.new }
@@ -303,16 +423,57 @@ fn answer_by_names<F: TextFiles, W: Sink, E: Sink>(
 {
     let files = match read_files(from, alloc, request.paths) {
         Ok(files) => files,
-        Err(ReadFault::Memory) => return refuse_for_memory(err),
-        Err(ReadFault::Unreadable(unread)) => return tell_unreadable(err, unread),
+        Err(ReadFault::Memory) => return refuse_for_memory(err, true),
+        Err(ReadFault::Unreadable { path, reason }) => {
+            return explain_unreadable(err, path, reason);
+        }
     };
     let projected = project_files(alloc, request.seed, request.conditionals, files.as_slice());
     match projected {
-        Ok(projected) => {
-            answer_projected(alloc, request.seed, &projected, request.wanted, out, err)
-        }
+        Ok(projected) => answer_projected(from, alloc, request, &projected, out, err),
         Err(why) => tell_not_projected(err, why),
     }
+}
+
+/// Takes the files that given paths stand for, writes which of them have the module names of earlier ones, answers what is wanted of
+/// them, and gives the exit status.
+fn answer_given<F: TextFiles, W: Sink, E: Sink>(
+    from: &F,
+    alloc: Global,
+    given: Request<'_, '_>,
+    out: &mut W,
+    err: &mut E,
+) -> Result<u8, SinkFault>
+    ensures ok { IfOk result (λ status. (printed : List ℕ) × (told : List ℕ)
+        × Gains (W.taken out.old) (W.taken out.new) printed
+        × Gains (E.taken err.old) (E.taken err.new) told
+        × AnswersGiven (F.content from.now) (map (λ path. path.now) given.entry.paths.now)
+        (conditionals_in given.entry.conditionals.now) (wanted_in given.entry.wanted) printed told status) }
+    ensures err { OnErr result ((printed : List ℕ) × (told : List ℕ) × (status : ℕ)
+        × GainsFront (W.taken out.old) (W.taken out.new) printed
+        × GainsFront (E.taken err.old) (E.taken err.new) told
+        × AnswersGiven (F.content from.now) (map (λ path. path.now) given.entry.paths.now)
+        (conditionals_in given.entry.conditionals.now) (wanted_in given.entry.wanted) printed told status) }
+    ensures failed { OnErr result (HasFailed (W.failures out.old) (W.failures out.new)
+        ⊎ HasFailed (E.failures err.old) (E.failures err.new)) }
+    ensures out_counted { W.failures out.old ≤ W.failures out.new }
+    ensures err_counted { E.failures err.old ≤ E.failures err.new }
+{
+    let Ok(files) = paths_for(from, alloc, given.paths) else {
+        return refuse_for_memory(err, true);
+    };
+    let Ok(paths) = texts_of(alloc, files.as_slice()) else {
+        return refuse_for_memory(err, true);
+    };
+    let Ok(same) = same_named(alloc, given.seed, paths.as_slice()) else {
+        return refuse_for_memory(err, true);
+    };
+    write_same_names(err, same.as_slice())?;
+    let request = Request {
+        paths: paths.as_slice(),
+        ..given
+    };
+    answer_by_names(from, alloc, request, out, err)
 }
 
 /// The report among what was found.
@@ -324,6 +485,13 @@ fn report_of(words: &ArgMatches<'_>) -> Report
     } else {
         Report::Listing
     }
+}
+
+/// What is wanted of projections, by what was found behind `project`; none where the words don't go together.
+fn wanted_of<'a>(words: &ArgMatches<'a>) -> Option<Wanted<'a>>
+    ensures { IsWanted (rows_of (found_of words.now)) (option_map wanted_in result) }
+{
+    wanted_by(words.get_flag(LIST), words.get_str(OUTPUT))
 }
 
 /// Files, where some were found.
@@ -339,8 +507,9 @@ fn files_or_none<'m>(found: Option<&'m [&'m str]>) -> &'m [&'m str]
 
 /// How statements outside the language are taken, by what was found behind `compile`.
 fn foreign_of<'a>(alloc: Global, words: &ArgMatches<'a>) -> Result<Foreign<'a>, AllocError>
-    ensures { IfOk result (λ foreign.
+    ensures ok { IfOk result (λ foreign.
         foreign_in foreign ≡ foreign_asked (rows_of (found_of words.entry.now))) }
+    ensures err { OnErr result (foreign_asked (rows_of (found_of words.entry.now)) ≢ refused) }
 {
     foreign_by(alloc, words.get_str(FOREIGN), words.get_str(BOOLEANS))
 }
@@ -383,7 +552,12 @@ fn answer_compile<F: TextFiles, W: Sink, E: Sink>(
     let paths = files_or_none(words.get_strs(FILES));
     match foreign_of(alloc, words) {
         Ok(Foreign::Refused) => {
-            compile_files(from, alloc, paths, Asked { report, seed }, out, err)
+            let asked = Asked {
+                report,
+                explained: false,
+                seed,
+            };
+            compile_files(from, alloc, paths, asked, out, err)
         }
         Ok(Foreign::ByNames(conditionals)) => {
             let request = Request {
@@ -392,10 +566,10 @@ fn answer_compile<F: TextFiles, W: Sink, E: Sink>(
                 wanted: Wanted::Compiled(report),
                 seed,
             };
-            answer_by_names(from, alloc, request, out, err)
+            answer_given(from, alloc, request, out, err)
         }
         Ok(Foreign::Misused(misuse)) => tell_misuse(err, misuse),
-        Err(_) => refuse_for_memory(err),
+        Err(_) => refuse_for_memory(err, true),
     }
 }
 
@@ -422,18 +596,21 @@ fn answer_project<F: TextFiles, W: Sink, E: Sink>(
     ensures out_counted { W.failures out.old ≤ W.failures out.new }
     ensures err_counted { E.failures err.old ≤ E.failures err.new }
 {
+    let Some(wanted) = wanted_of(words) else {
+        return tell_misuse(err, Misuse::ListAndOutput);
+    };
     match conditionals_of(alloc, words) {
         Ok(Some(conditionals)) => {
             let request = Request {
                 paths: files_or_none(words.get_strs(FILES)),
                 conditionals: &conditionals,
-                wanted: Wanted::Projections,
+                wanted,
                 seed,
             };
-            answer_by_names(from, alloc, request, out, err)
+            answer_given(from, alloc, request, out, err)
         }
         Ok(None) => tell_misuse(err, Misuse::OtherBooleans),
-        Err(_) => refuse_for_memory(err),
+        Err(_) => refuse_for_memory(err, true),
     }
 }
 

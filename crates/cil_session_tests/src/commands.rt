@@ -103,7 +103,11 @@ const CASES: &[Case] = &[
         0,
         1000,
         1000,
-        (1, "", "refused 12 failing_devices:1:1 (\n"),
+        (
+            1,
+            "",
+            "refused 12 failing_devices:1:1 (\nnote: this list isn't closed\n",
+        ),
     ),
     (
         &[
@@ -165,7 +169,7 @@ fn read_at(rt: &impl Files, alloc: &Refusing<Global>, nth: u64) -> Told {
     let (is_read, is_memory) = match read_files(rt, alloc, PATHS) {
         Ok(_) => (true, false),
         Err(ReadFault::Memory) => (false, true),
-        Err(ReadFault::Unreadable(_)) => (false, false),
+        Err(ReadFault::Unreadable { .. }) => (false, false),
     };
     if alloc.refused() > before {
         (true, is_memory)
@@ -217,7 +221,11 @@ const REPORTS: &[(Report, u8, &str)] = &[
 fn compiled_at(heap: Global, report: &(Report, u8, &str), nth: u64) -> Told {
     let (report, status, printed) = *report;
     let seed = Seed::fixed();
-    let asked = Asked { report, seed };
+    let asked = Asked {
+        report,
+        explained: false,
+        seed,
+    };
     let alloc = Refusing::new(heap);
     alloc.refuse_from(nth);
     let mut out = MemorySink::new(heap);

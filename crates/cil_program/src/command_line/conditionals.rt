@@ -1,8 +1,8 @@
 //! How statements outside the language are taken, by the words of the command line.
 
-ghost use Rattle.std.specs.Prelude.{◌≡◌, ◌==◌, [], map, option_map, IfOk};
+ghost use Rattle.std.specs.Prelude.{◌≡◌, ◌≢◌, ◌==◌, [], map, option_map, IfOk, OnErr};
 ghost use Rattle.std.specs.List.{slice_split};
-ghost use Rattle.cil_program.specs.Conditionals.{conditionals_by, conditionals_in, conditionals_of, foreign_by, foreign_in, front_before, names_by, setting_in, setting_of, settings_of};
+ghost use Rattle.cil_program.specs.Conditionals.{any_setting_of, conditionals_by, conditionals_in, conditionals_of, foreign_by, foreign_in, front_before, names_by, refused, setting_in, setting_of, settings_of};
 
 use std::alloc::{AllocError, Global};
 
@@ -30,6 +30,8 @@ pub enum Misuse {
     OtherForeign,
     /// A value of `--booleans` of no form.
     OtherBooleans,
+    /// `--list` with `--output`.
+    ListAndOutput,
 }
 
 /// How statements outside the language are taken.
@@ -54,8 +56,8 @@ fn front_before<'a>(word: &'a [u8], end: &[u8]) -> Option<&'a [u8]>
 }
 
 /// `NAME=true` or `NAME=false`.
-fn setting_of(word: &str) -> Option<Setting<'_>>
-    ensures { option_map setting_in result ≡ setting_of word.now }
+fn any_setting_of(word: &str) -> Option<Setting<'_>>
+    ensures { option_map setting_in result ≡ any_setting_of word.now }
 {
     let bytes = word.as_bytes();
     if let Some(name) = front_before(bytes, b"=true") {
@@ -63,6 +65,17 @@ fn setting_of(word: &str) -> Option<Setting<'_>>
     }
     let name = front_before(bytes, b"=false")?;
     Some(Setting { name, value: false })
+}
+
+/// `NAME=true` or `NAME=false`, where NAME has no dot, since booleans are told apart by their last components.
+fn setting_of(word: &str) -> Option<Setting<'_>>
+    ensures { option_map setting_in result ≡ setting_of word.now }
+{
+    let setting = any_setting_of(word)?;
+    if setting.name.contains(&b'.') {
+        return None;
+    }
+    Some(setting)
 }
 
 /// The settings of words, if each is one.
@@ -143,15 +156,18 @@ fn names_by<'a>(alloc: Global, booleans: Option<&'a str>) -> Result<Foreign<'a>,
     }
 }
 
-/// How statements outside the language are taken by what `--foreign` and `--booleans` say.
+/// How statements outside the language are taken by what `--foreign` and `--booleans` say. Memory runs out only where they aren't
+/// refused.
 pub fn foreign_by<'a>(
     alloc: Global,
     foreign: Option<&str>,
     booleans: Option<&'a str>,
 ) -> Result<Foreign<'a>, AllocError>
-    ensures { IfOk result (λ answer. foreign_in answer
+    ensures ok { IfOk result (λ answer. foreign_in answer
         ≡ foreign_by (option_map (λ word. word.now) foreign.entry)
         (option_map (λ word. word.now) booleans.entry)) }
+    ensures err { OnErr result (foreign_by (option_map (λ word. word.now) foreign.entry)
+        (option_map (λ word. word.now) booleans.entry) ≢ refused) }
 {
     match foreign {
         Some(word) if word == "names" => names_by(alloc, booleans),
@@ -173,8 +189,9 @@ impl Misuse {
             Misuse::NoForeign => b"error: '--booleans' goes with '--foreign names'\n",
             Misuse::OtherForeign => b"error: '--foreign' takes the word names alone\n",
             Misuse::OtherBooleans => {
-                b"error: '--booleans' takes default, both, or NAME=true and NAME=false with commas between them\n"
+                b"error: '--booleans' takes default, both, or NAME=true and NAME=false with commas between them; a NAME has no dots\n"
             }
+            Misuse::ListAndOutput => b"error: '--list' and '--output' don't go together\n",
         }
     }
 }

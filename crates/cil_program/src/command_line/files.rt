@@ -1,23 +1,27 @@
 //! The files that are compiled.
 
-ghost use Rattle.std.specs.Prelude.{◌≡◌, ◌⊎◌, ◌<◌, All, Contains, List, ℕ, length, map, IfOk, IfErr, IsErrOf};
-ghost use Rattle.std.specs.List.{AllZip};
-ghost use Rattle.cil_stream.specs.Device.{Gives, HasEnded, HasFailed};
+ghost use Rattle.std.specs.Prelude.{◌≡◌, ◌==◌, All, Contains, List, ℕ, map, option_map, IfOk, IfErr, IfSome, OnOk};
+ghost use Rattle.std.specs.List.{AllZip, filter, slice_split};
+ghost use Rattle.std.specs.Str.{is_utf8};
+ghost use Rattle.std.specs.String.{string_bytes};
 ghost use Rattle.cil_store.specs.Stored.{entry_of};
-ghost use Rattle.cil_program.specs.CommandLine.{Content, IsBaseName, IsEntryFor, IsReadOf, IsUnreadable, NamesModule, untold};
+ghost use Rattle.cil_program.specs.CommandLine.{Content, IsBaseName, IsEntryFor, IsListed, IsReadOf, IsTextOf, IsUnreadable, NamesModule, untold};
+ghost use Rattle.cil_program.specs.Given.{with_slash};
 ghost use Rattle.cil_program.specs.declared.command_line.files.ReadFault.TheVariants.{Unreadable};
 
+use crate::command_line::reason::Reason;
 use cil_store::Entry;
-use cil_stream::{ReaderSource, Source, SourceFault};
-use std::alloc::{AllocError, AllocFailed, Allocator};
+use std::alloc::{AllocError, AllocFailed, Allocator, Global};
 use std::fs::File;
+use std::io;
+use std::io::{ErrorKind, Read, Write};
 use std::rt::Files;
 
 /// Why files were not read.
 #[derive(Clone, Copy, Debug, PartialEq, Eq)]
 pub enum ReadFault<'a> {
     /// The first that can't be read.
-    Unreadable(&'a str),
+    Unreadable { path: &'a str, reason: Reason },
     Memory,
 }
 
@@ -35,78 +39,144 @@ impl<'a, T: Drop> From<AllocFailed<T>> for ReadFault<'a> {
 /// Why a text was not read.
 #[derive(Clone, Copy, Debug, PartialEq, Eq)]
 pub enum TextFault {
-    /// Its file can't be read, or its source failed.
-    Source,
+    /// Its file can't be read.
+    Unreadable(Reason),
     Memory,
 }
 
-impl From<SourceFault> for TextFault {
-    ghost use Rattle.std.specs.Prelude.{◌≡◌};
-    ghost use Rattle.cil_program.specs.declared.command_line.files.TextFault.TheVariants.{Source};
-
-    ghost from_gives = { λ _ e. e ≡ Source };
-
-    fn from(_e: SourceFault) -> TextFault {
-        TextFault::Source
-    }
-}
-
-impl From<AllocError> for TextFault {
-    ghost use Rattle.std.specs.Prelude.{◌≡◌};
-    ghost use Rattle.cil_program.specs.declared.command_line.files.TextFault.TheVariants.{Memory};
-
-    ghost from_gives = { λ _ e. e ≡ Memory };
-
-    fn from(_e: AllocError) -> TextFault {
-        TextFault::Memory
-    }
-}
-
-/// How many bytes are asked of a file at once.
-const PIECE: usize = 8192;
-
 /// The greatest length of a text that a store takes.
-const GREATEST_TEXT: usize = 16_777_216;
+const GREATEST_TEXT: u64 = 16_777_216;
 
-/// Reads a text to the end of its source, or until it is longer than a store takes.
-fn read_text<S: Source, A: Allocator>(alloc: A, source: &mut S) -> Result<Vec<u8, A>, TextFault>
-    ensures read { IfOk result (λ text. Gives (S.account source.old) (S.account source.new) text.items) }
-    ensures whole { IfOk result (λ text. HasEnded (S.account source.old) (S.account source.new)
-        ⊎ (16777216 < length text.items)) }
-    ensures failed { IsErrOf result TextFault.Source →
-        HasFailed (S.account source.old).failures (S.account source.new).failures }
-{
-    let mut piece = [0; PIECE];
-    let mut text = Vec::new(alloc);
-    while text.len() <= GREATEST_TEXT {
-        let n = source.take(&mut piece)?;
-        if n == 0 {
-            return Ok(text);
-        }
-        text.extend_from_slice(&piece[..n])?;
+/// Why a read failed.
+fn fault_of(error: &io::Error) -> TextFault {
+    match error.kind() {
+        ErrorKind::OutOfMemory => TextFault::Memory,
+        kind => TextFault::Unreadable(Reason::of(kind, Reason::OtherOfRead)),
     }
-    Ok(text)
 }
 
-/// Files, of which the texts are read.
+/// Reads a text to its end, or until it is longer than a store takes.
+fn read_text<R: Read + Drop, A: Allocator>(alloc: A, reader: R) -> Result<Vec<u8, A>, TextFault>
+    ensures { IfOk result (λ text.
+        IfSome (R.remaining reader) (λ whole. IsTextOf whole text.items)) }
+{
+    let mut text = Vec::new(alloc);
+    match reader.take(GREATEST_TEXT + 1).read_to_end(&mut text) {
+        Ok(_) => Ok(text),
+        Err(error) => Err(fault_of(&error)),
+    }
+}
+
+/// Files, of which the texts are read and written.
 pub trait TextFiles {
     /// What it tells of the file at a path.
     ghost content: { Self → List ℕ → Content };
 
+    /// That a text was written to the file at a path, where it tells that.
+    ghost written: { Self → List ℕ → List ℕ → Type 0 };
+
     /// Reads the text of the file at a path, to its end, or until it is longer than a store takes.
     fn read<A: Allocator>(&self, alloc: A, path: &str) -> Result<Vec<u8, A>, TextFault>
         ensures ok { IfOk result (λ text. IsReadOf (content self.now path.now) text.items) }
-        ensures err { IsErrOf result TextFault.Source → IsUnreadable (content self.now path.now) };
+        ensures err { IfErr result (λ fault. (reason : _) → fault ≡ TextFault.Unreadable reason
+            → IsUnreadable (content self.now path.now)) };
+
+    /// The names in the folder at a path, in any order; none where there is no folder that can be read.
+    fn names(&self, alloc: Global, path: &str) -> Result<Option<Vec<String>>, AllocError>
+        ensures { IfOk result (λ names. IsListed (content self.now path.now)
+            (option_map (λ list. map string_bytes list.items) names)) };
+
+    /// Writes a text to a file that it makes at a path.
+    fn write(&self, path: &str, text: &[u8]) -> Result<(), Reason>
+        ensures { OnOk result (written self.now path.now text.now) };
+}
+
+/// A path with a slash at its end, but for the empty one.
+pub fn with_slash(alloc: Global, path: &str) -> Result<String, AllocError>
+    ensures { IfOk result (λ slashed. string_bytes slashed ≡ with_slash path.now) }
+{
+    let mut slashed = String::from_str(alloc, path)?;
+    let bytes = path.as_bytes();
+    if !bytes.is_empty() && !bytes.ends_with(b"/") {
+        slashed.push('/')?;
+    }
+    Ok(slashed)
+}
+
+/// The parts of a listing that NULs end, and what stands behind the last.
+fn listed<'l>(alloc: Global, listing: &'l [u8]) -> Result<Vec<&'l [u8]>, AllocError>
+    ensures { IfOk result (λ parts. map (λ part. part.now) parts.items
+        ≡ slice_split (λ b. b == 0) listing.entry.now) }
+{
+    listing.split(|b| *b == 0).collect(alloc)
+}
+
+/// Those of some names that are UTF-8. No path has another.
+fn texts_among(alloc: Global, names: &[&[u8]]) -> Result<Vec<String>, AllocError>
+    ensures { IfOk result (λ texts. map string_bytes texts.items
+        ≡ filter is_utf8 (map (λ name. name.now) names.now)) }
+{
+    let mut texts = Vec::new(alloc);
+    for name in names {
+        if let Ok(text) = str::from_utf8(name) {
+            texts.push(String::from_str(alloc, text)?)?;
+        }
+    }
+    Ok(texts)
+}
+
+/// The names that a folder gives as a listing, if it can be read. A listing that is longer than the longest text is answered as out
+/// of memory.
+fn read_names<R: Read + Drop>(alloc: Global, folder: R) -> Result<Option<Vec<String>>, AllocError>
+    ensures { IfOk result (λ found. IfSome found (λ names. IfSome (R.remaining folder)
+        (λ listing. map string_bytes names.items
+        ≡ filter is_utf8 (slice_split (λ b. b == 0) listing)))) }
+{
+    let listing = match read_text(alloc, folder) {
+        Ok(listing) => listing,
+        Err(TextFault::Memory) => return Err(AllocError),
+        Err(_) => return Ok(None),
+    };
+    if listing.len() as u64 > GREATEST_TEXT {
+        return Err(AllocError);
+    }
+    let parts = listed(alloc, listing.as_slice())?;
+    let names = texts_among(alloc, parts.as_slice())?;
+    Ok(Some(names))
+}
+
+/// Writes a text to a new file. Where there is a file already, it stays as it is.
+fn write_new<R: Files>(files: &R, path: &str, text: &[u8]) -> io::Result<()> {
+    let mut file = File::create_new(files, path)?;
+    file.write_all(text)
 }
 
 /// The files of the system. Of what stands in them nothing is told.
 impl<R: Files> TextFiles for R {
     ghost content = { λ _ _. untold };
 
+    ghost written = { λ _ _ _. Unit {0} };
+
     fn read<A: Allocator>(&self, alloc: A, path: &str) -> Result<Vec<u8, A>, TextFault> {
         match File::open(self, path) {
-            Ok(file) => read_text(alloc, &mut ReaderSource::new(file)),
-            Err(_) => Err(TextFault::Source),
+            Ok(file) => read_text(alloc, file),
+            Err(error) => Err(fault_of(&error)),
+        }
+    }
+
+    // The slash has the system follow a link to a folder.
+    fn names(&self, alloc: Global, path: &str) -> Result<Option<Vec<String>>, AllocError> {
+        let path = with_slash(alloc, path)?;
+        match self.open_dir(path.as_str()) {
+            Ok(folder) => read_names(alloc, folder),
+            Err(_) => Ok(None),
+        }
+    }
+
+    fn write(&self, path: &str, text: &[u8]) -> Result<(), Reason> {
+        match write_new(self, path, text) {
+            Ok(()) => Ok(()),
+            Err(error) => Err(Reason::of(error.kind(), Reason::OtherOfWrite)),
         }
     }
 }
@@ -122,13 +192,12 @@ pub struct ReadFile<'a, A: Allocator> {
 const PRIORITY: u32 = 400;
 
 /// What stands behind the last slash of a path.
-fn base_name(path: &str) -> &[u8]
+pub fn base_name(path: &str) -> &str
     ensures { IsBaseName path.now result.now }
 {
-    let bytes = path.as_bytes();
-    match path.rfind('/') {
-        Some(slash) => &bytes[slash + 1..],
-        None => bytes,
+    match path.rsplit_once('/') {
+        Some((_, base)) => base,
+        None => path,
     }
 }
 
@@ -136,7 +205,7 @@ fn base_name(path: &str) -> &[u8]
 pub fn module_name(path: &str) -> &[u8]
     ensures { NamesModule path.now result.now }
 {
-    let base = base_name(path);
+    let base = base_name(path).as_bytes();
     match base.strip_suffix(b".cil") {
         Some(name) => name,
         None => base,
@@ -168,12 +237,13 @@ fn read_file<'a, F: TextFiles, A: Allocator>(
     ensures ok { IfOk result (λ file. file.path ≡ path.entry) }
     ensures text { IfOk result (λ file.
         IsReadOf (F.content from.now path.entry.now) file.text.items) }
-    ensures err { IfErr result (λ fault. (unread : _) → fault ≡ Unreadable unread
+    ensures err { IfErr result (λ fault. (unread : _) (reason : _)
+        → fault ≡ Unreadable unread reason
         → (unread ≡ path.entry) × IsUnreadable (F.content from.now path.entry.now)) }
 {
     match from.read(alloc, path) {
         Ok(text) => Ok(ReadFile { path, text }),
-        Err(TextFault::Source) => Err(ReadFault::Unreadable(path)),
+        Err(TextFault::Unreadable(reason)) => Err(ReadFault::Unreadable { path, reason }),
         Err(TextFault::Memory) => Err(ReadFault::Memory),
     }
 }
@@ -187,7 +257,8 @@ pub fn read_files<'a, F: TextFiles, A: Allocator + Copy>(
     ensures ok { IfOk result (λ files. map (λ file. file.path.now) files.items ≡ map (λ path. path.now) paths.now) }
     ensures texts { IfOk result (λ files.
         All (λ file. IsReadOf (F.content from.now file.path.now) file.text.items) files.items) }
-    ensures err { IfErr result (λ fault. (unread : _) → fault ≡ Unreadable unread
+    ensures err { IfErr result (λ fault. (unread : _) (reason : _)
+        → fault ≡ Unreadable unread reason
         → Contains paths.now unread × IsUnreadable (F.content from.now unread.now)) }
 {
     let mut files = Vec::new(alloc);

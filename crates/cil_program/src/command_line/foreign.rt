@@ -6,30 +6,27 @@ ghost use Rattle.cil_projection.specs.Statements.{Projects, Tallies};
 ghost use Rattle.cil_program.specs.ByNames.{AreHindered, AreProjected, AreProjections, InTurn, IsGiven, IsKnown};
 ghost use Rattle.cil_program.specs.Conditionals.{conditionals_in, setting_in};
 
-use crate::command_line::compile::Report;
 use crate::command_line::conditionals::{Conditionals, Setting};
 use crate::command_line::files::ReadFile;
+use crate::command_line::packed::{Packed, packed_of};
 use cil_projection::{Booleans, DECLARATIONS, Tally, project};
 use cil_store::Seed;
 use cil_text::TextFault;
 use std::alloc::{AllocError, AllocFailed, Global};
 
-/// What is wanted of files whose statements outside the language are taken by their names.
-#[derive(Clone, Copy, Debug, PartialEq, Eq)]
-pub enum Wanted {
-    /// What is written of the policy that their projections are compiled to.
-    Compiled(Report),
-    /// Their projections.
-    Projections,
-}
-
 /// Why files were not projected.
 #[derive(Clone, Copy, Debug)]
 pub enum NotProjected<'m> {
-    /// The text of the file at a path has a fault, or memory ran out for it.
-    AtFault { path: &'m str, fault: TextFault<'m> },
+    /// The text of the file at a path has a fault, or memory ran out for it. It may look like a package.
+    AtFault {
+        path: &'m str,
+        fault: TextFault<'m>,
+        packed: Option<Packed>,
+    },
     /// The text of the file at a path is longer than a store takes.
-    TooLong { path: &'m str },
+    TooLong {
+        path: &'m str,
+    },
     Memory,
 }
 
@@ -97,6 +94,7 @@ fn collect_file<'m>(
         Err(fault) => Err(NotProjected::AtFault {
             path: file.path,
             fault,
+            packed: packed_of(text),
         }),
     }
 }
@@ -163,6 +161,7 @@ fn project_file<'m>(
         Err(fault) => Err(NotProjected::AtFault {
             path: file.path,
             fault,
+            packed: packed_of(text),
         }),
     }
 }

@@ -1,16 +1,21 @@
 //! What is written of files whose statements outside the language are taken by their names alone.
 
-ghost use Rattle.std.specs.Prelude.{◌≡◌, ◌<◌, List, ℕ, flat_map};
+ghost use Rattle.std.specs.Prelude.{◌≡◌, ◌<◌, ◌++◌, true, List, ℕ, flat_map};
 ghost use Rattle.cil_specs.specs.Bytes.{hex, hex_digit};
 ghost use Rattle.cil_text.specs.Image.{place_of, kind_of, shown};
 ghost use Rattle.cil_specs.specs.TextFault.{code_of};
 ghost use Rattle.cil_store_specs.specs.Next.{Refusal};
-ghost use Rattle.cil_program.specs.Common.{Writes, at_place, refusal_line};
-ghost use Rattle.cil_program.specs.ByNames.{IsRefusalBy, note_line};
+ghost use Rattle.cil_program.specs.Common.{Writes, at_place, by_store, refusal_line};
+ghost use Rattle.cil_program.specs.CommandLine.{NamesModule};
+ghost use Rattle.cil_program.specs.Meanings.{refusal_text};
+ghost use Rattle.cil_program.specs.Packed.{packed_text};
+ghost use Rattle.cil_program.specs.ByNames.{IsRefusalBy, hint_by, note_line};
 ghost use Rattle.cil_program.specs.declared.command_line.foreign.NotProjected.TheVariants.{AtFault};
 
 use crate::command_line::files::{ReadFile, module_name};
 use crate::command_line::foreign::NotProjected;
+use crate::command_line::meanings::{write_meaning, write_no_memory};
+use crate::command_line::packed::Packed;
 use crate::script::reply;
 use cil_projection::Tally;
 use cil_store::StoreFault;
@@ -34,8 +39,8 @@ fn hex(b: u8) -> [u8; 2]
     [hex_digit(b / 16), hex_digit(b % 16)]
 }
 
-/// Writes the refusal of a module for a fault of its text.
-fn write_fault<E: Sink>(
+/// Writes the line of the refusal of a module for a fault of its text.
+fn write_fault_line<E: Sink>(
     err: &mut E,
     name: &[u8],
     kind: TextFaultKind,
@@ -51,28 +56,75 @@ fn write_fault<E: Sink>(
     }
 }
 
-/// Writes the refusal of the module in the file at a path for a fault of its text, or since memory ran out for it.
-fn write_text_fault<E: Sink>(err: &mut E, path: &str, fault: TextFault<'_>) -> Result<(), SinkFault>
-    ensures { (refusal : Refusal) × IsRefusalBy (AtFault path.entry fault.entry) refusal
-        × Writes E.taken E.failures err.old err.new (refusal_line refusal) result }
+/// Writes the refusal of a module for a fault of its text, and what it means.
+fn write_fault<E: Sink>(
+    err: &mut E,
+    name: &[u8],
+    kind: TextFaultKind,
+    at: Place,
+    word: ShownWord<'_>,
+) -> Result<(), SinkFault>
+    ensures { Writes E.taken E.failures err.old err.new (refusal_text true
+        (at_place (code_of (kind_of kind)) name.now (place_of at) (shown word.entry))) result }
+{
+    write_fault_line(err, name, kind, at, word)?;
+    write_meaning(err, kind.code())
+}
+
+/// Writes what converts a package, where a text looks like one.
+fn write_packed<E: Sink>(err: &mut E, packed: Option<Packed>) -> Result<(), SinkFault>
+    ensures { Writes E.taken E.failures err.old err.new (packed_text packed) result }
+{
+    if let Some(packed) = packed {
+        write_all(err, packed.line())?;
+    }
+    Ok(())
+}
+
+/// Writes the refusal of the module in the file at a path for a fault of its text, or since memory ran out for it, and what it means.
+fn write_text_fault<E: Sink>(
+    err: &mut E,
+    path: &str,
+    fault: TextFault<'_>,
+    packed: Option<Packed>,
+) -> Result<(), SinkFault>
+    ensures { (refusal : Refusal) × IsRefusalBy (AtFault path.entry fault.entry packed) refusal
+        × Writes E.taken E.failures err.old err.new
+        (refusal_text true refusal ++ hint_by (AtFault path.entry fault.entry packed)) result }
 {
     match fault {
-        TextFault::Found { kind, at, word } => write_fault(err, module_name(path), kind, at, word),
-        TextFault::Memory => reply::write_no_memory(err),
+        TextFault::Found { kind, at, word } => {
+            write_fault(err, module_name(path), kind, at, word)?;
+            write_packed(err, packed)
+        }
+        TextFault::Memory => write_no_memory(err, true),
     }
 }
 
-/// Writes why files were not projected.
+/// Writes that the text of the file at a path is too long, and what that means.
+fn write_too_long<E: Sink>(err: &mut E, path: &str) -> Result<(), SinkFault>
+    ensures { (name : List ℕ) × NamesModule path.now name
+        × Writes E.taken E.failures err.old err.new (refusal_text true (by_store 34 name)) result }
+{
+    let code = StoreFault::TextTooLong.code();
+    reply::write_store_refusal(err, code, module_name(path))?;
+    write_meaning(err, code)
+}
+
+/// Writes why files were not projected, and what that means.
 pub fn write_not_projected<E: Sink>(err: &mut E, why: NotProjected<'_>) -> Result<(), SinkFault>
     ensures { (refusal : Refusal) × IsRefusalBy why.entry refusal
-        × Writes E.taken E.failures err.old err.new (refusal_line refusal) result }
+        × Writes E.taken E.failures err.old err.new
+        (refusal_text true refusal ++ hint_by why.entry) result }
 {
     match why {
-        NotProjected::AtFault { path, fault } => write_text_fault(err, path, fault),
-        NotProjected::TooLong { path } => {
-            reply::write_store_refusal(err, StoreFault::TextTooLong.code(), module_name(path))
-        }
-        NotProjected::Memory => reply::write_no_memory(err),
+        NotProjected::AtFault {
+            path,
+            fault,
+            packed,
+        } => write_text_fault(err, path, fault, packed),
+        NotProjected::TooLong { path } => write_too_long(err, path),
+        NotProjected::Memory => write_no_memory(err, true),
     }
 }
 

@@ -2,7 +2,7 @@
 
 ghost use Rattle.std.specs.Prelude.{◌≡◌, Some, true, false, map, codes, IfErr, IfOk};
 ghost use Rattle.clap.specs.Words.{rule_of};
-ghost use Rattle.cil_program.specs.Program.{booleans_rule, files_rule, foreign_rule, violations_rule};
+ghost use Rattle.cil_program.specs.Program.{booleans_rule, files_rule, foreign_rule, list_rule, output_rule, violations_rule};
 ghost use Rattle.cil_program.specs.Common.{app_of, kind_of, subcommand_name_of, subcommand_of, subcommand_rows_of, takes, OutOfMemory, AsksSession, compile_app, program_app, project_app, session_app};
 ghost use Rattle.clap.specs.declared.builder.command.Command.TheViews.{out-Command};
 
@@ -24,8 +24,12 @@ pub const BOOLEANS: &str = "booleans";
 
 pub const FILES: &str = "FILE";
 
-/// The subcommand that writes what files are projected to.
+/// The subcommand that writes what files are projected to, and its options.
 pub const PROJECT: &str = "project";
+
+pub const LIST: &str = "list";
+
+pub const OUTPUT: &str = "output";
 
 /// The subcommand `session`.
 fn session_command<'a>(alloc: Global) -> Command<'a>
@@ -71,8 +75,32 @@ fn violations_option<'a>(alloc: Global) -> Arg<'a>
         .help("Print the violations of neverallow rules, in place of the access rules")
 }
 
-/// The files of a subcommand.
-fn files_argument<'a>(alloc: Global) -> Arg<'a>
+/// The option that asks for kinds of statements.
+fn list_option<'a>(alloc: Global) -> Arg<'a>
+    ensures rule { rule_of result ≡ list_rule }
+    ensures local { result.global ≡ false }
+{
+    Arg::new(alloc, LIST)
+        .long("list")
+        .action(ArgAction::SetTrue)
+        .help("Print only how many statements of each kind are taken by their names")
+}
+
+/// The option that says to which folder projections are written.
+fn output_option<'a>(alloc: Global) -> Arg<'a>
+    ensures rule { rule_of result ≡ output_rule }
+    ensures local { result.global ≡ false }
+{
+    Arg::new(alloc, OUTPUT)
+        .short('o')
+        .long("output")
+        .action(ArgAction::Set)
+        .value_name("DIR")
+        .help("Write each projection into DIR, under the base name of its file")
+}
+
+/// The files of a subcommand, with what its help says of them.
+fn files_argument<'a>(alloc: Global, help: &'static str) -> Arg<'a>
     ensures rule { rule_of result ≡ files_rule }
     ensures local { result.global ≡ false }
 {
@@ -80,7 +108,7 @@ fn files_argument<'a>(alloc: Global) -> Arg<'a>
         .required(true)
         .num_args(1..)
         .action(ArgAction::Append)
-        .help("CIL files, each a module named by the file's base name less a final .cil")
+        .help(help)
 }
 
 /// The subcommand `compile`.
@@ -94,7 +122,9 @@ fn compile_command<'a>(alloc: Global) -> Result<Command<'a>, AllocError>
     let compile = compile.arg(violations_option(alloc))?;
     let compile = compile.arg(foreign_option(alloc))?;
     let compile = compile.arg(booleans_option(alloc))?;
-    compile.arg(files_argument(alloc))
+    let help =
+        "CIL files, each a module named by its base name less a final .cil; folders with --foreign";
+    compile.arg(files_argument(alloc, help))
 }
 
 /// The subcommand `project`.
@@ -103,10 +133,14 @@ fn project_command<'a>(alloc: Global) -> Result<Command<'a>, AllocError>
     ensures local { IfOk result (λ command. (out-Command command).has_globals ≡ false) }
 {
     let project = Command::new(alloc, PROJECT).about(
-        "Print what CIL files are compiled as with --foreign names",
+        "Print or write what CIL files are compiled as with --foreign names",
     );
+    let project = project.arg(list_option(alloc))?;
+    let project = project.arg(output_option(alloc))?;
     let project = project.arg(booleans_option(alloc))?;
-    project.arg(files_argument(alloc))
+    let help =
+        "CIL files, each a module named by its base name less a final .cil, or folders of them";
+    project.arg(files_argument(alloc, help))
 }
 
 /// The program's command.

@@ -1,4 +1,4 @@
-use Rattle.cil_program.proofs.Common.{◌≡◌, ◌∙◌, [], All, map, ap, refl, sym, subst, AllZip, IfOk-weaker, Gains, GainsFront, gains-none, for_memory, refusal_line, unreadable_line, AnswersByNames, AnswersProjected, IsReadOf, answers, conditionals_in, none_held, one_unreadable}
+use Rattle.cil_program.proofs.Common.{◌∙◌, [], All, map, ap, ap₂, refl, sym, subst, AllZip, IfOk-weaker, Gains, GainsFront, gains-none, for_memory, refusal_text, hint_by, true, ◌++◌, unreadable_text, AnswersByNames, AnswersProjected, IsReadOf, answers, conditionals_in, none_held, one_unreadable, wanted_in}
 use Rattle.cil_specs.proofs.NamesLemmas.{contains-map}
 use Rattle.cil_program.proofs.CommandLineLemmas.{front-none, on-err}
 use Rattle.cil_program.proofs.ByNamesLemmas.{read-texts, refused-by}
@@ -6,33 +6,35 @@ use Rattle.cil_program.proofs.command_line.answer_by_names.Goals as goal
 
 pub returns-in-Err-Memory-clause-ok : goal.returns-in-Err-Memory-clause-ok
 returns-in-Err-Memory-clause-ok g c =
-    IfOk-weaker c.refuse_for_memory.result _ _ (λ status told. ([], refusal_line for_memory, gains-none (g.W.Sink.taken c.args.out.now), told.1, none_held refl refl told.0)) c.refuse_for_memory.ensures.ok
+    IfOk-weaker c.refuse_for_memory.result _ _ (λ status told. ([], refusal_text true for_memory, gains-none (g.W.Sink.taken c.args.out.now), told.1, none_held refl refl told.0)) c.refuse_for_memory.ensures.ok
 
 pub returns-in-Err-Memory-clause-err : goal.returns-in-Err-Memory-clause-err
 returns-in-Err-Memory-clause-err g c =
-    on-err c.refuse_for_memory.result _ _ (λ begun. ([], refusal_line for_memory, 1, front-none (g.W.Sink.taken c.args.out.now), begun, none_held refl refl refl)) c.refuse_for_memory.ensures.err
+    on-err c.refuse_for_memory.result _ _ (λ begun. ([], refusal_text true for_memory, 1, front-none (g.W.Sink.taken c.args.out.now), begun, none_held refl refl refl)) c.refuse_for_memory.ensures.err
 
 pub returns-in-Err-Unreadable-clause-ok : goal.returns-in-Err-Unreadable-clause-ok
 returns-in-Err-Unreadable-clause-ok g c =
-    let path = c.in-Err-Unreadable.unread in
+    let path = c.in-Err-Unreadable.path in
+    let reason = c.in-Err-Unreadable.reason in
     let taken = g.E.Sink.taken in
-    let unread = c.in-Err-Unreadable.ensures.err path c.in-Err-Unreadable.field-0-is in
+    let unread = c.in-Err-Unreadable.ensures.err path reason c.in-Err-Unreadable.field-0-is in
     let given = contains-map (λ path. path.now) c.args.request.paths.now path unread.0 in
-    IfOk-weaker c.tell_unreadable.result _ _ (λ status written.
-    let told = subst (λ p. Gains (taken c.args.err.now) (taken c.tell_unreadable.new.err) (unreadable_line p.now)) c.in-Err-Unreadable.unread-is written.1 in
-    ([], unreadable_line path.now, gains-none (g.W.Sink.taken c.args.out.now), told, one_unreadable path.now given unread.1 refl refl written.0))
-    c.tell_unreadable.ensures.ok
+    IfOk-weaker c.explain_unreadable.result _ _ (λ status written.
+    let told = subst (Gains (taken c.args.err.now) (taken c.explain_unreadable.new.err)) (ap₂ (λ p r. unreadable_text p.now r) c.in-Err-Unreadable.path-is c.in-Err-Unreadable.reason-is) written.1 in
+    ([], unreadable_text path.now reason, gains-none (g.W.Sink.taken c.args.out.now), told, one_unreadable path.now reason given unread.1 refl refl written.0))
+    c.explain_unreadable.ensures.ok
 
 pub returns-in-Err-Unreadable-clause-err : goal.returns-in-Err-Unreadable-clause-err
 returns-in-Err-Unreadable-clause-err g c =
-    let path = c.in-Err-Unreadable.unread in
+    let path = c.in-Err-Unreadable.path in
+    let reason = c.in-Err-Unreadable.reason in
     let taken = g.E.Sink.taken in
-    let unread = c.in-Err-Unreadable.ensures.err path c.in-Err-Unreadable.field-0-is in
+    let unread = c.in-Err-Unreadable.ensures.err path reason c.in-Err-Unreadable.field-0-is in
     let given = contains-map (λ path. path.now) c.args.request.paths.now path unread.0 in
-    on-err c.tell_unreadable.result _ _ (λ begun.
-    let told = subst (λ p. GainsFront (taken c.args.err.now) (taken c.tell_unreadable.new.err) (unreadable_line p.now)) c.in-Err-Unreadable.unread-is begun in
-    ([], unreadable_line path.now, 3, front-none (g.W.Sink.taken c.args.out.now), told, one_unreadable path.now given unread.1 refl refl refl))
-    c.tell_unreadable.ensures.err
+    on-err c.explain_unreadable.result _ _ (λ begun.
+    let told = subst (GainsFront (taken c.args.err.now) (taken c.explain_unreadable.new.err)) (ap₂ (λ p r. unreadable_text p.now r) c.in-Err-Unreadable.path-is c.in-Err-Unreadable.reason-is) begun in
+    ([], unreadable_text path.now reason, 3, front-none (g.W.Sink.taken c.args.out.now), told, one_unreadable path.now reason given unread.1 refl refl refl))
+    c.explain_unreadable.ensures.err
 
 pub returns-in-Ok-projected-clause-ok : goal.returns-in-Ok-projected-clause-ok
 returns-in-Ok-projected-clause-ok g c =
@@ -50,7 +52,7 @@ returns-in-Ok-projected-clause-ok g c =
       made.1,
       made.2,
       made.3,
-      answers texts others p.tally zipped c.in-Ok-projected.ensures.ok (subst (λ ps. AnswersProjected ps others p.tally c.args.request.wanted made.0 made.1 status) paths_are made.4),
+      answers texts others p.tally zipped c.in-Ok-projected.ensures.ok (subst (λ ps. AnswersProjected ps others p.tally (wanted_in c.args.request.wanted) made.0 made.1 status) paths_are made.4),
     ))
     c.answer_projected.ensures.ok
 
@@ -71,7 +73,7 @@ returns-in-Ok-projected-clause-err g c =
       made.2,
       made.3,
       made.4,
-      answers texts others p.tally zipped c.in-Ok-projected.ensures.ok (subst (λ ps. AnswersProjected ps others p.tally c.args.request.wanted made.0 made.1 made.2) paths_are made.5),
+      answers texts others p.tally zipped c.in-Ok-projected.ensures.ok (subst (λ ps. AnswersProjected ps others p.tally (wanted_in c.args.request.wanted) made.0 made.1 made.2) paths_are made.5),
     ))
     c.answer_projected.ensures.err
 
@@ -85,12 +87,12 @@ returns-clause-ok g c =
     let asked = c.args.request in
     IfOk-weaker c.tell_not_projected.result _ _ (λ status told. (
       [],
-      refusal_line told.0,
+      (refusal_text true told.0 ++ hint_by c.in-Err.why),
       gains-none (g.W.Sink.taken c.args.out.now),
       told.3,
-      subst (λ ps. AnswersByNames content ps (conditionals_in asked.conditionals.now) asked.wanted [] (refusal_line told.0) status) files_are
-          (subst (λ s. AnswersByNames content (map (λ f. f.path.now) files) (conditionals_in asked.conditionals.now) asked.wanted [] (refusal_line told.0) s) (sym told.2)
-          (refused-by content (λ f. f.path.now) (λ f. f.text.items) files (conditionals_in asked.conditionals.now) asked.wanted c.in-Err.why told.0 read c.in-Err.ensures.err told.1)),
+      subst (λ ps. AnswersByNames content ps (conditionals_in asked.conditionals.now) (wanted_in asked.wanted) [] (refusal_text true told.0 ++ hint_by c.in-Err.why) status) files_are
+          (subst (λ s. AnswersByNames content (map (λ f. f.path.now) files) (conditionals_in asked.conditionals.now) (wanted_in asked.wanted) [] (refusal_text true told.0 ++ hint_by c.in-Err.why) s) (sym told.2)
+          (refused-by content (λ f. f.path.now) (λ f. f.text.items) files (conditionals_in asked.conditionals.now) (wanted_in asked.wanted) c.in-Err.why told.0 read c.in-Err.ensures.err told.1)),
     ))
     c.tell_not_projected.ensures.ok
 
@@ -104,11 +106,11 @@ returns-clause-err g c =
     let asked = c.args.request in
     on-err c.tell_not_projected.result _ _ (λ begun. (
       [],
-      refusal_line begun.0,
+      (refusal_text true begun.0 ++ hint_by c.in-Err.why),
       1,
       front-none (g.W.Sink.taken c.args.out.now),
       begun.2,
-      subst (λ ps. AnswersByNames content ps (conditionals_in asked.conditionals.now) asked.wanted [] (refusal_line begun.0) 1) files_are
-          (refused-by content (λ f. f.path.now) (λ f. f.text.items) files (conditionals_in asked.conditionals.now) asked.wanted c.in-Err.why begun.0 read c.in-Err.ensures.err begun.1),
+      subst (λ ps. AnswersByNames content ps (conditionals_in asked.conditionals.now) (wanted_in asked.wanted) [] (refusal_text true begun.0 ++ hint_by c.in-Err.why) 1) files_are
+          (refused-by content (λ f. f.path.now) (λ f. f.text.items) files (conditionals_in asked.conditionals.now) (wanted_in asked.wanted) c.in-Err.why begun.0 read c.in-Err.ensures.err begun.1),
     ))
     c.tell_not_projected.ensures.err

@@ -23,7 +23,7 @@ pub returns-in-Err-Unreadable-clause-ok : goal.returns-in-Err-Unreadable-clause-
 returns-in-Err-Unreadable-clause-ok g c =
     let path = c.in-Err-Unreadable.path in
     let taken = g.E.Sink.taken in
-    let unread = c.in-Err-Unreadable.ensures.err path c.in-Err-Unreadable.field-0-is in
+    let unread = c.in-Err-Unreadable.ensures.err path _ c.in-Err-Unreadable.field-0-is in
     let given = contains-map (λ path. path.now) c.args.paths.now path unread.0 in
     IfOk-weaker c.tell_unreadable.result _ _ (λ status written.
     let told = subst (λ p. Gains (taken c.args.err.now) (taken c.tell_unreadable.new.err) (unreadable_line p.now)) c.in-Err-Unreadable.path-is written.1 in
@@ -52,7 +52,7 @@ pub returns-in-Err-Unreadable-clause-err : goal.returns-in-Err-Unreadable-clause
 returns-in-Err-Unreadable-clause-err g c =
     let path = c.in-Err-Unreadable.path in
     let taken = g.E.Sink.taken in
-    let unread = c.in-Err-Unreadable.ensures.err path c.in-Err-Unreadable.field-0-is in
+    let unread = c.in-Err-Unreadable.ensures.err path _ c.in-Err-Unreadable.field-0-is in
     let given = contains-map (λ path. path.now) c.args.paths.now path unread.0 in
     on-err c.tell_unreadable.result _ _ (λ begun.
     let told = subst (λ p. GainsFront (taken c.args.err.now) (taken c.tell_unreadable.new.err) (unreadable_line p.now)) c.in-Err-Unreadable.path-is begun in

@@ -4,9 +4,9 @@ use Rattle.cil_specs.specs.Violations.{Violation, violations_text}
 use Rattle.cil_program.proofs.command_line.compile.write_report.Goals as goal
 
 pub returns-in_ok-write_listing-in-Listing-clause-ok : goal.returns-in_ok-write_listing-in-Listing-clause-ok
-returns-in_ok-write_listing-in-Listing-clause-ok g c = λ entries of.
-    let written = c.in_ok-write_listing-in-Listing.ensures.ok in
-    (flat_map row_line written.0, written.3, lists c.args.policy.now written.0 c.in-Listing.is of written.1 refl refl refl)
+returns-in_ok-write_listing-in-Listing-clause-ok g c = λ explained entries store of meant.
+    let written = c.in_ok-write_listing-in-Listing.ensures.ok store meant in
+    (flat_map row_line written.0, written.3, lists store written.0 c.in-Listing.is of written.1 refl refl refl)
 
 none : (n : ℕ) (violations : List Violation) → n ≡ length violations → n ≡ 0 → 0 ≡ status_of_violations violations
 none n [] is zero = refl
@@ -17,31 +17,31 @@ some n [] is other = absurd (other is)
 some n (v ∷ violations) is other = refl
 
 pub returns-then-violations-eq0-clause-ok : goal.returns-then-violations-eq0-clause-ok
-returns-then-violations-eq0-clause-ok g c = λ entries of.
-    let written = c.in_ok-violations-in-Violations.ensures.ok in (
+returns-then-violations-eq0-clause-ok g c = λ explained entries store of meant.
+    let written = c.in_ok-violations-in-Violations.ensures.ok store meant in (
       violations_text written.0,
       written.3,
-      tells c.args.policy.now written.0 c.in-Violations.is of written.1 refl refl (none c.in_ok-violations-in-Violations.violations written.0 written.2 c.if-violations-eq0.true),
+      tells store written.0 c.in-Violations.is of written.1 refl refl (none c.in_ok-violations-in-Violations.violations written.0 written.2 c.if-violations-eq0.true),
     )
 
 pub returns-else-violations-eq0-clause-ok : goal.returns-else-violations-eq0-clause-ok
-returns-else-violations-eq0-clause-ok g c = λ entries of.
-    let written = c.in_ok-violations-in-Violations.ensures.ok in (
+returns-else-violations-eq0-clause-ok g c = λ explained entries store of meant.
+    let written = c.in_ok-violations-in-Violations.ensures.ok store meant in (
       violations_text written.0,
       written.3,
-      tells c.args.policy.now written.0 c.in-Violations.is of written.1 refl refl (some c.in_ok-violations-in-Violations.violations written.0 written.2 c.if-violations-eq0.false),
+      tells store written.0 c.in-Violations.is of written.1 refl refl (some c.in_ok-violations-in-Violations.violations written.0 written.2 c.if-violations-eq0.false),
     )
 
 pub returns-in_err-write_listing-in-Listing-clause-err : goal.returns-in_err-write_listing-in-Listing-clause-err
-returns-in_err-write_listing-in-Listing-clause-err g c = λ entries of is.
-    let begun = c.in_err-write_listing-in-Listing.ensures.err in
-    (flat_map row_line begun.0, 0, begun.2, lists c.args.policy.now begun.0 c.in-Listing.is of begun.1 refl refl refl)
+returns-in_err-write_listing-in-Listing-clause-err g c = λ explained entries store of meant is.
+    let begun = c.in_err-write_listing-in-Listing.ensures.err store meant in
+    (flat_map row_line begun.0, 0, begun.2, lists store begun.0 c.in-Listing.is of begun.1 refl refl refl)
 
 pub returns-in_err-violations-in-Violations-clause-err : goal.returns-in_err-violations-in-Violations-clause-err
-returns-in_err-violations-in-Violations-clause-err g c = λ entries of is.
-    let begun = c.in_err-violations-in-Violations.ensures.err (search rules) in (
+returns-in_err-violations-in-Violations-clause-err g c = λ explained entries store of meant is.
+    let begun = c.in_err-violations-in-Violations.ensures.err store meant (search rules) in (
       violations_text begun.0,
       status_of_violations begun.0,
       begun.2,
-      tells c.args.policy.now begun.0 c.in-Violations.is of begun.1 refl refl refl,
+      tells store begun.0 c.in-Violations.is of begun.1 refl refl refl,
     )

@@ -1,4 +1,4 @@
-use Rattle.std.proofs.Common.{◌≡◌, ◌∙◌, ◌+◌, ◌++◌, ◌∷◌, [], List, ℕ, Option, None, Some, refl, ap, sym, map, take, drop}
+use Rattle.std.proofs.Common.{◌≡◌, ◌∙◌, ◌++◌, ◌∷◌, [], List, ℕ, Option, None, Some, refl, ap, sym, map, take}
 use Rattle.std.proofs.lemmas.List.{map-append, take_more, take-append-drop, drop_more}
 use Rattle.cil_program.specs.Conditionals.{Setting, in_front, setting_in, setting_of, settings_of}
 use Rattle.cil_program.proofs.command_line.conditionals.settings_of.Goals as goal

@@ -1,12 +1,6 @@
-use Rattle.cil_program.proofs.Common.{◌∙◌, List, [], ◌∷◌, ◌++◌, take, ap, sym, subst, AllZip, take_more, entry_of, IsEntryFor}
+use Rattle.cil_program.proofs.Common.{◌∙◌, [], ◌∷◌, ◌++◌, take, ap, sym, subst, AllZip, take_more, entry_of, IsEntryFor}
+use Rattle.cil_program.proofs.ZipLemmas.{all_zip-more}
 use Rattle.cil_program.proofs.command_line.files.entries_of.Goals as goal
-
--- one place more
-one_more : {X Y : Type 0} (R : X → Y → Type 0) (xs : List X) (ys : List Y) (x : X) (y : Y) → AllZip R xs ys → R x y → AllZip R (xs ++ x ∷ []) (ys ++ y ∷ [])
-one_more R [] [] x y all r = (r, tt)
-one_more R [] (b ∷ ys) x y all r = absurd all
-one_more R (a ∷ xs) [] x y all r = absurd all
-one_more R (a ∷ xs) (b ∷ ys) x y all r = (all.0, one_more R xs ys x y all.1 r)
 
 pub loop-file-preserved : goal.loop-file-preserved
 loop-file-preserved g c =
@@ -14,4 +8,4 @@ loop-file-preserved g c =
     let i = c.loop-file.file-index in
     let taken = ap (λ file. take i files ++ file ∷ []) c.file-item.is ∙ sym (take_more files i _ c.loop-file-test.true) in
     rw c.in_ok-push.ensures.items (subst (λ l. AllZip (λ file entry. IsEntryFor file.path.now file.text.items (entry_of entry)) l (c.loop-file.entries.items ++ c.as_entry.result ∷ [])) taken
-    (one_more (λ file entry. IsEntryFor file.path.now file.text.items (entry_of entry)) (take i files) c.loop-file.entries.items c.file-item.result c.as_entry.result c.loop-file.invariant c.as_entry.ensures))
+    (all_zip-more (λ file entry. IsEntryFor file.path.now file.text.items (entry_of entry)) (take i files) c.loop-file.entries.items c.file-item.result c.as_entry.result c.loop-file.invariant c.as_entry.ensures))

@@ -1,4 +1,4 @@
-use Rattle.std.proofs.Common.{◌≡◌, ◌∙◌, ◌++◌, ◌∷◌, [], map, take, ap, ap₂, sym, subst}
+use Rattle.std.proofs.Common.{◌∙◌, ◌++◌, ◌∷◌, [], map, take, ap, sym, subst}
 use Rattle.std.proofs.lemmas.List.{map-append, take_more}
 use Rattle.cil_projection.specs.Conditions.{settings_of}
 use Rattle.cil_projection.specs.Statements.{Tallies}

@@ -11,4 +11,4 @@ loop-setting-preserved c =
     let i = c.loop-setting.setting-index in
     let longer = ap (map setting_in) (take_more settings i _ c.loop-setting-test.true) ∙ map-append setting_in (take i settings) _ in
     subst (λ s. InTurn IsGiven s c.args.booleans.now c.set.new.self) (sym longer)
-    (in_turn-more IsGiven (map setting_in (take i settings)) _ c.args.booleans.now c.loop-setting.booleans c.set.new.self c.loop-setting.invariant c.in_ok-set.ensures)
+    (in_turn-more IsGiven (map setting_in (take i settings)) _ c.args.booleans.now c.loop-setting.booleans c.set.new.self c.loop-setting.invariant c.in_ok-set.ensures.ok)

@@ -1,5 +1,4 @@
 use Rattle.std.proofs.Common.{◌≡◌, ◌∙◌, ◌++◌, List, ℕ, ap, codes, decimal, subst}
-use Rattle.cil_program.specs.ByNames.{note_line}
 use Rattle.cil_program.specs.Reply.{Writes}
 use Rattle.cil_program.proofs.command_line.notes.write_note.Goals as goal
 

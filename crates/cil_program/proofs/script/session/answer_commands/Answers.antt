@@ -1,4 +1,4 @@
-use Rattle.cil_program.proofs.Common.{[], refl, arith, Standing}
+use Rattle.cil_program.proofs.Common.{refl, arith, Standing}
 use Rattle.cil_program.proofs.SessionLemmas.{comes-done, comes-failed}
 use Rattle.cil_program.proofs.ScriptLemmas.{begun, at-start, turn-more, done-at-end, done-without-end, done-at-line, session-cut, fewer-left}
 use Rattle.cil_program.proofs.script.session.answer_commands.Goals as goal

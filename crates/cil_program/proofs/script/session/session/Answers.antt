@@ -1,4 +1,4 @@
-use Rattle.cil_program.proofs.Common.{refl, Standing, Read, Write}
+use Rattle.cil_program.proofs.Common.{refl, Read, Write}
 use Rattle.cil_program.proofs.SessionLemmas.{fault-is}
 use Rattle.cil_program.proofs.ScriptLemmas.{leaves, cut-at-last, cut-in_last_line}
 use Rattle.cil_program.proofs.script.session.session.Goals as goal

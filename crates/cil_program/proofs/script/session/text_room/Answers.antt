@@ -1,4 +1,4 @@
-use Rattle.cil_program.proofs.Common.{◌≡◌, ◌∙◌, Option, min, refl, ap, sym, Batch, install, for_memory, install_refusal, refused, out_of_memory, by_the_edit, store_refusal_of, behind_fault, given_up, Memory}
+use Rattle.cil_program.proofs.Common.{◌∙◌, min, refl, ap, sym, install, for_memory, install_refusal, refused, out_of_memory, by_the_edit, store_refusal_of, behind_fault, given_up, Memory}
 use Rattle.cil_store_specs.proofs.BatchLemmas.{store-refused-step}
 use Rattle.cil_program.proofs.AnswerLemmas.{held-answered}
 use Rattle.cil_program.proofs.script.session.text_room.Goals as goal
