@@ -54,6 +54,10 @@ same_named earlier (path ∷ paths) [] = []
 same_named earlier (path ∷ paths) (name ∷ names) =
     (if has_name earlier name then path ∷ [] else []) ++ same_named (with_name earlier name) paths names
 
+-- the paths, among some, of files that have the module names of earlier ones
+abbrev pub AreSameNamed : List (List ℕ) → List (List ℕ) → Type 0
+AreSameNamed paths found = (names : List (List ℕ)) × AllZip NamesModule paths names × (found ≡ same_named [] paths names)
+
 -- What is printed and told of given paths whose files' statements outside the language are taken by their names alone, and the exit
 -- status: which of the files that they stand for have the module names of earlier ones, and then what is of these files; or that
 -- memory ran out.

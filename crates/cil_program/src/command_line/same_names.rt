@@ -1,10 +1,8 @@
 //! Files of one module name.
 
-ghost use Rattle.std.specs.Prelude.{◌≡◌, [], List, ℕ, flat_map, map, IfOk};
-ghost use Rattle.std.specs.List.{AllZip};
+ghost use Rattle.std.specs.Prelude.{flat_map, map, IfOk};
 ghost use Rattle.cil_program.specs.Common.{Writes};
-ghost use Rattle.cil_program.specs.CommandLine.{NamesModule};
-ghost use Rattle.cil_program.specs.Given.{same_name_line, same_named};
+ghost use Rattle.cil_program.specs.Given.{AreSameNamed, same_name_line};
 
 use crate::command_line::files::module_name;
 use cil_names::Names;
@@ -18,8 +16,8 @@ pub fn same_named<'p>(
     seed: Seed,
     paths: &[&'p str],
 ) -> Result<Vec<&'p str>, AllocError>
-    ensures { IfOk result (λ found. (names : List (List ℕ)) × AllZip NamesModule (map (λ path. path.now) paths.now) names
-        × (map (λ path. path.now) found.items ≡ same_named [] (map (λ path. path.now) paths.now) names)) }
+    ensures { IfOk result (λ found.
+        AreSameNamed (map (λ path. path.now) paths.now) (map (λ path. path.now) found.items)) }
 {
     let mut seen = Names::new(alloc, seed);
     let mut found = Vec::new(alloc);
