@@ -1,8 +1,8 @@
 //! The session of the engine that compiles anew, over the real streams, to compare with the session of `cilsem`. It reads no words.
 #![tactic(auto)]
 
-use cil_program::command_line::exit_status;
-use cil_program::script::session::session;
+use cil_session::outcome::exit_status;
+use cil_session::session::session;
 use cil_store::Plain;
 use cil_stream::{ReaderSource, WriterSink};
 use std::io;

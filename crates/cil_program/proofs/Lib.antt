@@ -1,15 +1,6 @@
 pub mod Common
-pub mod InputLemmas
-pub mod CommandLemmas
-pub mod EndLemmas
-pub mod BatchLemmas
-pub mod AnswerLemmas
-pub mod SessionLemmas
-pub mod ScriptLemmas
-pub mod ReplyLemmas
 pub mod MeaningLemmas
 pub mod CommandLineLemmas
 pub mod ZipLemmas
 pub mod ByNamesLemmas
 pub mod GivenLemmas
-pub mod LawLemmas

@@ -1,6 +1,6 @@
 -- Refusals, and what they mean behind them.
 use Rattle.cil_program.proofs.Common.{◌≡◌, ◌++◌, [], append-nil, ℕ, List, Bool, true, false, Option, Result, Ok, Err, IsErr, refusal_line, subst, sym, Writes}
-use Rattle.cil_program.proofs.ReplyLemmas.{writes-both, writes-first}
+use Rattle.cil_session.proofs.ReplyLemmas.{writes-both, writes-first}
 use Rattle.cil_store_specs.specs.Next.{Refusal}
 use Rattle.cil_stream.specs.declared.sink.SinkFault.{SinkFault}
 use Rattle.cil_program.specs.Meanings.{code_of, meaning_line, refusal_text}

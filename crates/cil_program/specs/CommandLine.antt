@@ -1,5 +1,5 @@
--- The words of a command line, what answers them, and exit statuses.
-use Rattle.std.specs.Prelude.{◌≡◌, ◌≢◌, ℕ, ◌<◌, List, [], ◌∷◌, ◌++◌, Bool, false, flat_map, length, drop, codes, slice_index, Contains, Option, None, Some, Result, Ok, Err, IfOk, ◌⊎◌}
+-- The words of a command line, and what answers them.
+use Rattle.std.specs.Prelude.{◌≡◌, ◌≢◌, ℕ, ◌<◌, List, [], ◌∷◌, ◌++◌, Bool, false, flat_map, length, drop, codes, slice_index, Contains, Option, None, Some, Result, Err, IfOk, ◌⊎◌}
 use Rattle.std.specs.List.{AllZip}
 use Rattle.cil_specs.specs.Report.{Row, row_line}
 use Rattle.cil_specs.specs.Violations.{Violation, violations_text}
@@ -9,25 +9,16 @@ use Rattle.cil_store_specs.specs.Next.{Refusal, accepts, refuses, for_memory, Of
 use Rattle.cil_store_specs.specs.Run.{AreRowsOf, AreViolationsOf}
 use Rattle.cil_store_specs.specs.Script.{refusal_line}
 use Rattle.cil_program.specs.Meanings.{refusal_text}
-use Rattle.cil_program.specs.Session.{Leaves, LeavesByRead, LeavesByWrite}
+use Rattle.cil_session.specs.Session.{Leaves, LeavesByRead, LeavesByWrite, exit_status_of}
 use Rattle.cil_program.specs.declared.command_line.compile.Report.{Report}
 use Rattle.cil_program.specs.declared.command_line.compile.Report.TheVariants.{Listing, Violations}
-use Rattle.cil_program.specs.declared.script.outcome.SessionFault.{SessionFault}
-use Rattle.cil_program.specs.declared.script.outcome.SessionFault.TheVariants.{Read, Write}
-use Rattle.cil_program.specs.declared.script.outcome.Status.{Status}
-use Rattle.cil_program.specs.declared.script.outcome.Status.TheVariants.{Clean, Refused, Script}
+use Rattle.cil_session.specs.declared.outcome.SessionFault.{SessionFault}
+use Rattle.cil_session.specs.declared.outcome.SessionFault.TheVariants.{Read, Write}
+use Rattle.cil_session.specs.declared.outcome.Status.{Status}
 
 -- behind the program's name stands `session` alone
 abbrev pub AsksSession : List (List ℕ) → Type 0
 AsksSession words = drop 1 words ≡ codes "session" ∷ []
-
--- 0 where each command was accepted, 1 where one was refused, 2 at a line that is no command, 3 where a read or a write failed
-abbrev pub exit_status_of : Result Status SessionFault → ℕ
-exit_status_of (Ok Clean) = 0
-exit_status_of (Ok Refused) = 1
-exit_status_of (Ok Script) = 2
-exit_status_of (Err Read) = 3
-exit_status_of (Err Write) = 3
 
 -- a sink by what it tells
 pub record Written : Type 0 where

@@ -1,12 +1,4 @@
 pub mod Common
-pub mod Input
-pub mod Command
-pub mod HeldEdit
-pub mod Batch
-pub mod Dump
-pub mod Reply
-pub mod Session
-pub mod Laws
 pub mod Meanings
 pub mod Reasons
 pub mod Packed
@@ -18,3 +10,11 @@ pub mod Targets
 pub mod ByNames
 pub mod Given
 pub mod Program
+pub use Rattle.cil_session.specs.Input
+pub use Rattle.cil_session.specs.Command
+pub use Rattle.cil_session.specs.HeldEdit
+pub use Rattle.cil_session.specs.Batch
+pub use Rattle.cil_session.specs.Dump
+pub use Rattle.cil_session.specs.Reply
+pub use Rattle.cil_session.specs.Session
+pub use Rattle.cil_session.specs.Laws

@@ -2,11 +2,9 @@
 
 ghost use Rattle.std.specs.Prelude.{◌≡◌, ◌≢◌, ◌++◌, ◌⊎◌, ◌≤◌, ℕ, true, List, [], Result, Some, codes, map, option_map, unwrap_or, IfOk, OnErr, OnOk, All};
 ghost use Rattle.cil_store_specs.specs.Next.{Refusal};
-ghost use Rattle.cil_program.specs.Common.{Row, found_of, kind_of, rows_of, subcommand_of, takes, OutOfMemory, Gains, GainsFront, HasFailed, for_memory, refusal_line, AsksSession, AnswersSession, CompilesFiles, LacksMemory, exit_status_of, unreadable_line, untold, AnswersByNames, AnswersGiven, AnswersCompile, AnswersProject, AnswersProjected, IsRefusalBy, hint_by, refusal_text, unreadable_text, IsReportAsked, IsToBePrinted, IsToBeWritten, conditionals_asked, conditionals_in, foreign_asked, foreign_in, misuse_text, program_app, IsStored, IsWanted, compiled, in_folder, kinds, projections, unwritable_text, wanted_in};
+ghost use Rattle.cil_program.specs.Common.{Row, found_of, kind_of, rows_of, subcommand_of, takes, OutOfMemory, Gains, GainsFront, HasFailed, for_memory, refusal_line, AsksSession, AnswersSession, CompilesFiles, LacksMemory, unreadable_line, untold, AnswersByNames, AnswersGiven, AnswersCompile, AnswersProject, AnswersProjected, IsRefusalBy, hint_by, refusal_text, unreadable_text, IsReportAsked, IsToBePrinted, IsToBeWritten, conditionals_asked, conditionals_in, foreign_asked, foreign_in, misuse_text, program_app, IsStored, IsWanted, compiled, in_folder, kinds, projections, unwritable_text, wanted_in};
 ghost use Rattle.cil_program.specs.Conditionals.{refused};
 ghost use Rattle.cil_program.specs.declared.command_line.compile.Report.{Report};
-ghost use Rattle.cil_program.specs.declared.script.outcome.SessionFault.{SessionFault};
-ghost use Rattle.cil_program.specs.declared.script.outcome.Status.{Status};
 
 pub mod compile;
 pub mod conditionals;
@@ -39,8 +37,8 @@ use crate::command_line::wanted::{Wanted, wanted_by};
 use crate::command_line::words::{
     BOOLEANS, COMPILE, FILES, FOREIGN, LIST, OUTPUT, PROJECT, VIOLATIONS, matches_of,
 };
-use crate::script::outcome::{SessionFault, Status};
-use crate::script::session::session;
+pub use cil_session::outcome::exit_status;
+use cil_session::session::session;
 use cil_store::{Delta, Seed};
 use cil_stream::{Sink, SinkFault, Source, write_all, write_pieces};
 use clap::error::ErrorKind;
@@ -49,18 +47,6 @@ use std::alloc::{AllocError, Allocator, Global};
 use std::convert::AsStr;
 use std::random::RandomSource;
 use std::rt::Files;
-
-/// The exit status of a session.
-pub fn exit_status(end: Result<Status, SessionFault>) -> u8
-    ensures { result ≡ exit_status_of end }
-{
-    match end {
-        Ok(Status::Clean) => 0,
-        Ok(Status::Refused) => 1,
-        Ok(Status::Script) => 2,
-        Err(SessionFault::Read) | Err(SessionFault::Write) => 3,
-    }
-}
 
 /// Answers the script of a source, with an empty store at its start, and gives the exit status. The tables of names are hashed by a
 /// seed.

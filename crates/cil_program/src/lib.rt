@@ -1,5 +1,6 @@
-//! The session that answers a script, and the command line that asks for it.
+//! The command line, and the session that it asks for.
 #![tactic(auto)]
 
 pub mod command_line;
-pub mod script;
+
+pub use cil_session as script;

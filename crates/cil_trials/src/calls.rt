@@ -1,6 +1,6 @@
 //! The calls and the entries that the commands of a script ask for.
 
-use cil_program::script::command::{Command, InstallLine, Question, ScriptLine, script_line};
+use cil_session::command::{Command, InstallLine, Question, ScriptLine, script_line};
 use cil_store::{Call, Edit, Entry};
 use cil_trial_cases::{Fault, first_line, text_of};
 

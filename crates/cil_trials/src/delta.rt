@@ -2,8 +2,8 @@
 
 use crate::engine::{Heap, atom_of, end_of, refuse, run_script};
 use crate::work::make_edits;
-use cil_program::script::memory::answer_script;
-use cil_program::script::session::session;
+use cil_session::memory::answer_script;
+use cil_session::session::session;
 use cil_store::{Compiled, Delta};
 use cil_stream::{MemorySink, Sink, Source};
 use cil_trial_cases::{Access, End, Engine, Fault, Refusal};

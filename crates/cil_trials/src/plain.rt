@@ -3,9 +3,9 @@
 use crate::calls::push_entries;
 use crate::engine::{Heap, atom_of, end_of, refuse, run_script};
 use crate::replies::or_memory;
-use cil_program::script::memory::answer_script;
-use cil_program::script::reply;
-use cil_program::script::session::session;
+use cil_session::memory::answer_script;
+use cil_session::reply;
+use cil_session::session::session;
 use cil_store::{Compiled, Entry, Plain, Seed};
 use cil_stream::{MemorySink, Sink, Source};
 use cil_trial_cases::{Access, End, Engine, Fault, Refusal, write_text};

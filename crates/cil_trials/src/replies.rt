@@ -1,6 +1,6 @@
 //! The writers of replies.
 
-use cil_program::script::reply;
+use cil_session::reply;
 use cil_store::{ChangeCounts, Reply};
 use cil_stream::{MemorySink, SinkFault, write_all};
 use cil_trial_cases::Fault;

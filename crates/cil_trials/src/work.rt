@@ -3,8 +3,8 @@
 use crate::calls::{Step, step_of};
 use crate::engine::Heap;
 use crate::replies::or_memory;
-use cil_program::script::reply;
 use cil_resolve::Meter;
+use cil_session::reply;
 use cil_store::{Call, ChangeCounts, Compiled, Delta, Edit, Refusal};
 use cil_stream::MemorySink;
 use cil_trial_cases::{Fault, first_line, write_work};

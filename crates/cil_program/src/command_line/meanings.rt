@@ -4,7 +4,7 @@ ghost use Rattle.std.specs.Prelude.{◌≡◌};
 ghost use Rattle.cil_program.specs.Common.{Writes, for_memory, refusal_of};
 ghost use Rattle.cil_program.specs.Meanings.{code_of, first_meaning, meaning_line, meaning_of, refusal_text, rows_of};
 
-use crate::script::reply;
+use cil_session::reply;
 use cil_store::Refusal;
 use cil_stream::{Sink, SinkFault, write_pieces};
 use std::alloc::Allocator;

@@ -1,5 +1,5 @@
 use Rattle.cil_program.proofs.Common.{◌≡◌, ◌≢◌, ◌∙◌, ◌⊎◌, inl, inr, Result, Ok, Err, OnOk, IfOk, refl, sym, subst, IfOk-weaker, Store, exit_status_of, Leaves, LeavesByRead, LeavesByWrite, SessionFault, Read, Write, Status}
-use Rattle.cil_program.specs.declared.script.outcome.Status.TheVariants.{Clean, Refused, Script}
+use Rattle.cil_session.specs.declared.outcome.Status.TheVariants.{Clean, Refused, Script}
 use Rattle.cil_program.proofs.command_line.answer_session.Goals as goal
 
 no-failure : (end : Result Status SessionFault) (P : Type 0) → OnOk end P → exit_status_of end ≢ 3 → P

@@ -1,6 +1,6 @@
 use Rattle.cil_stream.proofs.Gaining.{gains-pieces_front}
 use Rattle.cil_program.specs.Kinds.{kind_in, kind_line}
-use Rattle.cil_program.proofs.ReplyLemmas.{writes-cut}
+use Rattle.cil_session.proofs.ReplyLemmas.{writes-cut}
 use Rattle.cil_program.proofs.command_line.kinds.write_lines.Goals as goal
 
 pub returns-in_err-write_kind : goal.returns-in_err-write_kind

@@ -1,5 +1,5 @@
 use Rattle.std.proofs.Common.{◌≡◌, ◌∙◌, ◌++◌, List, ℕ, ap, codes, decimal, subst}
-use Rattle.cil_program.specs.Reply.{Writes}
+use Rattle.cil_session.specs.Reply.{Writes}
 use Rattle.cil_program.proofs.command_line.notes.write_note.Goals as goal
 
 line : (statements kinds : List ℕ) (n k : ℕ) → statements ≡ decimal n → kinds ≡ decimal k → codes "note: " ++ (statements ++ (codes " statements of " ++ (kinds ++ codes " kinds taken by their names alone\n")))

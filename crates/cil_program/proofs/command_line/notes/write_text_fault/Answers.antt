@@ -1,6 +1,6 @@
 use Rattle.cil_program.proofs.Common.{◌++◌, at_place, for_memory, refl, subst, sym, true, Writes}
 use Rattle.cil_program.proofs.MeaningLemmas.{writes-no_more}
-use Rattle.cil_program.proofs.ReplyLemmas.{writes-both, writes-first}
+use Rattle.cil_session.proofs.ReplyLemmas.{writes-both, writes-first}
 use Rattle.cil_specs.specs.TextFault.{code_of}
 use Rattle.cil_text.specs.Image.{place_of, kind_of, shown}
 use Rattle.cil_program.specs.ByNames.{IsRefusalBy, hint_by}

@@ -1,7 +1,7 @@
 use Rattle.std.proofs.Common.{◌∙◌, ap, subst}
 use Rattle.cil_stream.specs.Device.{GainsFront}
 use Rattle.cil_stream.proofs.Gaining.{gains-pieces_front}
-use Rattle.cil_program.proofs.ReplyLemmas.{writes-cut}
+use Rattle.cil_session.proofs.ReplyLemmas.{writes-cut}
 use Rattle.cil_program.proofs.command_line.notes.write_texts.Goals as goal
 
 pub returns-in_err-write_all : goal.returns-in_err-write_all

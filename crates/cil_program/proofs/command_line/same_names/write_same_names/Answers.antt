@@ -1,7 +1,7 @@
 use Rattle.std.proofs.Common.{arith}
 use Rattle.cil_stream.proofs.Gaining.{gains-pieces_front, gains-pieces_more}
 use Rattle.cil_program.specs.Given.{same_name_line}
-use Rattle.cil_program.proofs.ReplyLemmas.{writes-cut}
+use Rattle.cil_session.proofs.ReplyLemmas.{writes-cut}
 use Rattle.cil_program.proofs.command_line.same_names.write_same_names.Goals as goal
 
 pub returns-in_err-write_same_name : goal.returns-in_err-write_same_name

@@ -1,5 +1,0 @@
-use Rattle.cil_program.proofs.Common.{IsTrue, take, list_all, is_no_space}
-use Rattle.cil_program.proofs.script.command.split_word.Given as goal
-
-abbrev pub invariant-loop-i : goal.invariant-loop-i
-invariant-loop-i l = IsTrue (list_all is_no_space (take l.i l.bytes))

@@ -1,0 +1,10 @@
+pub mod Common
+pub mod InputLemmas
+pub mod CommandLemmas
+pub mod EndLemmas
+pub mod BatchLemmas
+pub mod AnswerLemmas
+pub mod SessionLemmas
+pub mod ScriptLemmas
+pub mod ReplyLemmas
+pub mod LawLemmas

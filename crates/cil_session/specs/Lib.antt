@@ -1,0 +1,9 @@
+pub mod Common
+pub mod Input
+pub mod Command
+pub mod HeldEdit
+pub mod Batch
+pub mod Dump
+pub mod Reply
+pub mod Session
+pub mod Laws
