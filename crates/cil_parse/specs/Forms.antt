@@ -1,5 +1,5 @@
--- What a statement says, by its kind, its words and the nodes of its set expression.
-use Rattle.std.specs.Prelude.{List, [], ◌∷◌, ◌++◌}
+-- What a statement says, by its kind, its words and the nodes of its expression.
+use Rattle.std.specs.Prelude.{Bool, true, false, List, [], ◌∷◌, ◌++◌, if◌then◌else◌}
 use Rattle.cil_specs.specs.Names.{Word}
 use Rattle.cil_specs.specs.Expr as exprs
 use Rattle.cil_specs.specs.Expr.{every, named, opposite, both, either, one_of, nothing, elements, leaves}
@@ -57,15 +57,26 @@ words_in (common id permissions) = id ∷ permissions
 words_in (class id permissions) = id ∷ permissions
 words_in (class_common the_class the_common) = the_class ∷ the_common ∷ []
 words_in (class_order classes) = classes
-words_in (rule kind source target the_class permissions) = source ∷ (target_words target ++ the_class ∷ permissions)
+words_in (rule kind source target the_class permissions) = source ∷ (target_words target ++ the_class ∷ leaves permissions)
+
+-- whether an expression is a plain list of names: none of its elements is an expression of another sort
+abbrev pub is_plain : exprs.WordExpr → Bool
+is_plain nothing = true
+is_plain (elements (named word) more) = is_plain more
+is_plain _ = false
+
+-- The nodes of an expression of permissions. A plain list, as nearly every rule has one, has none: its words tell it.
+abbrev pub permission_nodes : exprs.WordExpr → List SetNode
+permission_nodes expr = if is_plain expr then [] else expr_nodes expr
 
 abbrev pub nodes_in : Form → List SetNode
 nodes_in (attribute_set attribute expr) = expr_nodes expr
+nodes_in (rule kind source target the_class permissions) = permission_nodes permissions
 nodes_in _ = []
 
--- the permissions that a statement lists
+-- the permissions that a statement names
 abbrev pub permissions_in : Form → List Word
 permissions_in (common id permissions) = permissions
 permissions_in (class id permissions) = permissions
-permissions_in (rule kind source target the_class permissions) = permissions
+permissions_in (rule kind source target the_class permissions) = leaves permissions
 permissions_in _ = []

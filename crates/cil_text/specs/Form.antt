@@ -27,7 +27,7 @@ form_of (Common at id permissions) = common (word_of id) (map word_of permission
 form_of (Class at id permissions) = class (word_of id) (map word_of permissions.items)
 form_of (ClassCommon at the_class the_common) = class_common (word_of the_class) (word_of the_common)
 form_of (ClassOrder at the_classes) = class_order (map word_of the_classes.items)
-form_of (Rule at kind source target the_class permissions) = rule (rule_kind_of kind) (word_of source) (target_of target) (word_of the_class) (map word_of permissions.items)
+form_of (Rule at kind source target the_class permissions) = rule (rule_kind_of kind) (word_of source) (target_of target) (word_of the_class) (expr_of permissions)
 
 -- the place of a statement's (
 abbrev pub at_of : {A : Type 0} → Statement A → spec_place.Place
