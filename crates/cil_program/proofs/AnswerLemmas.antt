@@ -4,10 +4,10 @@ use Rattle.cil_counters.specs.ChangeCounts.{AreCountsOf, CountsSome}
 use Rattle.cil_symbol_changes.specs.declared.counted_changes.ChangeCounts.{ChangeCounts}
 use Rattle.cil_store_specs.specs.Next as spec
 use Rattle.cil_store_specs.specs.Answers as answers
-use Rattle.cil_store.specs.Edits.{name_of}
-use Rattle.cil_store.specs.declared.edit.Edit.{Edit}
-use Rattle.cil_store.specs.declared.edit.Edit.TheVariants.{Install, Remove, Enable, Disable}
-use Rattle.cil_store.specs.declared.refusal.Refusal.{Refusal}
+use Rattle.cil_modules.specs.Edits.{name_of}
+use Rattle.cil_modules.specs.declared.edit.Edit.{Edit}
+use Rattle.cil_modules.specs.declared.edit.Edit.TheVariants.{Install, Remove, Enable, Disable}
+use Rattle.cil_modules.specs.declared.refusal.Refusal.{Refusal}
 use Rattle.cil_program.specs.declared.script.session.LeftAside.{LeftAside}
 
 -- an edit has one name

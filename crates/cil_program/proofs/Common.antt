@@ -19,8 +19,8 @@ pub use Rattle.cil_program.specs.declared.script.outcome.SessionFault.TheVariant
 pub use Rattle.cil_program.specs.declared.script.outcome.Status.{Status}
 pub use Rattle.cil_specs.proofs.Runs.{both_true}
 pub use Rattle.cil_specs.specs.Report.{Changes, dropped_line, row_line}
-pub use Rattle.cil_store.specs.Edits.{edit_of, refusal_of, store_refusal_of}
-pub use Rattle.cil_store.specs.Stored.{entry_of}
+pub use Rattle.cil_modules.specs.Edits.{edit_of, refusal_of, store_refusal_of}
+pub use Rattle.cil_modules.specs.Stored.{entry_of}
 pub use Rattle.cil_store_specs.proofs.OneScript.{one-script}
 pub use Rattle.cil_store_specs.proofs.WordLemmas.{command-is, command-of, command_by, digits-plain, first-is, has-space, is_no_space, kind_of_word, line-stays, lines-same, number-decimal, number_of, other_words, plain-no-space, same-words, shown-plain, text-length, text_of}
 pub use Rattle.cil_store_specs.specs.Answers.{Answer, Answers, AnswersAll, Batch, HeldEdits, IsCommitted, IsHeld, State, a_line, a_refusal, after_no_memory, after_the_limits, all_held, answer_of, answers_text, by_closing, by_dump, by_engine, by_holding, by_modules, by_opening, by_the_batch, by_the_edit, had_no_memory, has_no_memory, held_as, holds, is_open, lines_of, makes_all, name_of, none_to_abort, none_to_commit, over_the_limits, passes_the_limits, question_of, state_of, was_too_long, without_memory}

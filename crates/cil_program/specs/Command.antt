@@ -1,7 +1,7 @@
 -- The commands on the lines of a script.
 use Rattle.std.specs.Prelude.{◌≡◌, ◌≢◌, ℕ, List, [], ◌∷◌, codes, decimal}
 use Rattle.std.specs.List.{join_with_byte}
-use Rattle.cil_store.specs.Edits.{edit_of}
+use Rattle.cil_modules.specs.Edits.{edit_of}
 use Rattle.cil_store_specs.specs.Script as spec
 use Rattle.cil_store_specs.specs.Script.{makes, begins, commits, aborts, asks_rules, asks_violations, asks_dropped, asks_modules, asks_dump, words_of, line_of, HasGoodWords, IsGoodName, IsShortNumber, MayLackItsEnd}
 use Rattle.cil_program.specs.declared.script.command.Command.{Command}

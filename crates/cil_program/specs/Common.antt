@@ -13,8 +13,8 @@ pub use Rattle.cil_program.specs.Reply.{Writes, counts_line}
 pub use Rattle.cil_program.specs.Session.{AnswersBatch, Comes, Does, EndsSo, IsAnswerFor, IsInstallCut, IsInstallOutcome, IsLast, IsLeftAside, IsLineCut, IsOutcome, IsSessionCut, IsTurn, IsTurnCut, Leaves, LeavesByRead, LeavesByWrite, Makes, Tries, answer_aside, batch_behind, end_of, point, standing, state_with, status_of, told, turn_of}
 pub use Rattle.cil_program.specs.Targets.{IsStored, unwritable_text}
 pub use Rattle.cil_program.specs.Wanted.{compiled, in_folder, kinds, projections, wanted_in}
-pub use Rattle.cil_store.specs.Edits.{edit_of, refusal_of, store_refusal_of}
-pub use Rattle.cil_store.specs.Stored.{entry_of}
+pub use Rattle.cil_modules.specs.Edits.{edit_of, refusal_of, store_refusal_of}
+pub use Rattle.cil_modules.specs.Stored.{entry_of}
 pub use Rattle.cil_store_specs.specs.Answers.{Answers, a_line, a_refusal, answer_of, held_as, state_of}
 pub use Rattle.cil_store_specs.specs.Next.{IsMeaningOf, Of, accepts, at_place, by_store, for_memory, install}
 pub use Rattle.cil_store_specs.specs.Run.{dropped_optionals, refused}

@@ -12,8 +12,8 @@ use Rattle.cil_store_specs.specs.Session.{IsSession, last_end, BeginsNoCommand, 
 use Rattle.cil_store_specs.specs.Session as spec
 use Rattle.cil_counters.specs.ChangeCounts.{CountsSome}
 use Rattle.cil_symbol_changes.specs.declared.counted_changes.ChangeCounts.{ChangeCounts}
-use Rattle.cil_store.specs.Edits.{refusal_of, store_refusal_of}
-use Rattle.cil_store.specs.declared.refusal.Refusal.{Refusal}
+use Rattle.cil_modules.specs.Edits.{refusal_of, store_refusal_of}
+use Rattle.cil_modules.specs.declared.refusal.Refusal.{Refusal}
 use Rattle.cil_program.specs.Batch.{behind_fault, held_answer}
 use Rattle.cil_program.specs.Reply.{counts_line}
 use Rattle.cil_program.specs.Input.{Held, HasRead, HasStopped, IsShort}

@@ -6,8 +6,8 @@ ghost use Rattle.cil_resolve.specs.Dropped.{mark_of, dropped_if, HaveMarks};
 
 use crate::full_names::{full_name, space_names};
 use crate::numbered::DroppedOptional;
-use crate::text::Text;
 use cil_bind::{Joined, Policy, Row};
+use cil_names::Text;
 use std::alloc::{AllocError, Allocator};
 
 /// The optional of a row by its full name; the names of the namespaces are given.

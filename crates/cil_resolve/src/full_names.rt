@@ -5,11 +5,10 @@ ghost use Rattle.cil_resolve.specs.Common.{Word, Placed, named, namespace_at, Is
 ghost use Rattle.cil_bind.specs.Rows.{AreNumbered};
 ghost use Rattle.cil_resolve.specs.FullNames.{name_in};
 
-use crate::text::Text;
 use crate::words::text_of;
 use cil_bind::Policy;
 use cil_check::{BoundPolicy, Seen};
-use cil_names::counted_in_32_bits;
+use cil_names::{Text, counted_in_32_bits};
 use cil_parse::{Lists, NumberedWord, StatementKind};
 use std::alloc::{AllocError, Allocator};
 

@@ -20,13 +20,13 @@ mod resolved;
 mod resolver;
 mod same;
 mod set_order;
-mod text;
 mod views;
 mod words;
 
 pub use cil_bind::{Joined, NamedModule, join};
 pub use cil_check::{PolicyFault, PolicyFaultKind};
 pub use cil_expression::{Element, SetExpression};
+pub use cil_names::Text;
 pub use laws::{
     expressions_agree, found_grows, fuel_is_enough, kept_exists, kept_is_good, kept_is_one,
     meanings_are_consistent, reach_is_a_bound, resolved_is_consistent, resolved_is_sound,
@@ -40,5 +40,4 @@ pub use numbered::{
 pub use permission_numbers::PermissionNumbers;
 pub use resolved::Resolved;
 pub use resolver::resolve;
-pub use text::Text;
 pub use views::{ClassView, ElementView, NameView, RuleView, SetView, TargetView};

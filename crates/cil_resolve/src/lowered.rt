@@ -9,9 +9,9 @@ use crate::numbered::DroppedOptional;
 use crate::numbering::Numbering;
 use crate::resolved::Resolved;
 use crate::set_order::OrderedSets;
-use crate::text::Text;
 use cil_bind::Joined;
 use cil_check::Checker;
+use cil_names::Text;
 use std::alloc::{AllocError, Allocator};
 
 /// Copies of the names of modules, in their order.

@@ -3,8 +3,7 @@
 ghost use Rattle.std.specs.Prelude.{◌≡◌, IsTrue, Some, IfOk};
 ghost use Rattle.cil_resolve.specs.Common.{has_name, number_in};
 
-use crate::text::Text;
-use cil_names::Names;
+use cil_names::{Names, Text};
 use std::alloc::{AllocError, Allocator};
 
 /// The number of a name: its place.

@@ -1,8 +1,8 @@
 //! Types, classes, set statements and rules by the numbers of their names.
 
 use crate::permission_numbers::PermissionNumbers;
-use crate::text::Text;
 use cil_expression::{Element, SetExpression};
+use cil_names::Text;
 use cil_text::{Place, RuleKind};
 use std::alloc::{Allocator, Global};
 

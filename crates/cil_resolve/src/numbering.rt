@@ -17,10 +17,9 @@ ghost use Rattle.cil_resolve.specs.Numbering.{names_with, AreNamesOf, HavePlaces
 
 use crate::full_names::{full_names, is_numbered};
 use crate::names::{number_of, to_texts};
-use crate::text::Text;
 use crate::words::{lists_own, text_of};
 use cil_check::{BoundPolicy, Seen};
-use cil_names::Names;
+use cil_names::{Names, Text};
 use cil_parse::{Lists, NumberedWord, StatementKind};
 use std::alloc::{AllocError, Allocator, Global};
 

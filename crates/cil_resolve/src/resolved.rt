@@ -13,7 +13,7 @@ ghost use Rattle.cil_resolve.specs.Numbers.{AreConsistent, meaning_by, rule_of, 
 
 use crate::numbered::{DroppedOptional, NumberedClass, NumberedName, NumberedRule};
 use crate::set_order::OrderedSets;
-use crate::text::Text;
+use cil_names::Text;
 use std::alloc::{Allocator, Global};
 
 /// A policy that compiles, by full names, which it owns. The names of types, attributes, classes and permissions are numbered in

@@ -7,8 +7,8 @@ ghost use Rattle.cil_resolve.specs.Views.{declared_seen, class_seen, class_head,
 
 use crate::numbered::{NumberedRule, ResolvedTarget};
 use crate::resolved::Resolved;
-use crate::text::Text;
 use cil_expression::Element;
+use cil_names::Text;
 use cil_text::{Place, RuleKind};
 use std::alloc::Allocator;
 

@@ -1,12 +1,7 @@
 pub mod Common
 pub mod ParsedLemmas
-pub mod EntryLemmas
-pub mod SizeLemmas
-pub mod FindLemmas
-pub mod StateLemmas
 pub mod StepLemmas
-pub mod BatchLemmas
-pub mod JoinLemmas
+pub mod JudgedLemmas
 pub mod DroppedLemmas
 pub mod NothingLemmas
 pub mod MeantLemmas

@@ -6,12 +6,12 @@ use Rattle.cil_symbol_changes.specs.declared.counted_changes.ChangeCounts.{Chang
 use Rattle.cil_store_specs.specs.Store.{Store}
 use Rattle.cil_store_specs.specs.Run as spec
 use Rattle.cil_store_specs.specs.Run.{a_batch, an_edit, ask_rows, ask_listing, ask_violations, ask_dropped, changed_by, refused, listed, printed, violated, dropped_optionals, Step}
-use Rattle.cil_store.specs.Edits.{edit_of, refusal_of}
+use Rattle.cil_modules.specs.Edits.{edit_of, refusal_of}
 use Rattle.cil_store.specs.declared.call.Call.{Call}
 use Rattle.cil_store.specs.declared.call.Call.TheVariants as calls
 use Rattle.cil_store.specs.declared.call.Reply.{Reply}
 use Rattle.cil_store.specs.declared.call.Reply.TheVariants as replies
-use Rattle.cil_store.specs.declared.refusal.Refusal.{Refusal}
+use Rattle.cil_modules.specs.declared.refusal.Refusal.{Refusal}
 
 abbrev pub call_of : Call → spec.Call
 call_of (calls.Edit edit) = an_edit (edit_of edit)

@@ -11,8 +11,8 @@ use Rattle.cil_counters.specs.Counted.{steps_in, IsNow, WasBefore}
 use Rattle.cil_counters.specs.declared.counters.Counters.{Counters}
 use Rattle.cil_store_specs.specs.Next.{IsMeaningOf, for_memory}
 use Rattle.cil_store_specs.specs.Store.{Store}
-use Rattle.cil_store.specs.Edits.{refusal_of}
-use Rattle.cil_store.specs.declared.refusal.Refusal.{Refusal}
+use Rattle.cil_modules.specs.Edits.{refusal_of}
+use Rattle.cil_modules.specs.declared.refusal.Refusal.{Refusal}
 
 -- The counters are those of a policy, with no step to take back.
 pub record AreCountersOf {A : Type 0} (policy : Resolved A) (counters : Counters A) : Type 0 where

@@ -1,15 +1,15 @@
 //! Calls of an engine, and their replies.
 
-use crate::refusal::Refusal;
-use crate::{dropped, edit};
+use crate::dropped;
+use cil_modules::Refusal;
 use cil_resolve::Text;
 use std::alloc::{Allocator, Global};
 
 /// A call of an engine: an edit of its store, a batch of edits, or a question.
 #[derive(Clone, Copy, Debug)]
 pub enum Call<'a> {
-    Edit(edit::Edit<'a>),
-    Batch(&'a [edit::Edit<'a>]),
+    Edit(cil_modules::Edit<'a>),
+    Batch(&'a [cil_modules::Edit<'a>]),
     /// Which accesses are allowed, by rows.
     Rows,
     /// The lines of these rows.

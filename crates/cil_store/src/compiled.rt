@@ -11,13 +11,11 @@ ghost use Rattle.cil_store_specs.specs.Run.{a_batch, an_edit, AreRowsOf, AreViol
 ghost use Rattle.cil_store_specs.specs.Store as spec;
 ghost use Rattle.cil_specs.specs.Violations.{Violation, violations_text};
 ghost use Rattle.cil_store.specs.Calls.{batch_reply, IsCountedStep, IsRefusedStep};
-ghost use Rattle.cil_store.specs.Edits.{edit_of};
+ghost use Rattle.cil_modules.specs.Edits.{edit_of};
 
 use crate::dropped::Dropped;
-use crate::edit::Edit;
-use crate::modules::Store;
-use crate::refusal::Refusal;
 use cil_counters::ChangeCounts;
+use cil_modules::{Edit, Refusal, Store};
 use cil_rules::{Atom, Changes, Rows};
 use cil_stream::Sink;
 use cil_violations::Violations;

@@ -8,13 +8,11 @@ ghost use Rattle.cil_counters.specs.Counted.{IsNow};
 ghost use Rattle.cil_rules.specs.Atoms.{atom_of};
 ghost use Rattle.cil_store.specs.Common.{is_in_table, meaning_of, AreAtoms, AreViolations, CountsSome, meaning_in, listed, AreTaken, IsMeaningOf, install_of, empty, AreCountedChanges, AreCountersOf, refusal_of, AreRefused, entry_of};
 
-use crate::batch::{installs, judge};
 use crate::dropped::Dropped;
-use crate::entry::Entry;
-use crate::modules::Store;
-use crate::refusal::Refusal;
+use crate::judged::judge;
 use crate::resolving::resolve_nothing;
 use cil_counters::{ChangeCounts, Counters, counters_tell_accesses, counters_tell_members};
+use cil_modules::{Entry, Refusal, Store, installs};
 use cil_names::Seed;
 use cil_resolve::{Meter, Resolved, resolved_sets_are_in_order};
 use cil_rules::{Atom, Changes, Table};

@@ -3,15 +3,12 @@
 ghost use Rattle.std.specs.Prelude.{◌≡◌, false, map, IfErr, IfOk, OnErr, OnOk};
 ghost use Rattle.cil_store.specs.Common.{Meaning, is_in_table, AreAtoms, CountsSome, meaning_in, listed, AreTaken, IsMeaningOf, Of, accepts, install_of, is_too_long, a_batch, an_edit, Step, empty, batch_reply, IsCountedStep, IsRefusedStep, meaning_kept, AreCountedBetween, IsUncounted, edit_of, refusal_of, AreRefused, IsRefusedBatch, entry_of};
 
-use crate::batch::judge_batch;
 use crate::compiled::{Compiled, WriteFault};
 use crate::counted_policy::{CountedPolicy, Prepared, SharedPolicy};
 use crate::dropped::Dropped;
-use crate::edit::Edit;
-use crate::entry::Entry;
-use crate::modules::Store;
-use crate::refusal::Refusal;
+use crate::judged::judge_batch;
 use cil_counters::ChangeCounts;
+use cil_modules::{Edit, Entry, Refusal, Store};
 use cil_names::Seed;
 use cil_resolve::Meter;
 use cil_rules::{Atom, Changes, Rows, Table};

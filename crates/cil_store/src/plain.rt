@@ -6,11 +6,8 @@ ghost use Rattle.cil_store.specs.Common.{Of, accepts, install_of, empty, refusal
 use crate::compiled::{Compiled, WriteFault};
 use crate::delta::Delta;
 use crate::dropped::Dropped;
-use crate::edit::Edit;
-use crate::entry::Entry;
-use crate::modules::Store;
-use crate::refusal::Refusal;
 use cil_counters::ChangeCounts;
+use cil_modules::{Edit, Entry, Refusal, Store};
 use cil_names::Seed;
 use cil_resolve::Meter;
 use cil_rules::{Atom, Changes, Rows};

@@ -5,10 +5,9 @@ ghost use Rattle.cil_store.specs.Common.{HasFailed, Gains, GainsFront, is_in_tab
 
 use crate::compiled::WriteFault;
 use crate::counted_policy::{CountedPolicy, Prepared, SharedPolicy};
-use crate::entry::Entry;
-use crate::refusal::Refusal;
 use crate::resolving::resolve_nothing;
 use cil_counters::violations_at_once;
+use cil_modules::{Entry, Refusal};
 use cil_names::Seed;
 use cil_resolve::resolved_sets_are_in_order;
 use cil_rules::Table;

@@ -3,10 +3,7 @@
 ghost use Rattle.std.specs.Prelude.{◌≡◌, [], IfErr, IfOk};
 ghost use Rattle.cil_store.specs.Common.{meaning_of, meaning_in, IsMeaningOf, refusal_of, IsRefusedPolicy};
 
-use crate::join::join;
-use crate::modules::Store;
-use crate::refusal::Refusal;
-use crate::refusing::refuse_policy;
+use cil_modules::{Refusal, Store, join, refuse_policy};
 use cil_names::Seed;
 use cil_resolve::{Resolved, resolve};
 use std::alloc::{AllocError, Allocator};

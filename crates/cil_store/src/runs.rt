@@ -5,7 +5,7 @@ ghost use Rattle.cil_store.specs.Common.{Row, row_line, AreRowsOf, Step, Run, ca
 
 use crate::call::{Call, Reply};
 use crate::compiled::Compiled;
-use crate::refusal::Refusal;
+use cil_modules::Refusal;
 use cil_resolve::Text;
 use cil_stream::MemorySink;
 use std::alloc::{AllocError, Allocator};

@@ -4,7 +4,7 @@ ghost use Rattle.std.specs.Prelude.{◌≡◌, ◌==◌, All, Contains, List, �
 ghost use Rattle.std.specs.List.{AllZip, filter, slice_split};
 ghost use Rattle.std.specs.Str.{is_utf8};
 ghost use Rattle.std.specs.String.{string_bytes};
-ghost use Rattle.cil_store.specs.Stored.{entry_of};
+ghost use Rattle.cil_modules.specs.Stored.{entry_of};
 ghost use Rattle.cil_program.specs.CommandLine.{Content, IsBaseName, IsEntryFor, IsListed, IsReadOf, IsTextOf, IsUnreadable, NamesModule, untold};
 ghost use Rattle.cil_program.specs.Given.{with_slash};
 ghost use Rattle.cil_program.specs.declared.command_line.files.ReadFault.TheVariants.{Unreadable};
@@ -213,7 +213,7 @@ pub fn module_name(path: &str) -> &[u8]
 }
 
 impl<'a, A: Allocator> ReadFile<'a, A> {
-    ghost use Rattle.cil_store.specs.Stored.{entry_of};
+    ghost use Rattle.cil_modules.specs.Stored.{entry_of};
     ghost use Rattle.cil_program.specs.CommandLine.{IsEntryFor};
 
     /// Its entry in a store.

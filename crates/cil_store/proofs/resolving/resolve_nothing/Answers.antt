@@ -1,6 +1,6 @@
 use Rattle.std.proofs.Common.{◌∙◌, []}
 use Rattle.cil_resolve.specs.Resolved.{meaning_in}
-use Rattle.cil_store.proofs.JoinLemmas.{distinct-from_sorted, permutation-one}
+use Rattle.cil_modules.proofs.JoinLemmas.{distinct-from_sorted, permutation-one}
 use Rattle.cil_store.proofs.NothingLemmas.{none-means, none-parsed, none-sorted}
 use Rattle.cil_store.proofs.resolving.resolve_nothing.Goals as goal
 

@@ -1,4 +1,4 @@
-use Rattle.cil_store.specs.Edits.{edit_of}
+use Rattle.cil_modules.specs.Edits.{edit_of}
 use Rattle.cil_program.proofs.AnswerLemmas.{edit-made}
 use Rattle.cil_program.proofs.SessionLemmas.{tries-weaker}
 use Rattle.cil_program.proofs.script.edits.make_edit.Goals as goal

@@ -1,5 +1,5 @@
 use Rattle.std.proofs.Common.{◌∙◌, ap, map}
-use Rattle.cil_store.specs.Edits.{edit_of}
+use Rattle.cil_modules.specs.Edits.{edit_of}
 use Rattle.cil_program.proofs.AnswerLemmas.{makes-same}
 use Rattle.cil_program.proofs.script.edits.make_edits.Goals as goal
 
