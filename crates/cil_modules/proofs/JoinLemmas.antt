@@ -32,6 +32,7 @@ unequal-all : {X : Type 0} (f : X → List ℕ) (a : List ℕ) (xs : List X) →
 unequal-all f a [] all = tt
 unequal-all f a (x ∷ xs) all = (unequal a (f x) all.0, unequal-all f a xs all.1)
 
+-- what stands in the order of its names has each of them once
 pub distinct-from_sorted : {X : Type 0} (f : X → List ℕ) (xs : List X) → IsStrictlySortedBy name_cmp (map f xs) → IsDistinct (λ x y. bytes_eq (f x) (f y)) xs
 unfolding IsStrictlySortedBy IsDistinct
 distinct-from_sorted f [] sorted = tt

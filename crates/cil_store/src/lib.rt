@@ -1,4 +1,4 @@
-//! The store: edits, refusals, and the engines that keep a store compiled.
+//! Engines that keep a store compiled. The store, its edits and refusals are those of `cil_modules`, and are passed on.
 #![tactic(auto)]
 
 mod call;
