@@ -1,4 +1,4 @@
-//! The lists of permissions that statements have, and those that classes are known to have.
+//! The lists of permissions that statements name, and those that classes are known to have.
 
 ghost use Rattle.std.specs.Prelude.{◌≡◌, ℕ, Bool, true, false, None, Some, slice_index_or, OnOk};
 ghost use Rattle.cil_bind.specs.Common.{Placed, texts, permissions_in, IsFrom};
@@ -8,7 +8,7 @@ use crate::joined::Joined;
 use crate::rows::Row;
 use std::alloc::{AllocError, Allocator, Global};
 
-/// The permissions that a statement lists: the number of its module, the number of the list there, and how many lists the module has.
+/// The permissions that a statement names: the number of its module, the number of the list there, and how many lists the module has.
 #[derive(Clone, Copy)]
 pub struct PermissionList {
     pub module: u32,

@@ -27,7 +27,7 @@ pub fn policies_are_apart()
     ensures { (modules : List Module) → AreWritten modules → AreApart (joined_policy modules) }
 {}
 
-/// What texts declare, the blocks in them and the permissions that they list have names without dots.
+/// What texts declare, the blocks in them and the permissions that they name have names without dots.
 pub fn permissions_are_names()
     ensures { (modules : List Module) → AreWritten modules → HaveOneNames (joined_policy modules) }
 {}

@@ -117,9 +117,9 @@ sub-references (class_order the_classes) =
     (sub-trans (map offset (map (λ (r : Table × Word). r.1) (map (λ w. (classes, w)) the_classes))) (map offset the_classes) (map (λ (role, word). word.at.offset) (map as_referred the_classes))
     (sub-second classes the_classes) (sub-referred the_classes))
 sub-references (rule kind source itself the_class permissions) =
-    inl (refl, inl (refl, sub-permissions the_class permissions))
+    inl (refl, inl (refl, sub-permissions the_class (leaves permissions)))
 sub-references (rule kind source (the_named target) the_class permissions) =
-    inl (refl, inl (refl, inl (refl, sub-permissions the_class permissions)))
+    inl (refl, inl (refl, inl (refl, sub-permissions the_class (leaves permissions))))
 
 sub-missing : (policy : List Placed) (s : Placed) → IsSub (map offset (missing_words policy s)) (offsets_in s.form)
 sub-missing policy s =

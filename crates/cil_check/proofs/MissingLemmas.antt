@@ -1,5 +1,5 @@
 -- Permissions that classes have, and those that they lack.
-use Rattle.cil_check.proofs.Common.{◌≡◌, ℕ, ◌+◌, ◌<◌, ◌≤◌, zero, suc, not, ◌||◌, Bool, true, false, List, [], ◌∷◌, ◌++◌, length, map, filter, drop, cond, Option, Some, None, Contains, bytes_eq, get_or, refl, sym, ap, ◌∙◌, option_and_then, list_any, or-true, none-some, same_Some, slice_get-get_or, slice_get_within, get_or_from_slice_get, list_any-append, Word, Form, block, optional, type_name, type_alias, alias_actual, type_attribute, attribute_set, common, class, class_common, class_order, rule, Placed, classes, leads, holds_of, has_name, texts, listed_by, own_permissions, permissions_of, named_permissions, is_lacking, permissions_in, read, texts_of, NumberedWord, word_at, IsFirstOf, IsLead, IsOneName, IsNoted, list_at, names_listed, given_names, HasInherited, rule_class, class_lead, lacking_words, is_listed, HaveListed, Seen, Listed}
+use Rattle.cil_check.proofs.Common.{◌≡◌, ℕ, ◌+◌, ◌<◌, ◌≤◌, zero, suc, not, ◌||◌, Bool, true, false, List, [], ◌∷◌, ◌++◌, length, map, filter, drop, cond, Option, Some, None, Contains, bytes_eq, get_or, refl, sym, ap, ◌∙◌, option_and_then, list_any, or-true, none-some, same_Some, slice_get-get_or, slice_get_within, get_or_from_slice_get, list_any-append, Word, Form, block, optional, type_name, type_alias, alias_actual, type_attribute, attribute_set, common, class, class_common, class_order, rule, leaves, Placed, classes, leads, holds_of, has_name, texts, listed_by, own_permissions, permissions_of, named_permissions, is_lacking, permissions_in, read, texts_of, NumberedWord, word_at, IsFirstOf, IsLead, IsOneName, IsNoted, list_at, names_listed, given_names, HasInherited, rule_class, class_lead, lacking_words, is_listed, HaveListed, Seen, Listed}
 use Rattle.std.proofs.Common.{flat_map, slice_get}
 use Rattle.cil_check.specs.declared.checker.Checker.{Checker}
 use Rattle.cil_check.proofs.PositionLemmas.{all-at}
@@ -85,7 +85,7 @@ has-step names policy noted keys items owner n i found has have is within less t
     there : m < length policy
     there = all-at (λ k. k < length policy) (list_at noted owner) i m (has.within owner) (ap (λ l. slice_get l i) (sym is) ∙ at)
 
--- the permissions that a rule names are all that it lists
+-- the permissions that a rule names are all that it has
 pub named-of : (form : Form) (word : Word) → rule_class form ≡ Some word → named_permissions form ≡ map (λ w. (word, w)) (permissions_in form)
 named-of (block id) word is = absurd (none-some word is)
 named-of (optional id) word is = absurd (none-some word is)
@@ -98,7 +98,7 @@ named-of (common id permissions) word is = absurd (none-some word is)
 named-of (class id permissions) word is = absurd (none-some word is)
 named-of (class_common the_class the_common) word is = absurd (none-some word is)
 named-of (class_order the_classes) word is = absurd (none-some word is)
-named-of (rule kind source target the_class permissions) word is = ap (λ c. map (λ w. (c, w)) permissions) (same_Some the_class word is)
+named-of (rule kind source target the_class permissions) word is = ap (λ c. map (λ w. (c, w)) (leaves permissions)) (same_Some the_class word is)
 
 named-none : (form : Form) → rule_class form ≡ None → named_permissions form ≡ []
 named-none (block id) is = refl

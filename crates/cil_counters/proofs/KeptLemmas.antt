@@ -3,6 +3,8 @@ use Rattle.cil_counters.proofs.Common.{◌≡◌, ℕ, ◌+◌, ◌*◌, ◌&&�
 use Rattle.std.proofs.Common.{Contains}
 use Rattle.cil_specs.proofs.NamesLemmas.{contains-first, contains-other}
 use Rattle.cil_resolve.specs.Consistent.{is_consistent}
+use Rattle.cil_resolve.specs.Numbers.{GivesNumbered}
+use Rattle.cil_resolve.specs.declared.numbered.NumberedRule.{NumberedRule}
 use Rattle.cil_member_updates.specs.Counts.{one_if}
 use Rattle.cil_member_updates.specs.Given.{gives, holds, is_of, keeps, of_name}
 use Rattle.cil_member_updates.proofs.NameLemmas.{named-by, same-symbol}
@@ -74,15 +76,16 @@ module _ (names others : List (List ℕ)) (numbers : List ℕ) (kept : List (Lis
 counted-kept : {A : Type 0} (names others : List (List ℕ)) (r : Resolved A) (numbers : List ℕ) → AreNumbersOf names numbers r.names.items → AreNumbersOf others numbers r.names.items → IsDistinct bytes_eq names → IsDistinct bytes_eq others
     → HasSoundSets (meaning_in r) → AreTheSame (meaning_in r).sets (sets_in r) → ((name : List ℕ) → keeps_type (meaning_in r) name ≡ true → has_name r.names.items name ≡ true)
     → ((name : List ℕ) → keeps_attribute (meaning_in r) name ≡ true → has_name r.names.items name ≡ true) → list_all (is_rule_below (length r.names.items)) r.rules.items ≡ true → is_consistent (meaning_in r) ≡ true
+    → ((rule : NumberedRule A) → Contains r.rules.items rule → GivesNumbered (meaning_in r) r.modules.items r.names.items rule)
     → (members : ℕ → ℕ → ℕ) (counts : SymbolKey → ℕ → ℕ) → IsCounted names r members counts → IsCounted others r members counts
-counted-kept names others r numbers are stay distinct apart sound same types attributes below consistent members counts is = record {
+counted-kept names others r numbers are stay distinct apart sound same types attributes below consistent permitted members counts is = record {
   symbols = numbers;
   numbers = stay;
   are_members = all;
   are_counts = λ key t.
       is.are_counts key t
-      ∙ sym (counted-named names (names-apart names distinct) r numbers are members (members-counted names r sound same members is.are_members) key t below consistent)
-      ∙ counted-named others (names-apart others apart) r numbers stay members (members-counted others r sound same members all) key t below consistent;
+      ∙ sym (counted-named names (names-apart names distinct) r numbers are members (members-counted names r sound same members is.are_members) key t below consistent permitted)
+      ∙ counted-named others (names-apart others apart) r numbers stay members (members-counted others r sound same members all) key t below consistent permitted;
 }
   where
     all : AreCounts others r members
@@ -94,12 +97,13 @@ counted-kept names others r numbers are stay distinct apart sound same types att
 pub counted-by-kept : {A B : Type 0} (names others : List (List ℕ)) (r : Resolved A) (s : PolicySymbols B) → AreNumbersOf others s.numbering.symbols r.names.items → length names ≤ length others → IsDistinct bytes_eq names → IsDistinct bytes_eq others
     → HasSoundSets (meaning_in r) → AreTheSame (meaning_in r).sets (sets_in r) → ((name : List ℕ) → keeps_type (meaning_in r) name ≡ true → has_name r.names.items name ≡ true)
     → ((name : List ℕ) → keeps_attribute (meaning_in r) name ≡ true → has_name r.names.items name ≡ true) → list_all (is_rule_below (length r.names.items)) r.rules.items ≡ true → is_consistent (meaning_in r) ≡ true
+    → ((rule : NumberedRule A) → Contains r.rules.items rule → GivesNumbered (meaning_in r) r.modules.items r.names.items rule)
     → AreSymbolsOf names r s → (members : ℕ → ℕ → ℕ) (counts : SymbolKey → ℕ → ℕ) → IsCounted names r members counts → IsCountedBy others r s members counts
-counted-by-kept names others r s stay grown distinct apart sound same types attributes below consistent are members counts is = record {
+counted-by-kept names others r s stay grown distinct apart sound same types attributes below consistent permitted are members counts is = record {
   symbols = record {
     numbers = stay;
     count = let count = are.count in omega (arith, count, grown);
     kept = kept-stay names others s.numbering.symbols r.names.items are.numbers stay distinct apart r s.kept types are.kept;
   };
-  counted = counted-kept names others r s.numbering.symbols are.numbers stay distinct apart sound same types attributes below consistent members counts is;
+  counted = counted-kept names others r s.numbering.symbols are.numbers stay distinct apart sound same types attributes below consistent permitted members counts is;
 }

@@ -1,9 +1,12 @@
 -- What the counters of a policy tell by full names.
 use Rattle.cil_counters.proofs.Common.{◌≡◌, ℕ, ◌+◌, ◌<◌, ◌==◌, ◌&&◌, ◌||◌, Bool, true, false, List, [], ◌∷◌, length, map, cond, count_by, bytes_eq, nat_lt, slice_index_or, Option, None, Some, position, refl, sym, ap, ◌∙◌, inl, inr, true≢false, zero-add, list_all, list_any, cases_Bool, lt-ltb, ltb-true, list_any_at, sum_by-cons, get_or_from_slice_get, slice_get_within, bytes_eq-Decides, AreTheSame, has_name, aims, count_of, keeps_type, is_member, keeps_attribute, HasSoundSets, kind_index, at_itself, at_element, rule_kind_of, RuleKind, SymbolKey, is_rule_below, meaning_in, name_in, sets_in, Resolved, found-name, symbol-of, atom_of, is_named, name_at, and-first, and-second, atom_with, count_at, has_at, IsCounted}
 use Rattle.std.proofs.Math.Bool.{and-false}
-use Rattle.cil_specs.specs.Meaning.{gives, holds}
+use Rattle.cil_specs.specs.Expr.{holds_by}
+use Rattle.cil_specs.specs.Meaning.{gives, has_permission, holds}
 use Rattle.cil_specs.specs.Rule as spec
-use Rattle.cil_resolve.specs.Numbers.{rule_of}
+use Rattle.cil_resolve.specs.Below.{is_class_below}
+use Rattle.cil_resolve.specs.Numbers.{class_of, rule_of}
+use Rattle.cil_resolve.specs.declared.numbered.NumberedClass.{NumberedClass}
 use Rattle.cil_resolve.specs.declared.numbered.NumberedRule.{NumberedRule}
 use Rattle.cil_member_updates.proofs.PlaceLemmas.{member-kept}
 use Rattle.cil_rule_reach.proofs.NamedLemmas.{is-below}
@@ -19,8 +22,9 @@ right-false a b none = ap (λ x. a && x) none ∙ and-false a
 class-false : (kind source target class permission : Bool) → class ≡ false → (kind && (source && (target && (class && permission)))) ≡ false
 class-false kind source target class permission none = right-false kind (source && (target && (class && permission))) (right-false source (target && (class && permission)) (right-false target (class && permission) (left-false class permission none)))
 
-permission-false : (kind source target class permission : Bool) → permission ≡ false → (kind && (source && (target && (class && permission)))) ≡ false
-permission-false kind source target class permission none = right-false kind (source && (target && (class && permission))) (right-false source (target && (class && permission)) (right-false target (class && permission) (right-false class permission none)))
+permission-false : (kind source target class had held : Bool) → had ≡ false → (kind && (source && (target && (class && (had && held))))) ≡ false
+permission-false kind source target class had held none =
+    right-false kind (source && (target && (class && (had && held)))) (right-false source (target && (class && (had && held))) (right-false target (class && (had && held)) (right-false class (had && held) (left-false had held none))))
 
 -- symbols within the names are those of names
 pub all-named : (names : List (List ℕ)) (key : SymbolKey) (t : ℕ) → key.source < length names → t < length names → key.class < length names → key.permission < length names → is_named names key t ≡ true
@@ -116,6 +120,18 @@ module _ {A : Type 0} (names : List (List ℕ)) (r : Resolved A) (members : ℕ 
                 | inr not ↦ not
               ]
 
+      -- no class has a missing permission
+      none-had : (class permission : List ℕ) → IsMissing permission → has_permission (meaning_in r) class permission ≡ false
+      none-had class permission missing = by r.classes.items r.classes_within
+        where
+          by : (classes : List (NumberedClass A)) → list_all (is_class_below (length r.names.items)) classes ≡ true
+              → list_any (λ d. bytes_eq class d.name && list_any (bytes_eq permission) d.permissions) (map (class_of r.modules.items r.names.items) classes) ≡ false
+          by [] low = refl
+          by (c ∷ classes) low =
+              ap (λ b. b || list_any (λ d. bytes_eq class d.name && list_any (bytes_eq permission) d.permissions) (map (class_of r.modules.items r.names.items) classes))
+              (right-false (bytes_eq class (name_in r c.name)) _ (none-listed permission c.permissions.items (and-second _ _ (and-first _ _ low)) missing))
+              ∙ by classes (and-second _ _ low)
+
       told-by : (kind : RuleKind) (source target class permission : List ℕ) (p q s t : Option ℕ) → position (bytes_eq source) names ≡ p → position (bytes_eq target) names ≡ q → position (bytes_eq class) names ≡ s → position (bytes_eq permission) names ≡ t
           → count_at counts kind p q s t ≡ count_of (meaning_in r) (atom_with kind source target class permission)
       told-by kind source target class permission None q s t at_source at_target at_class at_permission = told-none (atom_with kind source target class permission) (λ rule low.
@@ -124,10 +140,10 @@ module _ {A : Type 0} (names : List (List ℕ)) (r : Resolved A) (members : ℕ 
           right-false _ _ (right-false _ _ (left-false _ _ (none-aimed i source target at_source at_target (rule_of r.modules.items r.names.items rule).target))))
       told-by kind source target class permission (Some i) (Some j) None t at_source at_target at_class at_permission = told-none (atom_with kind source target class permission) (λ rule low.
           let whole = rule_of r.modules.items r.names.items rule in
-          class-false (kind_index whole.kind == kind_index (rule_kind_of kind)) (holds (meaning_in r) whole.source source) (aims (meaning_in r) whole.target source target) (bytes_eq whole.the_class class) (list_any (bytes_eq permission) whole.permissions) (other-name rule.class class (is-below r rule low).class at_class))
+          class-false (kind_index whole.kind == kind_index (rule_kind_of kind)) (holds (meaning_in r) whole.source source) (aims (meaning_in r) whole.target source target) (bytes_eq whole.the_class class) (has_permission (meaning_in r) class permission && holds_by (bytes_eq permission) whole.permissions) (other-name rule.class class (is-below r rule low).class at_class))
       told-by kind source target class permission (Some i) (Some j) (Some k) None at_source at_target at_class at_permission = told-none (atom_with kind source target class permission) (λ rule low.
           let whole = rule_of r.modules.items r.names.items rule in
-          permission-false (kind_index whole.kind == kind_index (rule_kind_of kind)) (holds (meaning_in r) whole.source source) (aims (meaning_in r) whole.target source target) (bytes_eq whole.the_class class) (list_any (bytes_eq permission) whole.permissions) (none-listed permission rule.permissions (is-below r rule low).permissions at_permission))
+          permission-false (kind_index whole.kind == kind_index (rule_kind_of kind)) (holds (meaning_in r) whole.source source) (aims (meaning_in r) whole.target source target) (bytes_eq whole.the_class class) (has_permission (meaning_in r) class permission) (holds_by (bytes_eq permission) whole.permissions) (none-had class permission at_permission))
       told-by kind source target class permission (Some i) (Some j) (Some k) (Some l) at_source at_target at_class at_permission =
           is.are_counts (record { kind = kind; source = i; class = k; permission = l }) j
           ∙ ap (λ b. cond b (count_of (meaning_in r) (atom_of names (record { kind = kind; source = i; class = k; permission = l }) j)) 0)

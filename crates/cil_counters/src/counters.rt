@@ -27,7 +27,7 @@ use cil_member_updates::{Side, Sides};
 use cil_names::Seed;
 use cil_resolve::{
     Meter, Resolved, resolved_is_consistent, resolved_is_sound, resolved_names_are_kept,
-    resolved_sets_are_in_order,
+    resolved_rules_permit, resolved_sets_are_in_order,
 };
 use cil_rules::{Changes, Table};
 use cil_symbol_changes::{ChangeCounts, count_accesses};
@@ -97,6 +97,7 @@ impl<A: Allocator + Copy> Counters<A> {
         resolved_is_sound(old);
         resolved_sets_are_in_order(old);
         resolved_is_consistent(old);
+        resolved_rules_permit(old);
         old.rules();
         self.next = None;
         self.names.len();

@@ -1,8 +1,7 @@
 -- What an expression holds goes by the values of its leaves.
 use Rattle.cil_expression.proofs.Common.{◌≡◌, ℕ, Bool, false, not, ◌&&◌, ◌||◌, List, [], Contains, refl, ap, ◌∙◌, Expr, every, named, opposite, both, either, one_of, nothing, elements, leaves, map_leaves, contains-first, holds_by}
 use Rattle.std.proofs.lemmas.List.Elements.{Contains-append_left, Contains-append_right}
-use Rattle.cil_specs.specs.Rule as spec
-use Rattle.cil_specs.specs.Sets.{differ, element_holds, expr_holds}
+use Rattle.cil_specs.specs.Expr.{differ}
 
 -- An expression with other leaves holds what it holds by the values of those.
 pub holds-mapped : {leaf other : Type 0} (f : leaf → other) (value : other → Bool) (e : Expr leaf) → holds_by value (map_leaves f e) ≡ holds_by (λ l. value (f l)) e
@@ -14,17 +13,6 @@ holds-mapped f value (either x y) = λ i. holds-mapped f value x i || holds-mapp
 holds-mapped f value (one_of x y) = λ i. differ (holds-mapped f value x i) (holds-mapped f value y i)
 holds-mapped f value nothing = refl
 holds-mapped f value (elements x more) = λ i. holds-mapped f value x i || holds-mapped f value more i
-
--- Whether an expression holds a type is whether it does by its names.
-pub expr-holds : (known : List ℕ → Bool) (e : Expr spec.Element) (t : List ℕ) → expr_holds known e t ≡ holds_by (λ x. element_holds known x t) e
-expr-holds known every t = refl
-expr-holds known (named l) t = refl
-expr-holds known (opposite x) t = ap not (expr-holds known x t)
-expr-holds known (both x y) t = λ i. expr-holds known x t i && expr-holds known y t i
-expr-holds known (either x y) t = λ i. expr-holds known x t i || expr-holds known y t i
-expr-holds known (one_of x y) t = λ i. differ (expr-holds known x t i) (expr-holds known y t i)
-expr-holds known nothing t = refl
-expr-holds known (elements x more) t = λ i. expr-holds known x t i || expr-holds known more t i
 
 -- Two values that agree at the leaves give the same.
 pub holds-agree : {leaf : Type 0} (e : Expr leaf) (v w : leaf → Bool) → ((l : leaf) → Contains (leaves e) l → v l ≡ w l) → holds_by v e ≡ holds_by w e

@@ -4,14 +4,13 @@ ghost use Rattle.std.specs.Prelude.{◌≡◌, false, length, ◌≤◌, ◌∷�
 ghost use Rattle.cil_expression.specs.Evaluation.{IsValue, AreValues, is_element, HasNoElement};
 ghost use Rattle.cil_parse.specs.declared.row.SetNode.TheVariants as nodes;
 
-use crate::expression::Element;
 use cil_parse::SetNode;
 
 /// The nodes and the names that are still to come.
 #[derive(Clone, Copy)]
-pub(crate) struct Rest<'r> {
+pub(crate) struct Rest<'r, T: Copy> {
     pub(crate) nodes: &'r [SetNode],
-    pub(crate) names: &'r [Element],
+    pub(crate) names: &'r [T],
 }
 
 /// Whether a list of elements goes on at a node.
@@ -22,7 +21,7 @@ fn is_element(node: &SetNode) -> bool
 }
 
 /// What stands behind the next node, where a list of elements goes on there.
-fn behind_element<'r>(rest: Rest<'r>) -> Option<Rest<'r>>
+fn behind_element<'r, T: Copy>(rest: Rest<'r, T>) -> Option<Rest<'r, T>>
     ensures { MatchOption result (HasNoElement rest.entry.nodes.now)
         (λ behind. (rest.entry.nodes.now ≡ nodes.Element ∷ behind.nodes.now)
         × (behind.names.now ≡ rest.entry.names.now)) }
@@ -39,7 +38,7 @@ fn behind_element<'r>(rest: Rest<'r>) -> Option<Rest<'r>>
 }
 
 /// What known answers of the next name.
-fn name_value<'r, F: Fn(Element) -> bool>(rest: Rest<'r>, known: &F) -> (bool, Rest<'r>)
+fn name_value<'r, T: Copy, F: Fn(T) -> bool>(rest: Rest<'r, T>, known: &F) -> (bool, Rest<'r, T>)
     requires callable { F.IsAlwaysCallable known.now }
     ensures nodes { result.1.nodes.now ≡ rest.entry.nodes.now }
     ensures value { IsValue (F.post known.now) (nodes.Name ∷ rest.entry.nodes.now) rest.entry.names.now
@@ -56,7 +55,7 @@ fn name_value<'r, F: Fn(Element) -> bool>(rest: Rest<'r>, known: &F) -> (bool, R
 }
 
 /// What stands behind the next node, where that is a name's.
-fn behind_name<'r>(rest: Rest<'r>) -> Option<Rest<'r>>
+fn behind_name<'r, T: Copy>(rest: Rest<'r, T>) -> Option<Rest<'r, T>>
     ensures { IfSome result (λ behind. (rest.entry.nodes.now ≡ nodes.Name ∷ behind.nodes.now)
         × (behind.names.now ≡ rest.entry.names.now)) }
 {
@@ -72,7 +71,10 @@ fn behind_name<'r>(rest: Rest<'r>) -> Option<Rest<'r>>
 /// Whether the next expression holds something, by what known answers of its names, and what stands behind it. Most are one
 /// name, which takes no further call.
 #[cycle(value)]
-pub(crate) fn next_value<'r, F: Fn(Element) -> bool>(rest: Rest<'r>, known: &F) -> (bool, Rest<'r>)
+pub(crate) fn next_value<'r, T: Copy, F: Fn(T) -> bool>(
+    rest: Rest<'r, T>,
+    known: &F,
+) -> (bool, Rest<'r, T>)
     requires callable { F.IsAlwaysCallable known.now }
     ensures shorter { length result.1.nodes.now ≤ length rest.entry.nodes.now }
     ensures value { IsValue (F.post known.now) rest.entry.nodes.now rest.entry.names.now
@@ -87,7 +89,7 @@ pub(crate) fn next_value<'r, F: Fn(Element) -> bool>(rest: Rest<'r>, known: &F) 
 /// The same of any expression. A list may be of any length, so a loop goes over its elements: the calls are as deep as the
 /// expression is nested.
 #[cycle(value)]
-fn value<'r, F: Fn(Element) -> bool>(rest: Rest<'r>, known: &F) -> (bool, Rest<'r>)
+fn value<'r, T: Copy, F: Fn(T) -> bool>(rest: Rest<'r, T>, known: &F) -> (bool, Rest<'r, T>)
     requires callable { F.IsAlwaysCallable known.now }
     ensures shorter { length result.1.nodes.now ≤ length rest.entry.nodes.now }
     ensures value { IsValue (F.post known.now) rest.entry.nodes.now rest.entry.names.now
@@ -112,11 +114,11 @@ fn value<'r, F: Fn(Element) -> bool>(rest: Rest<'r>, known: &F) -> (bool, Rest<'
 
 /// What a node other than a list's comes to, with the operands that stand behind it.
 #[cycle(value)]
-fn operation<'r, F: Fn(Element) -> bool>(
+fn operation<'r, T: Copy, F: Fn(T) -> bool>(
     node: &SetNode,
-    rest: Rest<'r>,
+    rest: Rest<'r, T>,
     known: &F,
-) -> (bool, Rest<'r>)
+) -> (bool, Rest<'r, T>)
     requires single { is_element node.now ≡ false }
     requires callable { F.IsAlwaysCallable known.now }
     ensures shorter { length result.1.nodes.now ≤ length rest.entry.nodes.now }
@@ -149,7 +151,10 @@ fn operation<'r, F: Fn(Element) -> bool>(
 
 /// What the next two expressions come to.
 #[cycle(value)]
-fn two_values<'r, F: Fn(Element) -> bool>(rest: Rest<'r>, known: &F) -> (bool, bool, Rest<'r>)
+fn two_values<'r, T: Copy, F: Fn(T) -> bool>(
+    rest: Rest<'r, T>,
+    known: &F,
+) -> (bool, bool, Rest<'r, T>)
     requires callable { F.IsAlwaysCallable known.now }
     ensures shorter { length result.2.nodes.now ≤ length rest.entry.nodes.now }
     ensures values { AreValues (F.post known.now) rest.entry.nodes.now rest.entry.names.now

@@ -1,4 +1,4 @@
-//! A set expression: its nodes, and what its names lead to.
+//! An expression by nodes, and what its names lead to.
 
 ghost use Rattle.cil_expression.specs.Spelling.{IsWhole};
 
@@ -6,7 +6,6 @@ use crate::evaluation::{Rest, next_value};
 use crate::same::are_same_names;
 use cil_parse::SetNode;
 use std::alloc::{Allocator, Global};
-use std::slice::from_ref;
 
 /// What a name of a rule or of a set expression leads to, an alias to its type, by the place of its full name in a list
 /// of names.
@@ -18,88 +17,47 @@ pub enum Element {
 
 /// The nodes of an expression, each in front of those of its operands, and what its names lead to, in their order.
 #[derive(Drop)]
-pub(crate) struct Tree<A: Allocator = Global> {
+pub struct Expression<T: Copy, A: Allocator = Global> {
     nodes: Vec<SetNode, A>,
-    names: Vec<Element, A>,
+    names: Vec<T, A>,
     ghost spelt: { IsWhole nodes.items names.items },
 }
 
-/// How an expression is kept. Most are one name, alone or as the only element of a list: that takes no memory of its own.
-#[derive(Drop)]
-pub(crate) enum Form<A: Allocator = Global> {
-    Named(Element),
-    Listed(Element),
-    Tree(Tree<A>),
-}
-
-/// A set expression whose names lead to types and attributes.
-#[derive(Drop)]
-pub struct SetExpression<A: Allocator = Global> {
-    form: Form<A>,
-}
-
-impl<A: Allocator> SetExpression<A> {
-    ghost use Rattle.std.specs.Prelude.{◌≡◌, Bool, false, Contains};
-    ghost use Rattle.cil_specs.specs.Expr.{Expr, leaves, named, nothing, elements};
+impl<T: Copy, A: Allocator> Expression<T, A> {
+    ghost use Rattle.std.specs.Prelude.{◌≡◌, Bool, Contains};
+    ghost use Rattle.cil_specs.specs.Expr.{Expr, leaves};
     ghost use Rattle.cil_expression.specs.Expression.{expr_in};
     ghost use Rattle.cil_expression.specs.Holds.{holds_by, Answers};
     ghost use Rattle.cil_expression.specs.Same.{are_same, AnswersPairs};
     ghost use Rattle.cil_expression.specs.Spelling.{IsSpelt, nodes_of};
 
     /// The expression of these nodes and of what its names lead to.
-    pub fn new(nodes: Vec<SetNode, A>, names: Vec<Element, A>) -> Self
+    pub fn new(nodes: Vec<SetNode, A>, names: Vec<T, A>) -> Self
         requires spelt { IsSpelt nodes.items names.items }
-        ensures { (expr : Expr Element) → nodes.items ≡ nodes_of expr → names.items ≡ leaves expr
+        ensures { (expr : Expr T) → nodes.items ≡ nodes_of expr → names.items ≡ leaves expr
             → expr_in result ≡ expr }
     {
-        SetExpression {
-            form: Form::Tree(Tree { nodes, names }),
-        }
-    }
-
-    /// The expression of one name. It takes no memory.
-    pub fn named(element: Element) -> Self
-        ensures { expr_in result ≡ named element }
-    {
-        SetExpression {
-            form: Form::Named(element),
-        }
-    }
-
-    /// The expression of a list whose only element is one name. It takes no memory.
-    pub fn listed(element: Element) -> Self
-        ensures { expr_in result ≡ elements (named element) nothing }
-    {
-        SetExpression {
-            form: Form::Listed(element),
-        }
+        Expression { nodes, names }
     }
 
     /// Its nodes, each in front of those of its operands.
-    fn nodes(&self) -> &[SetNode]
+    pub(crate) fn nodes(&self) -> &[SetNode]
         ensures { result.now ≡ nodes_of (expr_in self.now) }
     {
-        match &self.form {
-            Form::Named(_) => &[SetNode::Name],
-            Form::Listed(_) => &[SetNode::Element, SetNode::Name, SetNode::Nothing],
-            Form::Tree(tree) => tree.nodes.as_slice(),
-        }
+        self.nodes.as_slice()
     }
 
     /// What its names lead to, in their order.
-    pub fn names(&self) -> &[Element]
+    pub fn names(&self) -> &[T]
         ensures { result.now ≡ leaves (expr_in self.now) }
     {
-        match &self.form {
-            Form::Named(element) | Form::Listed(element) => from_ref(element),
-            Form::Tree(tree) => tree.names.as_slice(),
-        }
+        self.names.as_slice()
     }
 
     /// Whether it holds something, where known answers whether each of its names does. It takes no memory.
-    pub fn holds<F: Fn(Element) -> bool>(&self, known: F) -> bool
+    pub fn holds<F: Fn(T) -> bool>(&self, known: F) -> bool
         requires callable { F.IsAlwaysCallable known }
-        ensures { (value : Element → Bool)
+        ensures { (value : T → Bool)
             → Answers (F.post known) (λ e. Contains (leaves (expr_in self.now)) e) value
             → result ≡ holds_by value (expr_in self.now) }
     {
@@ -109,21 +67,10 @@ impl<A: Allocator> SetExpression<A> {
         holds
     }
 
-    /// Whether it holds what none of its names does. Where it does not, it holds only what one of them holds.
-    pub fn may_hold_any(&self) -> bool
-        ensures { result ≡ holds_by (λ e. false) (expr_in self.now) }
-    {
-        self.holds(|_| false)
-    }
-
     /// Whether another expression has the same nodes, and names that are the same as its own in pairs, as same answers.
-    pub fn is_same<F: Fn(Element, Element) -> bool>(
-        &self,
-        other: &SetExpression<A>,
-        same: F,
-    ) -> bool
+    pub fn is_same<F: Fn(T, T) -> bool>(&self, other: &Expression<T, A>, same: F) -> bool
         requires callable { F.IsAlwaysCallable same }
-        ensures { (pairs : Element → Element → Bool)
+        ensures { (pairs : T → T → Bool)
             → AnswersPairs (F.post same) (leaves (expr_in self.now)) (leaves (expr_in other.now)) pairs
             → result ≡ are_same pairs (expr_in self.now) (expr_in other.now) }
     {

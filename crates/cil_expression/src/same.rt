@@ -2,18 +2,11 @@
 
 ghost use Rattle.std.specs.Prelude.{◌≡◌, Bool};
 ghost use Rattle.cil_expression.specs.Same.{all_same, AnswersPairs};
-ghost use Rattle.cil_expression.specs.declared.expression.Element.{Element};
-
-use crate::expression::Element;
 
 /// Whether as many names stand on both sides, and each is the same as that across.
-pub(crate) fn are_same_names<F: Fn(Element, Element) -> bool>(
-    names: &[Element],
-    others: &[Element],
-    same: &F,
-) -> bool
+pub fn are_same_names<T: Copy, F: Fn(T, T) -> bool>(names: &[T], others: &[T], same: &F) -> bool
     requires callable { F.IsAlwaysCallable same.now }
-    ensures { (pairs : Element → Element → Bool) → AnswersPairs (F.post same.now) names.now others.now pairs
+    ensures { (pairs : T → T → Bool) → AnswersPairs (F.post same.now) names.now others.now pairs
         → result ≡ all_same pairs names.now others.now }
 {
     let mut left = names;

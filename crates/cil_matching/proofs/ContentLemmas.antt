@@ -1,12 +1,24 @@
 -- Rules say the same by their numbers where they do by their names.
-use Rattle.cil_matching.proofs.Common.{◌≡◌, ◌∙◌, ◌==◌, ◌↔◌, ℕ, zero, suc, ◌<◌, Bool, true, false, true≢false, ◌&&◌, nat_lt, List, [], ◌∷◌, length, map, slice_get, slice_index_or, Option, None, Some, refl, sym, ap, arith, list_all, and_parts, eqb-true, eq-eqb, ltb-true, length-map, slice_get-get_or, get_or_from_slice_get, a_type, an_attribute, ResolvedTarget, at_itself, at_element, RuleContent, content_of, kind_index, same-kind, is_that, is_number_of, is_element_by, is_target_by, ArePermissionsBy, SayTheSame, AreNumbers}
+use Rattle.cil_matching.proofs.Common.{◌≡◌, ◌∙◌, ◌==◌, ◌↔◌, ℕ, ◌<◌, Bool, true, false, true≢false, ◌&&◌, nat_lt, List, [], ◌∷◌, length, map, slice_get, slice_index_or, Option, None, Some, refl, sym, ap, arith, bytes_eq, list_all, and_parts, eqb-true, eq-eqb, ltb-true, slice_get-get_or, slice_get_within, get_or_from_slice_get, a_type, an_attribute, ResolvedTarget, at_itself, at_element, RuleContent, content_of, kind_index, same-kind, is_that, is_number_of, is_element_by, is_target_by, SayTheSame, AreNumbers}
+use Rattle.std.proofs.Common.{Box, not}
+use Rattle.std.proofs.Math.Bool.{and-false}
+use Rattle.std.proofs.lemmas.Slice.Eq.{bytes_eq-Decides}
+use Rattle.cil_specs.specs.Expr.{Expr, leaves, listed, map_leaves}
 use Rattle.cil_specs.specs.Rule as spec
+use Rattle.cil_specs.proofs.MeansLemmas.{leaves-mapped}
 use Rattle.cil_specs.proofs.Runs.{first_true, second_true, both_true}
+use Rattle.cil_parse.specs.Forms.{is_plain}
 use Rattle.cil_text.specs.Image.{rule_kind_of}
 use Rattle.cil_expression.specs.declared.expression.Element.{Element}
 use Rattle.cil_expression.specs.declared.expression.Element.TheVariants.{«Type», Attribute}
-use Rattle.cil_resolve.specs.Below.{is_element_below, is_target_below, is_rule_below}
-use Rattle.cil_resolve.specs.Numbers.{element_of, resolved_target_of, rule_of}
+use Rattle.cil_expression.specs.Expression.{expr_in}
+use Rattle.cil_expression.specs.Same.{all_same, are_same, same_node}
+use Rattle.cil_expression.specs.Spelling.{nodes_of}
+use Rattle.cil_expression.specs.declared.expression.Expression.{Expression}
+use Rattle.cil_expression.proofs.ListedLemmas.{leaves-listed, plain-mapped}
+use Rattle.cil_expression.proofs.SameExprLemmas.{mapped-same, same-mapped}
+use Rattle.cil_resolve.specs.Below.{is_element_below, is_target_below, is_rule_below, is_written_below}
+use Rattle.cil_resolve.specs.Numbers.{element_of, is_no_list, keeps_no_list, resolved_target_of, rule_of, written_in, written_or}
 use Rattle.cil_resolve.specs.declared.numbered.NumberedRule.{NumberedRule}
 use Rattle.cil_resolve.specs.declared.numbered.ResolvedTarget as numbered
 use Rattle.cil_resolve.specs.declared.numbered.ResolvedTarget.TheVariants as aims
@@ -37,20 +49,22 @@ pub record IsBelow {A : Type 0} (n : ℕ) (r : NumberedRule A) : Type 0 where
   pub source : is_element_below n r.source ≡ true
   pub target : is_target_below n r.target ≡ true
   pub class : nat_lt r.class n ≡ true
-  pub permissions : list_all (λ p. nat_lt p n) r.permissions ≡ true
+  pub written : list_all (λ p. nat_lt p n) (leaves (written_in r)) ≡ true
 
-pub is-below : {A : Type 0} (n : ℕ) (r : NumberedRule A) → is_rule_below n r ≡ true → IsBelow n r
-is-below n r e =
+pub is-below : {A : Type 0} (n : ℕ) (r : NumberedRule A) → is_rule_below n r ≡ true → is_written_below n r ≡ true → IsBelow n r
+is-below n r e written =
     let all = list_all (λ p. nat_lt p n) r.permissions in
     let one = and_parts (is_element_below n r.source) (is_target_below n r.target && (nat_lt r.class n && all)) e in
     let two = and_parts (is_target_below n r.target) (nat_lt r.class n && all) one.1 in
     let three = and_parts (nat_lt r.class n) all two.1 in
-    record { source = one.0; target = two.0; class = three.0; permissions = three.1 }
+    record { source = one.0; target = two.0; class = three.0; written = written }
 
 module _ (names others : List (List ℕ)) (numbers : List (Option ℕ)) (are : AreNumbers names others numbers) where
-  number-is : (a b : ℕ) → a < length names → b < length others → is_number_of numbers a b ≡ true → slice_index_or names a [] ≡ slice_index_or others b []
-  number-is a b low below e =
-      let same = (are.exact a b low).0 (that-is (slice_get numbers a) b e) in
+  number-is : (a b : ℕ) → is_number_of numbers a b ≡ true → slice_index_or names a [] ≡ slice_index_or others b []
+  number-is a b e =
+      let told = that-is (slice_get numbers a) b e in
+      let within = slice_get_within numbers a (Some b) told in
+      let same = (are.exact a b (omega (arith, within, are.long))).0 told in
       get_or_from_slice_get names a same.statement [] same.here ∙ same.same ∙ sym (get_or_from_slice_get others b same.other [] same.there)
 
   number-from : (a b : ℕ) → a < length names → b < length others → slice_index_or names a [] ≡ slice_index_or others b [] → is_number_of numbers a b ≡ true
@@ -67,7 +81,7 @@ module _ (names others : List (List ℕ)) (numbers : List (Option ℕ)) (are : A
   number-tells a b low below =
       let a_low = ltb-true a (length names) low in
       let b_low = ltb-true b (length others) below in
-      (number-is a b a_low b_low, number-from a b a_low b_low)
+      (number-is a b, number-from a b a_low b_low)
 
   element-tells : (x y : Element) → is_element_below (length names) x ≡ true → is_element_below (length others) y ≡ true → (is_element_by numbers x y ≡ true) ↔ (element_of names x ≡ element_of others y)
   unfolding is_type name_of
@@ -89,35 +103,38 @@ module _ (names others : List (List ℕ)) (numbers : List (Option ℕ)) (are : A
       let (to, from) = element-tells x y low below in
       (λ e. ap at_element (to e), λ e. from (ap (element_or (element_of names x)) e))
 
-  permissions-are : (ps qs : List ℕ) → length ps ≡ length qs → list_all (λ p. nat_lt p (length names)) ps ≡ true → list_all (λ q. nat_lt q (length others)) qs ≡ true → ArePermissionsBy numbers ps qs
-      → map (λ p. slice_index_or names p []) ps ≡ map (λ q. slice_index_or others q []) qs
-  permissions-are [] [] long low below each = refl
-  permissions-are [] (q ∷ qs) long low below each = absurd (omega (arith, long))
-  permissions-are (p ∷ ps) [] long low below each = absurd (omega (arith, long))
-  permissions-are (p ∷ ps) (q ∷ qs) long low below each =
-      let p_low = first_true (nat_lt p (length names)) (list_all (λ p. nat_lt p (length names)) ps) low in
-      let q_low = first_true (nat_lt q (length others)) (list_all (λ q. nat_lt q (length others)) qs) below in
-      let first = (number-tells p q p_low q_low).0 (each 0 (omega arith)) in
-      let rest =
-      permissions-are ps qs (omega (arith, long)) (second_true (nat_lt p (length names)) (list_all (λ p. nat_lt p (length names)) ps) low)
-      (second_true (nat_lt q (length others)) (list_all (λ q. nat_lt q (length others)) qs) below) (λ k more. each (suc k) (omega (arith, more))) in
-      λ i. first i ∷ rest i
+  abbrev old_name : ℕ → List ℕ
+  old_name p = slice_index_or names p []
 
-  permissions-from : (ps qs : List ℕ) → length ps ≡ length qs → list_all (λ p. nat_lt p (length names)) ps ≡ true → list_all (λ q. nat_lt q (length others)) qs ≡ true
-      → map (λ p. slice_index_or names p []) ps ≡ map (λ q. slice_index_or others q []) qs → ArePermissionsBy numbers ps qs
-  permissions-from [] qs long low below same k less = absurd (omega (arith, less))
-  permissions-from (p ∷ ps) [] long low below same k less = absurd (omega (arith, long))
-  permissions-from (p ∷ ps) (q ∷ qs) long low below same zero less =
+  abbrev new_name : ℕ → List ℕ
+  new_name q = slice_index_or others q []
+
+  -- expressions are the same where they are of the same names
+  expr-is : (e f : Expr ℕ) → are_same (is_number_of numbers) e f ≡ true → map_leaves old_name e ≡ map_leaves new_name f
+  expr-is e f same = same-mapped (is_number_of numbers) old_name new_name number-is e f same
+
+  leaves-from : (ps qs : List ℕ) → list_all (λ p. nat_lt p (length names)) ps ≡ true → list_all (λ q. nat_lt q (length others)) qs ≡ true → map old_name ps ≡ map new_name qs
+      → all_same (is_number_of numbers) ps qs ≡ true
+  leaves-from [] [] low below same = refl
+  leaves-from [] (q ∷ qs) low below same = absurd (cc same)
+  leaves-from (p ∷ ps) [] low below same = absurd (cc same)
+  leaves-from (p ∷ ps) (q ∷ qs) low below same =
       let p_low = first_true (nat_lt p (length names)) (list_all (λ p. nat_lt p (length names)) ps) low in
       let q_low = first_true (nat_lt q (length others)) (list_all (λ q. nat_lt q (length others)) qs) below in
-      (number-tells p q p_low q_low).1 (ap (λ l. slice_index_or l 0 []) same)
-  permissions-from (p ∷ ps) (q ∷ qs) long low below same (suc k) less =
-      permissions-from ps qs (omega (arith, long)) (second_true (nat_lt p (length names)) (list_all (λ p. nat_lt p (length names)) ps) low)
-      (second_true (nat_lt q (length others)) (list_all (λ q. nat_lt q (length others)) qs) below) (ap rest_of same) k (omega (arith, less))
-    where
-      rest_of : List (List ℕ) → List (List ℕ)
-      rest_of [] = []
-      rest_of (x ∷ xs) = xs
+      let head : old_name p ≡ new_name q = cc same in
+      let tail : map old_name ps ≡ map new_name qs = cc same in
+      both_true (is_number_of numbers p q) (all_same (is_number_of numbers) ps qs) ((number-tells p q p_low q_low).1 head)
+      (leaves-from ps qs (second_true (nat_lt p (length names)) (list_all (λ p. nat_lt p (length names)) ps) low)
+      (second_true (nat_lt q (length others)) (list_all (λ q. nat_lt q (length others)) qs) below) tail)
+
+  expr-from : (e f : Expr ℕ) → list_all (λ p. nat_lt p (length names)) (leaves e) ≡ true → list_all (λ q. nat_lt q (length others)) (leaves f) ≡ true → map_leaves old_name e ≡ map_leaves new_name f
+      → are_same (is_number_of numbers) e f ≡ true
+  expr-from e f low below same =
+      let one_name = λ (p q : ℕ). bytes_eq (old_name p) (new_name q) in
+      let by_name = mapped-same one_name old_name new_name (λ p q is. (bytes_eq-Decides (old_name p) (new_name q)).1 is) e f same in
+      let named : map old_name (leaves e) ≡ map new_name (leaves f) = sym (leaves-mapped old_name e) ∙ ap leaves same ∙ leaves-mapped new_name f in
+      both_true (all_same same_node (nodes_of e) (nodes_of f)) (all_same (is_number_of numbers) (leaves e) (leaves f))
+      (first_true (all_same same_node (nodes_of e) (nodes_of f)) (all_same one_name (leaves e) (leaves f)) by_name) (leaves-from (leaves e) (leaves f) low below named)
 
   module _ {A : Type 0} (modules newer : List (List ℕ)) (r s : NumberedRule A) (low : IsBelow (length names) r) (below : IsBelow (length others) s) where
     kinds : Bool
@@ -132,41 +149,91 @@ module _ (names others : List (List ℕ)) (numbers : List (Option ℕ)) (are : A
     classes : Bool
     classes = is_number_of numbers r.class s.class
 
-    as_many : Bool
-    as_many = length r.permissions == length s.permissions
-
     content-is : SayTheSame numbers r s → content_of (rule_of modules names r) ≡ content_of (rule_of newer others s)
-    unfolding kinds sources targets classes as_many
-    content-is are_same =
-        let four = and_parts (((kinds && sources) && targets) && classes) as_many are_same.head in
-        let three = and_parts ((kinds && sources) && targets) classes four.0 in
+    unfolding kinds sources targets classes
+    content-is says =
+        let three = and_parts ((kinds && sources) && targets) classes says.head in
         let two = and_parts (kinds && sources) targets three.0 in
         let one = and_parts kinds sources two.0 in
         let kind = same-kind (rule_kind_of r.kind) (rule_kind_of s.kind) (eqb-true (kind_index (rule_kind_of r.kind)) (kind_index (rule_kind_of s.kind)) one.0) in
         let source = (element-tells r.source s.source low.source below.source).0 one.1 in
         let target = (target-tells r.target s.target low.target below.target).0 two.1 in
         let the_class = (number-tells r.class s.class low.class below.class).0 three.1 in
-        let long = eqb-true (length r.permissions) (length s.permissions) four.1 in
-        let permissions = permissions-are r.permissions s.permissions long low.permissions below.permissions are_same.permissions in
+        let permissions = expr-is (written_in r) (written_in s) says.written in
         λ i. record { kind = kind i; source = source i; target = target i; the_class = the_class i; permissions = permissions i }
 
     content-from : content_of (rule_of modules names r) ≡ content_of (rule_of newer others s) → SayTheSame numbers r s
-    unfolding kinds sources targets classes as_many
+    unfolding kinds sources targets classes
     content-from same =
         let kind = eq-eqb (kind_index (rule_kind_of r.kind)) (kind_index (rule_kind_of s.kind)) (ap (λ (c : RuleContent). kind_index c.kind) same) in
         let source = (element-tells r.source s.source low.source below.source).1 (ap (λ (c : RuleContent). c.source) same) in
         let target = (target-tells r.target s.target low.target below.target).1 (ap (λ (c : RuleContent). c.target) same) in
         let the_class = (number-tells r.class s.class low.class below.class).1 (ap (λ (c : RuleContent). c.the_class) same) in
-        let permissions = ap (λ (c : RuleContent). c.permissions) same in
-        let long : length r.permissions ≡ length s.permissions =
-        sym (length-map r.permissions (λ p. slice_index_or names p [])) ∙ ap length permissions ∙ length-map s.permissions (λ q. slice_index_or others q []) in
         record {
-          head =
-              both_true (((kinds && sources) && targets) && classes) as_many
-              (both_true ((kinds && sources) && targets) classes (both_true (kinds && sources) targets (both_true kinds sources kind source) target) the_class)
-              (eq-eqb (length r.permissions) (length s.permissions) long);
-          permissions = permissions-from r.permissions s.permissions long low.permissions below.permissions permissions;
+          head = both_true ((kinds && sources) && targets) classes (both_true (kinds && sources) targets (both_true kinds sources kind source) target) the_class;
+          written = expr-from (written_in r) (written_in s) low.written below.written (ap (λ (c : RuleContent). c.permissions) same);
         }
 
     pub content-tells : SayTheSame numbers r s ↔ (content_of (rule_of modules names r) ≡ content_of (rule_of newer others s))
     content-tells = (content-is, content-from)
+
+-- an expression that is the same as a plain list is one
+plain-same : {first second : Type 0} (same : first → second → Bool) (e : Expr first) (f : Expr second) → are_same same e f ≡ true → is_plain e ≡ is_plain f
+plain-same same e f is =
+    sym (plain-mapped {other = ℕ} (λ x. 0) e) ∙ ap is_plain (same-mapped {other = ℕ} same (λ x. 0) (λ y. 0) (λ x y is. refl) e f is) ∙ plain-mapped {other = ℕ} (λ y. 0) f
+
+pub plain-list : {leaf : Type 0} (l : List leaf) → is_plain (listed l) ≡ true
+plain-list [] = refl
+plain-list (x ∷ xs) = plain-list xs
+
+same-nodes : {first second : Type 0} (ps : List first) (qs : List second) → length ps ≡ length qs → all_same same_node (nodes_of (listed ps)) (nodes_of (listed qs)) ≡ true
+same-nodes [] [] long = refl
+same-nodes [] (q ∷ qs) long = absurd (omega (arith, long))
+same-nodes (p ∷ ps) [] long = absurd (omega (arith, long))
+same-nodes (p ∷ ps) (q ∷ qs) long = same-nodes ps qs (omega (arith, long))
+
+all-long : {first second : Type 0} (same : first → second → Bool) (ps : List first) (qs : List second) → all_same same ps qs ≡ true → length ps ≡ length qs
+all-long same [] [] all = refl
+all-long same [] (q ∷ qs) all = absurd (true≢false (sym all))
+all-long same (p ∷ ps) [] all = absurd (true≢false (sym all))
+all-long same (p ∷ ps) (q ∷ qs) all = let rest = all-long same ps qs (second_true (same p q) (all_same same ps qs) all) in omega (arith, rest)
+
+-- plain lists are the same where their leaves are
+lists-same : {first second : Type 0} (same : first → second → Bool) (ps : List first) (qs : List second) → are_same same (listed ps) (listed qs) ≡ all_same same ps qs
+lists-same same ps qs = (λ i. all_same same_node (nodes_of (listed ps)) (nodes_of (listed qs)) && all_same same (leaves-listed ps i) (leaves-listed qs i)) ∙ by (all_same same ps qs) refl
+  where
+    by : (b : Bool) → all_same same ps qs ≡ b → (all_same same_node (nodes_of (listed ps)) (nodes_of (listed qs)) && all_same same ps qs) ≡ all_same same ps qs
+    by true is = ap (λ b. b && all_same same ps qs) (same-nodes ps qs (all-long same ps qs is))
+    by false is = ap (λ b. all_same same_node (nodes_of (listed ps)) (nodes_of (listed qs)) && b) is ∙ and-false (all_same same_node (nodes_of (listed ps)) (nodes_of (listed qs))) ∙ sym is
+
+-- rules that keep no expression, and such that keep one
+module _ {A : Type 0} (same : ℕ → ℕ → Bool) (r s : NumberedRule A) where
+  pub both-lists : (ps qs : List ℕ) (answer : Bool) → r.written ≡ None → s.written ≡ None → ps ≡ r.permissions → qs ≡ s.permissions → answer ≡ all_same same ps qs
+      → answer ≡ are_same same (written_in r) (written_in s)
+  both-lists ps qs answer none no_other here there is =
+      is ∙ (λ i. all_same same (here i) (there i)) ∙ sym (lists-same same r.permissions s.permissions)
+      ∙ (λ i. are_same same (written_or (sym none i) r.permissions) (written_or (sym no_other i) s.permissions))
+
+  pub both-kept : (e f : Box (Expression ℕ A) A) (x y : Expression ℕ A) (answer : Bool) → r.written ≡ Some e → s.written ≡ Some f → x ≡ e.value → y ≡ f.value
+      → answer ≡ are_same same (expr_in x) (expr_in y) → answer ≡ are_same same (written_in r) (written_in s)
+  both-kept e f x y answer kept keeps here there is =
+      is ∙ (λ i. are_same same (expr_in (here i)) (expr_in (there i)))
+      ∙ (λ i. are_same same (written_or (sym kept i) r.permissions) (written_or (sym keeps i) s.permissions))
+
+  pub first-kept : (e : Box (Expression ℕ A) A) → keeps_no_list r ≡ true → r.written ≡ Some e → s.written ≡ None → are_same same (written_in r) (written_in s) ≡ false
+  first-kept e no_list kept none = by (are_same same (written_in r) (written_in s)) refl
+    where
+      by : (b : Bool) → are_same same (written_in r) (written_in s) ≡ b → b ≡ false
+      by false is = refl
+      by true is =
+          absurd (true≢false (sym no_list ∙ ap is_no_list kept
+          ∙ ap not (sym (ap (λ w. is_plain (written_or w r.permissions)) kept) ∙ plain-same same (written_in r) (written_in s) is ∙ ap (λ w. is_plain (written_or w s.permissions)) none ∙ plain-list s.permissions)))
+
+  pub second-kept : (f : Box (Expression ℕ A) A) → keeps_no_list s ≡ true → r.written ≡ None → s.written ≡ Some f → are_same same (written_in r) (written_in s) ≡ false
+  second-kept f no_list none keeps = by (are_same same (written_in r) (written_in s)) refl
+    where
+      by : (b : Bool) → are_same same (written_in r) (written_in s) ≡ b → b ≡ false
+      by false is = refl
+      by true is =
+          absurd (true≢false (sym no_list ∙ ap is_no_list keeps
+          ∙ ap not (sym (ap (λ w. is_plain (written_or w s.permissions)) keeps) ∙ sym (plain-same same (written_in r) (written_in s) is) ∙ ap (λ w. is_plain (written_or w r.permissions)) none ∙ plain-list r.permissions)))

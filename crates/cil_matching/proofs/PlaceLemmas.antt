@@ -2,8 +2,8 @@
 use Rattle.cil_matching.proofs.Common.{◌≡◌, ◌∙◌, ◌↔◌, ℕ, ◌<◌, Bool, true, false, true≢false, List, [], ◌∷◌, length, map, get_or, slice_get, Option, None, Some, IsTrue, refl, sym, ap, subst, arith, IsStrictlySortedBy, Ordering, Equal, tied_itself, length-map, none-some, same_Some, slice_get-get_or, Rule, IsSameRule, content_of, rule_cmp, rule_total, meaning_in, SayTheSame, AreNumbers, AreSameAt, IsFoundAt, IsMissedAt, Spot, spot_cmp, rule_spot}
 use Rattle.std.specs.Bool.{then_some}
 use Rattle.cil_needs.proofs.GreatestLemmas.{all-got}
-use Rattle.cil_resolve.specs.Below.{is_rule_below}
-use Rattle.cil_resolve.specs.Numbers.{rule_of}
+use Rattle.cil_resolve.specs.Below.{is_rule_below, is_written_below}
+use Rattle.cil_resolve.specs.Numbers.{keeps_no_list, rule_of}
 use Rattle.cil_resolve.specs.declared.numbered.NumberedRule.{NumberedRule}
 use Rattle.cil_resolve.specs.declared.resolved.Resolved.{Resolved}
 use Rattle.cil_matching.proofs.ApartLemmas.{rules-agree}
@@ -80,8 +80,12 @@ pub contents-tell : {A : Type 0} (p q : Resolved A) (numbers : List (Option ℕ)
 contents-tell p q numbers are i j x y test mine its tells r s here there =
     let one : rule_of p.modules.items p.names.items x ≡ r = same_Some (rule_of p.modules.items p.names.items x) r (sym (to-mapped (rule_of p.modules.items p.names.items) p.rules.items i x mine) ∙ here) in
     let two : rule_of q.modules.items q.names.items y ≡ s = same_Some (rule_of q.modules.items q.names.items y) s (sym (to-mapped (rule_of q.modules.items q.names.items) q.rules.items j y its) ∙ there) in
-    let low = is-below (length p.names.items) x (all-got (is_rule_below (length p.names.items)) p.rules.items i x p.rules_within mine) in
-    let below = is-below (length q.names.items) y (all-got (is_rule_below (length q.names.items)) q.rules.items j y q.rules_within its) in
+    let low =
+    is-below (length p.names.items) x (all-got (is_rule_below (length p.names.items)) p.rules.items i x p.rules_within mine)
+    (all-got (is_written_below (length p.names.items)) p.rules.items i x p.written_within mine) in
+    let below =
+    is-below (length q.names.items) y (all-got (is_rule_below (length q.names.items)) q.rules.items j y q.rules_within its)
+    (all-got (is_written_below (length q.names.items)) q.rules.items j y q.written_within its) in
     let (to, from) = content-tells p.names.items q.names.items numbers are p.modules.items q.modules.items x y low below in (
       λ passes. ap content_of (sym one) ∙ to (tells.0 passes) ∙ ap content_of two,
       λ same. tells.1 (from (ap content_of one ∙ same ∙ ap content_of (sym two))),
@@ -92,3 +96,7 @@ pub read-rule : {A : Type 0} (p : Resolved A) (i : ℕ) (x : NumberedRule A) (ru
 read-rule p i x rules low are is =
     let long = length-map p.rules.items (rule_of p.modules.items p.names.items) in
     slice_get-get_or p.rules.items i x (omega (arith, low, long)) ∙ ap Some (ap (λ l. get_or l i x) (sym are) ∙ sym is)
+
+-- it keeps an expression only where that is no plain list
+pub read-no-list : {A : Type 0} (p : Resolved A) (i : ℕ) (x : NumberedRule A) → slice_get p.rules.items i ≡ Some x → keeps_no_list x ≡ true
+read-no-list p i x is = all-got keeps_no_list p.rules.items i x p.no_lists is

@@ -9,7 +9,6 @@ use Rattle.indexmap.specs.IndexSet.{insert_key}
 use Rattle.cil_specs.proofs.Runs.{first_true, second_true, both_true}
 use Rattle.cil_bind.proofs.PositionLemmas.{any-position, position-cons}
 use Rattle.cil_matching.specs.declared.positions.Position.{Position}
-use Rattle.cil_matching.specs.contracts.positions.PositionPartialEq.TheImpl as position_eq
 
 same-spot : (p q : Spot) → same_spot p q ≡ true → p ≡ q
 same-spot p q is =

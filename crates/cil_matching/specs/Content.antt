@@ -1,9 +1,11 @@
 -- Rules of two policies that say the same, by the numbers of their names.
-use Rattle.std.specs.Prelude.{◌≡◌, ◌==◌, ◌&&◌, ◌<◌, ℕ, Bool, true, false, List, Option, None, Some, length, slice_get, slice_index}
+use Rattle.std.specs.Prelude.{◌≡◌, ◌==◌, ◌&&◌, ℕ, Bool, true, false, List, Option, None, Some, slice_get}
 use Rattle.cil_specs.specs.Rule.{kind_index}
 use Rattle.cil_text.specs.Image.{rule_kind_of}
 use Rattle.cil_expression.specs.declared.expression.Element.{Element}
 use Rattle.cil_expression.specs.declared.expression.Element.TheVariants.{«Type», Attribute}
+use Rattle.cil_expression.specs.Same.{are_same}
+use Rattle.cil_resolve.specs.Numbers.{written_in}
 use Rattle.cil_resolve.specs.declared.numbered.NumberedRule.{NumberedRule}
 use Rattle.cil_resolve.specs.declared.numbered.ResolvedTarget.{ResolvedTarget}
 use Rattle.cil_resolve.specs.declared.numbered.ResolvedTarget.TheVariants as aims
@@ -30,17 +32,17 @@ is_target_by numbers aims.Itself (aims.Element y) = false
 is_target_by numbers (aims.Element x) aims.Itself = false
 is_target_by numbers (aims.Element x) (aims.Element y) = is_element_by numbers x y
 
--- whether two rules say the same but for their permissions, of which they have as many
+-- whether two rules say the same but for their permissions
 abbrev pub is_head_by : {A : Type 0} → List (Option ℕ) → NumberedRule A → NumberedRule A → Bool
 is_head_by numbers r s =
-    ((((kind_index (rule_kind_of r.kind) == kind_index (rule_kind_of s.kind)) && is_element_by numbers r.source s.source) && is_target_by numbers r.target s.target)
-    && is_number_of numbers r.class s.class) && (length r.permissions == length s.permissions)
+    (((kind_index (rule_kind_of r.kind) == kind_index (rule_kind_of s.kind)) && is_element_by numbers r.source s.source) && is_target_by numbers r.target s.target)
+    && is_number_of numbers r.class s.class
 
--- the same permissions in the same order
-abbrev pub ArePermissionsBy : List (Option ℕ) → List ℕ → List ℕ → Type 0
-ArePermissionsBy numbers ps qs = (k : ℕ) → k < length ps → is_number_of numbers (slice_index ps k) (slice_index qs k) ≡ true
+-- whether their permissions are written the same: by expressions of one shape, of the same names
+abbrev pub is_written_by : {A : Type 0} → List (Option ℕ) → NumberedRule A → NumberedRule A → Bool
+is_written_by numbers r s = are_same (is_number_of numbers) (written_in r) (written_in s)
 
 -- Two rules say the same.
 pub record SayTheSame {A : Type 0} (numbers : List (Option ℕ)) (r s : NumberedRule A) : Type 0 where
   pub head : is_head_by numbers r s ≡ true
-  pub permissions : ArePermissionsBy numbers r.permissions s.permissions
+  pub written : is_written_by numbers r s ≡ true

@@ -1,9 +1,12 @@
 //! Rules of two policies that say the same, by the numbers of their names.
 
-ghost use Rattle.std.specs.Prelude.{◌≡◌, ◌↔◌, IsTrue, length, slice_get};
-ghost use Rattle.cil_matching.specs.Content.{is_number_of, is_element_by, is_target_by, is_head_by, ArePermissionsBy, SayTheSame};
+ghost use Rattle.std.specs.Prelude.{◌≡◌, ◌↔◌, IsTrue, slice_get};
+ghost use Rattle.cil_expression.specs.Expression.{expr_in};
+ghost use Rattle.cil_expression.specs.Same.{all_same, are_same};
+ghost use Rattle.cil_resolve.specs.Numbers.{keeps_no_list};
+ghost use Rattle.cil_matching.specs.Content.{is_number_of, is_element_by, is_target_by, is_head_by, is_written_by, SayTheSame};
 
-use cil_expression::Element;
+use cil_expression::{Element, Expression, are_same_names};
 use cil_resolve::{NumberedRule, ResolvedTarget};
 use std::alloc::Allocator;
 
@@ -39,7 +42,7 @@ fn is_target(numbers: &[Option<usize>], x: ResolvedTarget, y: ResolvedTarget) ->
     }
 }
 
-/// Whether two rules say the same but for their permissions, of which they have as many.
+/// Whether two rules say the same but for their permissions.
 fn is_same_head<A: Allocator>(
     numbers: &[Option<usize>],
     rule: &NumberedRule<A>,
@@ -51,21 +54,56 @@ fn is_same_head<A: Allocator>(
     let source = is_element(numbers, rule.source, other.source);
     let target = is_target(numbers, rule.target, other.target);
     let class = is_number(numbers, rule.class, other.class);
-    let permissions = rule.permissions.as_slice().len() == other.permissions.as_slice().len();
-    kind & source & target & class & permissions
+    kind & source & target & class
 }
 
 /// Whether as many permissions are the same, in their order.
 fn are_same_permissions(numbers: &[Option<usize>], permissions: &[usize], others: &[usize]) -> bool
-    requires { length permissions.now ≡ length others.now }
-    ensures { IsTrue result ↔ ArePermissionsBy numbers.now permissions.now others.now }
+    ensures { result ≡ all_same (is_number_of numbers.now) permissions.now others.now }
 {
-    for k in 0..permissions.len() {
-        if !is_number(numbers, permissions[k], others[k]) {
-            return false;
-        }
+    let same = |a, b|
+        ensures { result ≡ is_number_of numbers.entry.now a b }
+    { is_number(numbers, a, b) };
+    are_same_names(permissions, others, &same)
+}
+
+/// Whether two expressions of permissions are the same.
+fn is_same_expression<A: Allocator>(
+    numbers: &[Option<usize>],
+    expression: &Expression<usize, A>,
+    other: &Expression<usize, A>,
+) -> bool
+    ensures { result ≡ are_same (is_number_of numbers.now)
+        (expr_in expression.now) (expr_in other.now) }
+{
+    expression.is_same(
+        other,
+        |a, b|
+            ensures { result ≡ is_number_of numbers.entry.now a b }
+        { is_number(numbers, a, b) },
+    )
+}
+
+/// Whether the permissions of two rules are written the same. A rule that keeps no expression has a plain list, and none that keeps one
+/// has.
+fn are_written_same<A: Allocator>(
+    numbers: &[Option<usize>],
+    rule: &NumberedRule<A>,
+    other: &NumberedRule<A>,
+) -> bool
+    requires rule { IsTrue (keeps_no_list rule.now) }
+    requires other { IsTrue (keeps_no_list other.now) }
+    ensures { result ≡ is_written_by numbers.now rule.now other.now }
+{
+    match (&rule.written, &other.written) {
+        (Some(written), Some(others)) => is_same_expression(numbers, written, others),
+        (None, None) => are_same_permissions(
+            numbers,
+            rule.permissions.as_slice(),
+            other.permissions.as_slice(),
+        ),
+        _ => false,
     }
-    true
 }
 
 /// Whether a rule of the old policy says what one of the new policy says, by the numbers that the new policy gives the old one's names.
@@ -74,14 +112,12 @@ pub fn is_same_content<A: Allocator>(
     rule: &NumberedRule<A>,
     other: &NumberedRule<A>,
 ) -> bool
+    requires rule { IsTrue (keeps_no_list rule.now) }
+    requires other { IsTrue (keeps_no_list other.now) }
     ensures { IsTrue result ↔ SayTheSame numbers.now rule.now other.now }
 {
     if !is_same_head(numbers, rule, other) {
         return false;
     }
-    are_same_permissions(
-        numbers,
-        rule.permissions.as_slice(),
-        other.permissions.as_slice(),
-    )
+    are_written_same(numbers, rule, other)
 }

@@ -4,6 +4,7 @@ pub mod SplitLemmas
 pub mod LexiconLemmas
 pub mod AddsLemmas
 pub mod BuilderLemmas
+pub mod PlainLemmas
 pub mod FlatLemmas
 pub mod PlaceLemmas
 pub mod TreeLemmas

@@ -1,15 +1,17 @@
 -- What was gone over of a module.
-use Rattle.std.specs.Prelude.{◌≡◌, ℕ, List, [], ◌∷◌, ◌++◌, length, map, Option, Some, slice_get}
+use Rattle.std.specs.Prelude.{◌≡◌, ℕ, List, [], ◌∷◌, ◌++◌, length, drop, map, Option, Some, slice_get}
 use Rattle.std.specs.Option.{option_map}
 use Rattle.cil_specs.specs.Place.{Place}
 use Rattle.cil_specs.specs.Names.{Word}
 use Rattle.cil_specs.specs.Statements.{Form, Statements}
 use Rattle.cil_specs.specs.Expr.{WordExpr, leaves}
 use Rattle.cil_text.specs.Image.{place_of}
+use Rattle.cil_text.specs.Expr.{exprs_of}
 use Rattle.cil_text.specs.Form.{form_of, at_of}
+use Rattle.cil_text.specs.declared.statement.Expr.{Expr}
 use Rattle.cil_text.specs.declared.statement.Statement.{Statement}
 use Rattle.cil_parse.specs.Lexicon.{texts_in, IsLexicon}
-use Rattle.cil_parse.specs.Forms.{expr_nodes, kind_of, words_in, nodes_in}
+use Rattle.cil_parse.specs.Forms.{expr_nodes, kind_of, names_then, nodes_in, permission_nodes, words_in}
 use Rattle.cil_parse.specs.Flat.{FlatStatement, flat}
 use Rattle.cil_parse.specs.declared.builder.Builder.{Builder}
 use Rattle.cil_parse.specs.declared.row.NumberedWord.{NumberedWord}
@@ -22,7 +24,7 @@ use Rattle.cil_parse.specs.declared.row.StatementKind.{StatementKind}
 abbrev pub read : List (List ℕ) → NumberedWord → Option Word
 read texts word = option_map (λ text. record { at = place_of word.at; text = text }) (slice_get texts word.text)
 
--- a statement but for its words and its set expression
+-- a statement but for its words and its expression
 abbrev pub RowView : Type 0
 RowView = Place × StatementKind × ℕ × ℕ
 
@@ -45,9 +47,20 @@ pub record IsAt {A : Type 0} (b : Builder A) (list : List FlatStatement) (words 
 pub record Adds {A : Type 0} (old new : Builder A) (words : List Word) (nodes : List SetNode) : Type 0 where
   pub goes : (list : List FlatStatement) (before : List Word) (in_front : List SetNode) → IsAt old list before in_front → IsAt new list (before ++ words) (in_front ++ nodes)
 
--- those of a set expression
+-- those of an expression
 abbrev pub AddsExpr : {A : Type 0} → Builder A → Builder A → WordExpr → Type 0
 AddsExpr old new expr = Adds old new (leaves expr) (expr_nodes expr)
+
+-- those of an expression of permissions
+abbrev pub AddsPermissions : {A : Type 0} → Builder A → Builder A → WordExpr → Type 0
+AddsPermissions old new expr = Adds old new (leaves expr) (permission_nodes expr)
+
+-- the words of so many elements in front came, each of which is a name
+pub record AddsNamesInFront {A : Type 0} (old new : Builder A) (all : List (Expr A)) (count : ℕ) : Type 0 where
+  pub names : List Word
+  pub adds : Adds old new names []
+  pub long : length names ≡ count
+  pub in_front : exprs_of all ≡ names_then names (exprs_of (drop count all))
 
 -- those of a statement
 abbrev pub AddsForm : {A : Type 0} → Builder A → Builder A → Form → Type 0

@@ -1,7 +1,7 @@
 -- The names from elsewhere that this crate's contracts cite most, passed on from one place.
-pub use Rattle.cil_parse.specs.Builder.{Adds, AddsExpr, AddsForm, Closes, IsAt, Places, Puts, read, top}
+pub use Rattle.cil_parse.specs.Builder.{Adds, AddsExpr, AddsForm, AddsNamesInFront, AddsPermissions, Closes, IsAt, Places, Puts, read, top}
 pub use Rattle.cil_parse.specs.Flat.{FlatStatement, flat}
-pub use Rattle.cil_parse.specs.Forms.{expr_nodes, kind_of, permissions_in}
+pub use Rattle.cil_parse.specs.Forms.{expr_nodes, is_plain, kind_of, name_nodes, permission_nodes, permissions_in}
 pub use Rattle.cil_parse.specs.Lexicon.{AddsNames, AreNumbersOf, IsLexicon, SplitsText, seen, texts_in}
 pub use Rattle.cil_parse.specs.PermissionLists.{AreListed, permission_texts, permission_words}
 pub use Rattle.cil_specs.specs.Lookup.{declared_in, references, with_name}

@@ -1,5 +1,5 @@
--- What a statement says, by its kind, its words and the nodes of its set expression.
-use Rattle.std.specs.Prelude.{List, [], ◌∷◌, ◌++◌}
+-- What a statement says, by its kind, its words and the nodes of its expression.
+use Rattle.std.specs.Prelude.{ℕ, zero, suc, Bool, true, false, List, [], ◌∷◌, ◌++◌, if◌then◌else◌}
 use Rattle.cil_specs.specs.Names.{Word}
 use Rattle.cil_specs.specs.Expr as exprs
 use Rattle.cil_specs.specs.Expr.{every, named, opposite, both, either, one_of, nothing, elements, leaves}
@@ -22,6 +22,16 @@ expr_nodes (either x y) = nodes.Or ∷ (expr_nodes x ++ expr_nodes y)
 expr_nodes (one_of x y) = nodes.Xor ∷ (expr_nodes x ++ expr_nodes y)
 expr_nodes nothing = nodes.Nothing ∷ []
 expr_nodes (elements x more) = nodes.Element ∷ (expr_nodes x ++ expr_nodes more)
+
+-- the nodes of so many elements that are names
+abbrev pub name_nodes : ℕ → List SetNode
+name_nodes zero = []
+name_nodes (suc count) = nodes.Element ∷ nodes.Name ∷ name_nodes count
+
+-- the list of these names, and behind them the elements of another
+abbrev pub names_then : List Word → exprs.WordExpr → exprs.WordExpr
+names_then [] more = more
+names_then (name ∷ names) more = elements (named name) (names_then names more)
 
 abbrev pub rule_kind : spec.RuleKind → code.RuleKind
 rule_kind allow = Allow
@@ -57,15 +67,26 @@ words_in (common id permissions) = id ∷ permissions
 words_in (class id permissions) = id ∷ permissions
 words_in (class_common the_class the_common) = the_class ∷ the_common ∷ []
 words_in (class_order classes) = classes
-words_in (rule kind source target the_class permissions) = source ∷ (target_words target ++ the_class ∷ permissions)
+words_in (rule kind source target the_class permissions) = source ∷ (target_words target ++ the_class ∷ leaves permissions)
+
+-- whether an expression is a plain list of names: none of its elements is an expression of another sort
+abbrev pub is_plain : {leaf : Type 0} → exprs.Expr leaf → Bool
+is_plain nothing = true
+is_plain (elements (named word) more) = is_plain more
+is_plain _ = false
+
+-- The nodes of an expression of permissions. A plain list, as nearly every rule has one, has none: its words tell it.
+abbrev pub permission_nodes : exprs.WordExpr → List SetNode
+permission_nodes expr = if is_plain expr then [] else expr_nodes expr
 
 abbrev pub nodes_in : Form → List SetNode
 nodes_in (attribute_set attribute expr) = expr_nodes expr
+nodes_in (rule kind source target the_class permissions) = permission_nodes permissions
 nodes_in _ = []
 
--- the permissions that a statement lists
+-- the permissions that a statement names
 abbrev pub permissions_in : Form → List Word
 permissions_in (common id permissions) = permissions
 permissions_in (class id permissions) = permissions
-permissions_in (rule kind source target the_class permissions) = permissions
+permissions_in (rule kind source target the_class permissions) = leaves permissions
 permissions_in _ = []

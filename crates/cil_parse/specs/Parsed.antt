@@ -25,7 +25,7 @@ abbrev pub statement_count : {A : Type 0} → ParsedModule A → ℕ
 statement_count p = length p.rows.items
 
 -- The module has these statements and no other: one behind the other with their places, kinds and numbers, each with its words and the
--- nodes of its set expression.
+-- nodes of its expression.
 pub record Spells {A : Type 0} (p : ParsedModule A) (statements : Statements) : Type 0 where
   pub rows : map row_of p.rows.items ≡ map row_for (flat 0 0 0 statements)
   pub words : map (map (read (texts_of p))) p.words.0 ≡ map (λ f. map Some (words_in f.form)) (flat 0 0 0 statements)

@@ -1,4 +1,4 @@
--- The lists of permissions of a module's statements.
+-- The lists of permissions that a module's statements name.
 use Rattle.std.specs.Prelude.{ℕ, List, [], ◌∷◌, map, drop}
 use Rattle.cil_parse.specs.Lexicon.{AreNumbersOf}
 use Rattle.cil_parse.specs.declared.permission_lists.PermissionLists.{PermissionLists}

@@ -1,8 +1,8 @@
 //! Going over the statements of a module.
 
-ghost use Rattle.std.specs.Prelude.{◌≡◌, ◌∷◌, ◌++◌, [], List, map, false, IsTrue, IfOk, IfErr, OnOk};
-ghost use Rattle.cil_parse.specs.Common.{target_words, rule, IsFirstShapeFault, place_of, word_of, target_of, rule_kind_of, expr_of, statements_of, trees_of, FaultIs, forest_of, expr_nodes, kind_of, IsAt, Adds, AddsExpr, AddsForm, Closes, Puts, Places, top};
-ghost use Rattle.cil_specs.specs.Expr.{leaves};
+ghost use Rattle.std.specs.Prelude.{◌≡◌, ◌<◌, ◌≤◌, ◌∷◌, ◌++◌, [], length, map, false, IsTrue, IfOk, IfErr, OnOk};
+ghost use Rattle.cil_parse.specs.Common.{target_words, rule, IsFirstShapeFault, place_of, word_of, target_of, rule_kind_of, expr_of, statements_of, trees_of, FaultIs, forest_of, expr_nodes, kind_of, IsAt, Adds, AddsExpr, AddsNamesInFront, AddsPermissions, AddsForm, Closes, Puts, Places, top, is_plain, name_nodes, permission_nodes};
+ghost use Rattle.cil_specs.specs.Expr.{WordExpr, leaves};
 ghost use Rattle.cil_specs.specs.Names.{Word as SpecWord};
 ghost use Rattle.cil_specs.specs.Trees.{are_lists};
 ghost use Rattle.cil_text.specs.Form.{form_of, at_of};
@@ -19,7 +19,7 @@ use cil_text::{
 };
 use std::alloc::{AllocError, Allocator, Global};
 
-/// What was gone over so far: the words, for each statement its words and the nodes of its set expression, and the statements.
+/// What was gone over so far: the words, for each statement its words and the nodes of its expression, and the statements.
 #[derive(Drop)]
 pub struct Builder<'a, A: Allocator = Global> {
     pub lexicon: Lexicon<'a, A>,
@@ -50,7 +50,7 @@ impl<'a, A: Allocator + Copy> Builder<'a, A> {
         Ok(())
     }
 
-    /// A node of its set expression.
+    /// A node of its expression.
     fn node(&mut self, node: SetNode) -> Result<(), AllocError>
         ensures { OnOk result (Adds self.old self.new [] (node ∷ [])) }
     {
@@ -75,7 +75,7 @@ impl<'a, A: Allocator + Copy> Builder<'a, A> {
         Ok(())
     }
 
-    /// The words and the nodes of a set expression.
+    /// The words and the nodes of an expression.
     #[cycle(set)]
     fn expr(&mut self, expr: &Expr<'a, A>) -> Result<(), AllocError>
         ensures { OnOk result (AddsExpr self.old self.new (expr_of expr.now)) }
@@ -146,6 +146,54 @@ impl<'a, A: Allocator + Copy> Builder<'a, A> {
         }
     }
 
+    /// The words of the names in front of the first element that is none, and how many they are.
+    fn names_in_front(&mut self, elements: &[Expr<'a, A>]) -> Result<usize, AllocError>
+        ensures names { IfOk result (AddsNamesInFront self.old self.new elements.now) }
+        ensures within { IfOk result (λ count. count ≤ length elements.now) }
+        ensures stops { IfOk result (λ count. count < length elements.now → is_plain (exprs_of elements.now) ≡ false) }
+    {
+        for (i, element) in elements.iter().enumerate() {
+            match element {
+                Expr::Name(word) => self.word(*word)?,
+                _ => return Ok(i),
+            }
+        }
+        Ok(elements.len())
+    }
+
+    /// The nodes of so many elements that are names.
+    fn nodes_of_names(&mut self, count: usize) -> Result<(), AllocError>
+        ensures { OnOk result (Adds self.old self.new [] (name_nodes count)) }
+    {
+        for _i in 0..count {
+            self.node(SetNode::Element)?;
+            self.node(SetNode::Name)?;
+        }
+        Ok(())
+    }
+
+    /// The words of a list of permissions, in one pass, and its nodes too where not each element is a name.
+    fn permission_list(&mut self, elements: &[Expr<'a, A>]) -> Result<(), AllocError>
+        ensures { OnOk result (AddsPermissions self.old self.new (exprs_of elements.now)) }
+    {
+        let names = self.names_in_front(elements)?;
+        if names < elements.len() {
+            self.nodes_of_names(names)?;
+            self.elements(&elements[names..])?;
+        }
+        Ok(())
+    }
+
+    /// The words of an expression of permissions, and its nodes where it is no plain list of names.
+    fn permissions(&mut self, expr: &Expr<'a, A>) -> Result<(), AllocError>
+        ensures { OnOk result (AddsPermissions self.old self.new (expr_of expr.now)) }
+    {
+        match expr {
+            Expr::Union(elements) => self.permission_list(elements),
+            _ => self.expr(expr),
+        }
+    }
+
     /// A word and those of a list.
     fn listed(&mut self, id: Word<'a>, words: &[Word<'a>]) -> Result<(), AllocError>
         ensures { OnOk result (Adds self.old self.new (word_of id.entry ∷ map word_of words.now) []) }
@@ -160,14 +208,16 @@ impl<'a, A: Allocator + Copy> Builder<'a, A> {
         source: Word<'a>,
         target: Target<'a>,
         class: Word<'a>,
-        permissions: &[Word<'a>],
+        permissions: &Expr<'a, A>,
     ) -> Result<(), AllocError>
         ensures { OnOk result (Adds self.old self.new
-            (word_of source.entry ∷ (target_words (target_of target.entry) ++ word_of class.entry ∷ map word_of permissions.now)) []) }
+            (word_of source.entry ∷ (target_words (target_of target.entry) ++ word_of class.entry ∷ leaves (expr_of permissions.now)))
+            (permission_nodes (expr_of permissions.now))) }
     {
         self.word(source)?;
         self.target(target)?;
-        self.listed(class, permissions)?;
+        self.word(class)?;
+        self.permissions(permissions)?;
         Ok(())
     }
 
@@ -320,7 +370,7 @@ fn at<A: Allocator>(statement: &Statement<A>) -> Place
 
 /// The kind of a rule with this target.
 fn rule_kind(kind: RuleKind, target: &Target) -> StatementKind
-    ensures { (source the_class : SpecWord) (permissions : List SpecWord) → result ≡ kind_of (rule (rule_kind_of kind) source (target_of target.now) the_class permissions) }
+    ensures { (source the_class : SpecWord) (permissions : WordExpr) → result ≡ kind_of (rule (rule_kind_of kind) source (target_of target.now) the_class permissions) }
 {
     match target {
         Target::Itself => StatementKind::RuleToSelf(kind),

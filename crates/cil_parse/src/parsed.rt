@@ -90,7 +90,7 @@ impl<A: Allocator + Copy> ParsedModule<A> {
     }
 }
 
-/// The texts and the names of a builder, which it borrows from the text, copied; and the distinct lists of permissions of its statements.
+/// The texts and the names of a builder, which it borrows from the text, copied; and the distinct lists of permissions that its statements name.
 #[derive(Drop)]
 struct Copies<A: Allocator = Global> {
     texts: Lists<u8, A>,
@@ -150,8 +150,8 @@ impl<A: Allocator> ParsedModule<A> {
         self.rows[i].kind
     }
 
-    /// The number of the permissions that the statement of an index lists. Those of another statement have the same number only if they
-    /// are the same texts in the same order.
+    /// The number of the permissions that the statement of an index names. Those of another statement have the same number only if they
+    /// are the same texts in the same order, whatever expressions they stand in.
     pub fn permission_list(&self, i: usize) -> usize
         requires { i < statement_count self.now }
         ensures within { result < length (permission_lists_of self.now) }
@@ -160,7 +160,7 @@ impl<A: Allocator> ParsedModule<A> {
         self.permission_lists.numbers[i] as usize
     }
 
-    /// How many distinct lists of permissions its statements have.
+    /// How many distinct lists of permissions its statements name.
     pub fn permission_list_count(&self) -> usize
         ensures { result ≡ length (permission_lists_of self.now) }
     {

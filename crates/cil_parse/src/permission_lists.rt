@@ -1,4 +1,4 @@
-//! The distinct lists of permissions of a module's statements.
+//! The distinct lists of permissions that a module's statements name.
 
 ghost use Rattle.std.specs.Prelude.{◌≡◌, ◌++◌, [], length, map, drop, IfOk, OnOk};
 ghost use Rattle.cil_parse.specs.Common.{seen, AreNumbersOf, permission_words, permission_texts, AreListed};
@@ -10,7 +10,7 @@ use cil_names::{Seed, in_32_bits};
 use indexmap::IndexSet;
 use std::alloc::{AllocError, Allocator, Global};
 
-/// For each statement the number of the permissions that it lists, and the distinct lists by the numbers of their texts.
+/// For each statement the number of the permissions that it names, and the distinct lists by the numbers of their texts.
 #[derive(Drop)]
 pub struct PermissionLists<A: Allocator = Global> {
     pub numbers: Vec<u32, A>,

@@ -9,7 +9,7 @@ pub struct NumberedWord {
     pub text: u32,
 }
 
-/// What a statement is. Together with its words and the nodes of its set expression this is all that it says.
+/// What a statement is. Together with its words and the nodes of its expression this is all that it says.
 #[derive(Clone, Copy, Debug, PartialEq, Eq)]
 pub enum StatementKind {
     Block,
@@ -29,7 +29,7 @@ pub enum StatementKind {
     RuleToSelf(RuleKind),
 }
 
-/// A node of a set expression, in front of those of its operands. A list of elements is its first element and the others, or nothing.
+/// A node of an expression of types or of permissions, in front of those of its operands. A list of elements is its first element and the others, or nothing.
 #[derive(Clone, Copy, Debug, PartialEq, Eq)]
 pub enum SetNode {
     All,
@@ -53,7 +53,7 @@ pub struct Around {
     pub optional: u32,
 }
 
-/// A statement but for its words and its set expression.
+/// A statement but for its words and its expression.
 #[derive(Clone, Copy)]
 pub struct Row {
     pub at: Place,

@@ -13,7 +13,7 @@ use crate::table::Table;
 use cil_text::Place;
 
 /// A statement of a parsed module: its place, its kind, the numbers of the innermost block and of the innermost optional around it, its
-/// words, and the nodes of its set expression. The number of a statement is its index and 1 more; 0 stands for none.
+/// words, and the nodes of its expression. The number of a statement is its index and 1 more; 0 stands for none.
 #[derive(Clone, Copy)]
 pub struct StatementView<'p> {
     pub at: Place,
@@ -80,7 +80,7 @@ impl<'p> StatementView<'p> {
         Some((table, *word))
     }
 
-    /// The permissions that the statement lists.
+    /// The permissions that the statement names, in the order of the text.
     pub fn permissions(&self) -> &'p [NumberedWord]
         ensures { (texts : List (List ℕ)) (f : FlatStatement) → IsShown texts self.now f → map (read texts) result.now ≡ map Some (permissions_in f.form) }
     {

@@ -1,22 +1,54 @@
 //! Counters moved from what a rule gave to what it gives.
 
-ghost use Rattle.std.specs.Prelude.{◌≡◌, ◌+◌, ◌≤◌, ◌^◌, ◌∷◌, [], ℕ, false};
-ghost use Rattle.cil_keyed_lines.specs.Keyed.{count_now};
-ghost use Rattle.cil_rule_shifts.specs.Reach.{gives, is_present, one_if, AreShort, IsShort};
+ghost use Rattle.std.specs.Prelude.{◌≡◌, ◌≤◌, ◌^◌, ℕ, false};
+ghost use Rattle.cil_rule_shifts.specs.Permits.{AreInOrder};
+ghost use Rattle.cil_rule_shifts.specs.Reach.{is_present, AreShort, IsShort};
 
 use cil_keyed_lines::{KeyedLines, SymbolKey};
 use cil_lines::Line;
-use cil_rule_shifts::{Reach, RuleHead, Targets, put_rule, shift_rule};
+use cil_rule_shifts::{Grant, Permit, Reach, Targets, put_rule, shift_rule};
 use cil_text::RuleKind;
 use std::alloc::Global;
 use std::process::Abort;
 
-// The kind, the class and the permissions of all rules here.
-const HEAD: RuleHead<'static> = RuleHead {
-    kind: RuleKind::DontAudit,
-    class: 7,
-    permissions: &[3, 5],
-};
+// The kind of all rules here.
+const KIND: RuleKind = RuleKind::DontAudit;
+
+// What the rules here permit.
+fn permits() -> &'static [Permit]
+    ensures { AreInOrder result.now }
+{
+    &[
+        Permit {
+            class: 7,
+            permission: 3,
+        },
+        Permit {
+            class: 7,
+            permission: 5,
+        },
+    ]
+}
+
+// What one permits in their place.
+fn other_permits() -> &'static [Permit]
+    ensures { AreInOrder result.now }
+{
+    &[
+        Permit {
+            class: 7,
+            permission: 5,
+        },
+        Permit {
+            class: 9,
+            permission: 3,
+        },
+        Permit {
+            class: 9,
+            permission: 8,
+        },
+    ]
+}
 
 // A line with a counter above 0 for each of some symbols.
 fn line_of(rt: &impl Abort, alloc: Global, symbols: &[u32]) -> Line
@@ -215,14 +247,31 @@ const NO_RULE: Rule<'static> = (&[], None);
 // The lines in which two rules are kept and a third one came in the place of the second, and how many counters that moved.
 fn shifted(rt: &impl Abort, alloc: Global, shift: &Shift<'_>) -> (KeyedLines, u128) {
     let first = reach(rt, alloc, &shift.0);
-    let was = reach(rt, alloc, &shift.1);
-    let is = reach(rt, alloc, &shift.2);
-    let none = Reach::none(alloc);
+    let second = reach(rt, alloc, &shift.1);
+    let third = reach(rt, alloc, &shift.2);
+    let nothing = Reach::none(alloc);
+    let permits = permits();
+    let none = Grant {
+        reach: &nothing,
+        permits,
+    };
+    let kept = Grant {
+        reach: &first,
+        permits,
+    };
+    let was = Grant {
+        reach: &second,
+        permits,
+    };
+    let is = Grant {
+        reach: &third,
+        permits,
+    };
     let mut lines = KeyedLines::new(alloc);
-    shift_rule(&mut lines, alloc, HEAD, &none, &first).expect(rt, "memory");
-    shift_rule(&mut lines, alloc, HEAD, &none, &was).expect(rt, "memory");
+    shift_rule(&mut lines, alloc, KIND, none, kept).expect(rt, "memory");
+    shift_rule(&mut lines, alloc, KIND, none, was).expect(rt, "memory");
     lines.settle();
-    let moved = shift_rule(&mut lines, alloc, HEAD, &was, &is).expect(rt, "memory");
+    let moved = shift_rule(&mut lines, alloc, KIND, was, is).expect(rt, "memory");
     (lines, moved)
 }
 
@@ -250,9 +299,17 @@ fn given(rule: &Rule<'_>) -> usize {
 fn is_put(rt: &impl Abort, alloc: Global, case: &Shift<'_>) -> bool {
     let first = reach(rt, alloc, &case.0);
     let second = reach(rt, alloc, &case.1);
+    let one = Grant {
+        reach: &first,
+        permits: permits(),
+    };
+    let other = Grant {
+        reach: &second,
+        permits: permits(),
+    };
     let mut lines = KeyedLines::new(alloc);
-    let one = put_rule(&mut lines, alloc, HEAD, &first).expect(rt, "memory");
-    let other = put_rule(&mut lines, alloc, HEAD, &second).expect(rt, "memory");
+    let one = put_rule(&mut lines, alloc, KIND, one).expect(rt, "memory");
+    let other = put_rule(&mut lines, alloc, KIND, other).expect(rt, "memory");
     let want = given(&case.0).saturating_add(given(&case.1));
     (one.saturating_add(other) == want as u128)
         & !lines.is_pending()
@@ -265,4 +322,68 @@ fn rules_in_the_place_of_others(rt: HostRuntime) {
         let same = is_shifted(&rt, rt.alloc(), case) && is_put(&rt, rt.alloc(), case);
         assert!(rt; same, "case {n}");
     }
+}
+
+// A class, a permission, a source and a target, and how many rules give the access before a rule permits others, and behind it.
+type Permitted = (usize, usize, usize, usize, u64, u64);
+
+// A rule had sources 2 and 3 and targets 10 and 200, and has sources 3 and 128 and targets 10 and 201.
+const PERMITTED: &[Permitted] = &[
+    (7, 3, 2, 10, 1, 0),
+    (7, 3, 3, 10, 1, 0),
+    (7, 5, 2, 200, 1, 0),
+    (7, 5, 3, 10, 1, 1),
+    (7, 5, 3, 200, 1, 0),
+    (7, 5, 3, 201, 0, 1),
+    (7, 5, 128, 10, 0, 1),
+    (9, 3, 3, 201, 0, 1),
+    (9, 8, 128, 10, 0, 1),
+    (9, 8, 2, 10, 0, 0),
+    (9, 5, 3, 10, 0, 0),
+];
+
+fn are_permitted(lines: &KeyedLines, behind: bool) -> bool {
+    for (class, permission, source, target, before, after) in PERMITTED {
+        let key = SymbolKey {
+            kind: KIND,
+            source: *source,
+            class: *class,
+            permission: *permission,
+        };
+        let want = if behind { *after } else { *before };
+        if lines.count(key, *target) != want {
+            return false;
+        }
+    }
+    true
+}
+
+#[test]
+fn a_rule_that_permits_others(rt: HostRuntime) {
+    let alloc = rt.alloc();
+    let second = reach(&rt, alloc, &(&[2, 3], Some(&[10, 200])));
+    let third = reach(&rt, alloc, &(&[3, 128], Some(&[10, 201])));
+    let nothing = Reach::none(alloc);
+    let none = Grant {
+        reach: &nothing,
+        permits: permits(),
+    };
+    let was = Grant {
+        reach: &second,
+        permits: none.permits,
+    };
+    let is = Grant {
+        reach: &third,
+        permits: other_permits(),
+    };
+    let mut lines = KeyedLines::new(alloc);
+    shift_rule(&mut lines, alloc, KIND, none, was).expect(&rt, "memory");
+    lines.settle();
+    let moved = shift_rule(&mut lines, alloc, KIND, was, is).expect(&rt, "memory");
+    let is_behind = are_permitted(&lines, true);
+    lines.undo();
+    let is_before = are_permitted(&lines, false);
+    // Permission 3 of class 7 goes with four accesses, permission 5 moves six, and those of class 9 come with four each.
+    assert_eq!(&rt; moved, 18);
+    assert!(&rt; is_behind && is_before);
 }

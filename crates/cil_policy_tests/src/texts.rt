@@ -120,21 +120,33 @@ fn names<'a>(statement: &Statement<'a>) -> [Name<'a>; 3] {
     }
 }
 
-// The words of a statement's list.
-fn listed<'s, 'a>(statement: &'s Statement<'a>) -> &'s [Word<'a>] {
-    match statement {
-        Statement::Common { permissions, .. }
-        | Statement::Class { permissions, .. }
-        | Statement::Rule { permissions, .. } => permissions.as_slice(),
-        Statement::ClassOrder { classes, .. } => classes.as_slice(),
-        _ => &[],
-    }
-}
-
 fn name_at<'a>(words: &[Word<'a>], i: usize) -> Name<'a> {
     match words.get(i) {
         Some(word) => seen(word),
         None => NONE,
+    }
+}
+
+// The name at an index of a plain list of permissions.
+fn element_at<'a>(permissions: &Expr<'a>, i: usize) -> Name<'a> {
+    let Expr::Union(elements) = permissions else {
+        return NONE;
+    };
+    match elements.get(i) {
+        Some(Expr::Name(word)) => seen(word),
+        _ => NONE,
+    }
+}
+
+// The name at an index of a statement's list.
+fn listed_at<'a>(statement: &Statement<'a>, i: usize) -> Name<'a> {
+    match statement {
+        Statement::Common { permissions, .. } | Statement::Class { permissions, .. } => {
+            name_at(permissions.as_slice(), i)
+        }
+        Statement::Rule { permissions, .. } => element_at(permissions, i),
+        Statement::ClassOrder { classes, .. } => name_at(classes.as_slice(), i),
+        _ => NONE,
     }
 }
 
@@ -144,10 +156,12 @@ type Said<'a> = (&'static str, &'a [Name<'a>], &'a [Name<'a>]);
 // Whether a statement is such.
 fn is_said(statement: &Statement<'_>, said: &Said<'_>) -> bool {
     let (word, own, list) = *said;
-    let (names, words) = (names(statement), listed(statement));
+    let names = names(statement);
     for i in 0..3usize {
         let wanted = (own.get(i).copied(), list.get(i).copied());
-        if names[i] != wanted.0.unwrap_or(NONE) || name_at(words, i) != wanted.1.unwrap_or(NONE) {
+        if names[i] != wanted.0.unwrap_or(NONE)
+            || listed_at(statement, i) != wanted.1.unwrap_or(NONE)
+        {
             return false;
         }
     }

@@ -7,14 +7,17 @@ use Rattle.std.proofs.lemmas.Bool.{and_parts}
 use Rattle.std.proofs.lemmas.List.Folds.{list_all-append}
 use Rattle.cil_specs.specs.Trees.{Trees, none, a_word, a_string, a_list}
 use Rattle.cil_specs.specs.Shape.{is_among}
+use Rattle.cil_specs.specs.Expr as exprs
 use Rattle.cil_specs.proofs.Runs.{both_true}
 use Rattle.cil_projection.specs.declared.table.Table.{Table}
 use Rattle.cil_projection.specs.declared.table.Table.TheVariants.{Types, Booleans, Categories, Sensitivities}
+use Rattle.cil_projection.specs.declared.operand.Operand.{Operand}
+use Rattle.cil_projection.specs.declared.operand.Operand.TheVariants as operands
 use Rattle.cil_projection.specs.declared.part.Part.{Part}
 use Rattle.cil_projection.specs.declared.part.Part.TheVariants as parts
 use Rattle.cil_projection.specs.declared.part.Part.TheVariants.{Declared, Name, Target, Expression, Names, Truth, Ignored, Classes, ClassPermissions, Context, PerhapsContext, Range, Level, Address, ExtendedPermission, Constraint}
 use Rattle.cil_projection.specs.Pieces.{Piece, copied, blanked, taken, declared, needed, a_class, opened, permission, closed}
-use Rattle.cil_projection.specs.Forms.{class_permissions, classes_in, compared, compared_list, comparison, comparisons, connectives, constraint, constraints, expression_names, fit, has_no_string, inner_parts, joined, level, level_compared, level_variables, listed, listed_names, name_or_operator, names_in, of_list, of_string, of_word, operation, operators, or_else, permissions_in, truth_word, unless_variable, variable}
+use Rattle.cil_projection.specs.Forms.{class_permissions, classes_in, compared, compared_list, comparison, comparisons, connectives, constraint, constraints, expression_names, expression_needs, fit, has_no_string, inner_parts, joined, level, level_compared, level_variables, listed, listed_names, name_or_operator, names_in, of_list, of_operand, of_string, of_word, operands_in, operation, operators, or_else, permissions_in, truth_word, unless_variable, variable}
 use Rattle.cil_projection.specs.Conditions.{Settings}
 use Rattle.cil_projection.specs.Statements.{branch_needs, branches, branches_need, condition_names, is_taken, rule_needs, rules, rules_need, type_rule_needs, type_rules}
 use Rattle.cil_projection.proofs.WordLemmas.{words_are}
@@ -65,18 +68,26 @@ module _ (good : List ℕ → Bool) where
   pub plain_name : (table : Table) (word : List ℕ) → IsTrue (good word) → IsTrue (are_plain (name_or_operator table word))
   plain_name table word h = either_way are_plain (is_among operators word) [] (needed table word ∷ []) refl (plain_one (needed table word) h)
 
-  pub plain_names : (table : Table) (trees : Trees) → IsTrue (words_are good trees) → IsTrue (are_plain (names_in table trees))
-  plain_names table none h = refl
-  plain_names table (a_word at word rest) h =
-      let p = and_parts (good word) (words_are good rest) h in
-      plain_append (name_or_operator table word) (names_in table rest) (plain_name table word p.0) (plain_names table rest p.1)
-  plain_names table (a_string at text rest) h = plain_names table rest h
-  plain_names table (a_list at end items rest) h =
-      let p = and_parts (words_are good items) (words_are good rest) h in
-      plain_append (names_in table items) (names_in table rest) (plain_names table items p.0) (plain_names table rest p.1)
+  plain_operand : (operand : Operand) (word : List ℕ) → IsTrue (good word) → IsTrue (are_plain (of_operand operand word))
+  plain_operand (operands.Name table) word h = plain_name table word h
+  plain_operand operands.Permission word h =
+      either_way are_plain (is_among exprs.operators word) [] (permission word ∷ []) refl (plain_one (permission word) h)
 
-  plain_expression : (table : Table) (trees : Trees) → IsTrue (words_are good trees) → IsTrue (are_found_plain (expression_names table trees))
-  plain_expression table trees h = either_way are_found_plain (has_no_string trees) (Some (names_in table trees)) None (plain_names table trees h) refl
+  plain_operands : (operand : Operand) (trees : Trees) → IsTrue (words_are good trees) → IsTrue (are_plain (operands_in operand trees))
+  plain_operands operand none h = refl
+  plain_operands operand (a_word at word rest) h =
+      let p = and_parts (good word) (words_are good rest) h in
+      plain_append (of_operand operand word) (operands_in operand rest) (plain_operand operand word p.0) (plain_operands operand rest p.1)
+  plain_operands operand (a_string at text rest) h = plain_operands operand rest h
+  plain_operands operand (a_list at end items rest) h =
+      let p = and_parts (words_are good items) (words_are good rest) h in
+      plain_append (operands_in operand items) (operands_in operand rest) (plain_operands operand items p.0) (plain_operands operand rest p.1)
+
+  pub plain_names : (table : Table) (trees : Trees) → IsTrue (words_are good trees) → IsTrue (are_plain (names_in table trees))
+  plain_names table trees h = plain_operands (operands.Name table) trees h
+
+  plain_expression : (operand : Operand) (trees : Trees) → IsTrue (words_are good trees) → IsTrue (are_found_plain (expression_needs operand trees))
+  plain_expression operand trees h = either_way are_found_plain (has_no_string trees) (Some (operands_in operand trees)) None (plain_operands operand trees h) refl
 
   plain_list : (table : Table) (trees : Trees) → IsTrue (words_are good trees) → IsTrue (are_found_plain (listed_names table trees))
   plain_list table none h = refl
@@ -94,19 +105,10 @@ module _ (good : List ℕ → Bool) where
   plain_classes (a_string at text rest) h = refl
   plain_classes (a_list at end items rest) h = refl
 
-  plain_permissions : (trees : Trees) → IsTrue (words_are good trees) → IsTrue (are_found_plain (permissions_in trees))
-  plain_permissions none h = refl
-  plain_permissions (a_word at name rest) h =
-      let p = and_parts (good name) (words_are good rest) h in
-      plain_joined (cond (is_among operators name) None (Some (permission name ∷ []))) (permissions_in rest)
-      (either_way are_found_plain (is_among operators name) None (Some (permission name ∷ [])) refl (plain_one (permission name) p.0)) (plain_permissions rest p.1)
-  plain_permissions (a_string at text rest) h = refl
-  plain_permissions (a_list at end items rest) h = refl
-
   plain_listed : (name : List ℕ) (items : Trees) → IsTrue (good name) → IsTrue (words_are good items) → IsTrue (are_found_plain (listed name items))
   plain_listed name items h k =
       plain_joined (joined (Some (opened name ∷ [])) (permissions_in items)) (Some (closed ∷ []))
-      (plain_joined (Some (opened name ∷ [])) (permissions_in items) (plain_one (opened name) h) (plain_permissions items k)) refl
+      (plain_joined (Some (opened name ∷ [])) (permissions_in items) (plain_one (opened name) h) (plain_expression operands.Permission items k)) refl
 
   plain_class_permissions : (trees : Trees) → IsTrue (words_are good trees) → IsTrue (are_found_plain (class_permissions trees))
   plain_class_permissions (a_word at name (a_list from end items none)) h =
@@ -117,7 +119,7 @@ module _ (good : List ℕ → Bool) where
   plain_level : (trees : Trees) → IsTrue (words_are good trees) → IsTrue (are_found_plain (level trees))
   plain_level (a_word at name rest) h =
       let p = and_parts (good name) (words_are good rest) h in
-      plain_joined (Some (needed Sensitivities name ∷ [])) (expression_names Categories rest) (plain_one (needed Sensitivities name) p.0) (plain_expression Categories rest p.1)
+      plain_joined (Some (needed Sensitivities name ∷ [])) (expression_names Categories rest) (plain_one (needed Sensitivities name) p.0) (plain_expression (operands.Name Categories) rest p.1)
   plain_level trees h = refl
 
   plain_unless : (found : Option Table) (piece : Piece) → IsTrue (is_plain piece) → IsTrue (are_plain (unless_variable found piece))
@@ -179,7 +181,7 @@ module _ (good : List ℕ → Bool) where
   plain_of_word part word h = both_true (good word) true h refl
 
   plain_of_list : (part : Part) (items : Trees) (inner : Option (List Piece)) → IsTrue (words_are good items) → IsTrue (are_found_plain inner) → IsTrue (are_found_plain (of_list part items inner))
-  plain_of_list (Expression table) items inner h k = plain_expression table items h
+  plain_of_list (Expression table) items inner h k = plain_expression (operands.Name table) items h
   plain_of_list (Names table) items inner h k = plain_list table items h
   plain_of_list Classes items inner h k = plain_classes items h
   plain_of_list ClassPermissions items inner h k = plain_class_permissions items h

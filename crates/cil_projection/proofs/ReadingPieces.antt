@@ -3,13 +3,16 @@ use Rattle.std.specs.Prelude.{ℕ, ◌++◌, Bool, true, false, cond, List, [], 
 use Rattle.std.specs.Option.{option_map_or}
 use Rattle.cil_specs.specs.Trees.{Trees, none, a_word, a_string, a_list}
 use Rattle.cil_specs.specs.Shape.{is_among}
+use Rattle.cil_specs.specs.Expr as exprs
 use Rattle.cil_projection.specs.declared.table.Table.{Table}
 use Rattle.cil_projection.specs.declared.table.Table.TheVariants.{Types, Booleans, Categories, Sensitivities}
+use Rattle.cil_projection.specs.declared.operand.Operand.{Operand}
+use Rattle.cil_projection.specs.declared.operand.Operand.TheVariants as operands
 use Rattle.cil_projection.specs.declared.part.Part.{Part}
 use Rattle.cil_projection.specs.declared.part.Part.TheVariants as parts
 use Rattle.cil_projection.specs.declared.part.Part.TheVariants.{Declared, Name, Target, Expression, Names, Truth, Ignored, Classes, ClassPermissions, Context, PerhapsContext, Range, Level, Address, ExtendedPermission, Constraint}
 use Rattle.cil_projection.specs.Pieces.{Piece, copied, blanked, taken, declared, needed, a_class, opened, permission, closed}
-use Rattle.cil_projection.specs.Forms.{joined, or_else, operators, name_or_operator, names_in, has_no_string, expression_names, listed_names, truth_word, classes_in, permissions_in, class_permissions, level, connectives, comparisons, level_variables, variable, unless_variable, compared, compared_list, level_compared, comparison, operation, constraints, constraint, of_word, inner_parts, of_list, of_string, fit}
+use Rattle.cil_projection.specs.Forms.{joined, or_else, operators, name_or_operator, permission_or_operator, of_operand, operands_in, names_in, has_no_string, expression_names, listed_names, truth_word, classes_in, permissions_in, class_permissions, level, connectives, comparisons, level_variables, variable, unless_variable, compared, compared_list, level_compared, comparison, operation, constraints, constraint, of_word, inner_parts, of_list, of_string, fit}
 use Rattle.cil_projection.specs.Conditions.{Settings}
 use Rattle.cil_projection.specs.Statements.{rules, type_rules, branches, is_taken, type_rule_needs, rule_needs, rules_need, branch_needs, branches_need, condition_names}
 
@@ -37,6 +40,12 @@ AreGood Good (a_list at end items rest) = AreGood Good items × AreGood Good res
 abbrev pub MaybeMade : (List ℕ → Type 0) → Option (List Piece) → Type 0
 MaybeMade Good None = Unit {0}
 MaybeMade Good (Some pieces) = AreMade Good false pieces
+
+-- the pieces are permissions, and their names good
+abbrev pub ArePermissions : (List ℕ → Type 0) → List Piece → Type 0
+ArePermissions Good [] = Unit {0}
+ArePermissions Good (permission name ∷ pieces) = Good name × ArePermissions Good pieces
+ArePermissions Good pieces = ⊥
 
 -- permissions that are there, with the end behind them
 abbrev pub MaybeInside : (List ℕ → Type 0) → Option (List Piece) → Type 0
@@ -86,13 +95,18 @@ module _ (Good : List ℕ → Type 0) where
       by true = tt
       by false = (good, tt)
 
+  -- what holds of no pieces, of some behind others and of those of each good word holds of the operands in trees
+  operands_made : (P : List Piece → Type 0) (operand : Operand) → P [] → ((xs ys : List Piece) → P xs → P ys → P (xs ++ ys))
+      → ((word : List ℕ) → Good word → P (of_operand operand word)) → (trees : Trees) → AreGood Good trees → P (operands_in operand trees)
+  operands_made P operand empty behind one none good = empty
+  operands_made P operand empty behind one (a_word at word rest) good =
+      behind (of_operand operand word) (operands_in operand rest) (one word good.0) (operands_made P operand empty behind one rest good.1)
+  operands_made P operand empty behind one (a_string at text rest) good = operands_made P operand empty behind one rest good
+  operands_made P operand empty behind one (a_list at end items rest) good =
+      behind (operands_in operand items) (operands_in operand rest) (operands_made P operand empty behind one items good.0) (operands_made P operand empty behind one rest good.1)
+
   pub names_made : (table : Table) (trees : Trees) → AreGood Good trees → AreMade Good false (names_in table trees)
-  names_made table none good = tt
-  names_made table (a_word at word rest) good =
-      made_append false (name_or_operator table word) (names_in table rest) (name_made table word good.0) (names_made table rest good.1)
-  names_made table (a_string at text rest) good = names_made table rest good
-  names_made table (a_list at end items rest) good =
-      made_append false (names_in table items) (names_in table rest) (names_made table items good.0) (names_made table rest good.1)
+  names_made table trees good = operands_made (AreMade Good false) (operands.Name table) tt (made_append false) (name_made table) trees good
 
   expression_made : (table : Table) (trees : Trees) → AreGood Good trees → MaybeMade Good (expression_names table trees)
   expression_made table trees good = either_made (has_no_string trees) (Some (names_in table trees)) None (names_made table trees good) tt
@@ -110,17 +124,29 @@ module _ (Good : List ℕ → Type 0) where
   classes_made (a_string at text rest) good = tt
   classes_made (a_list at end items rest) good = tt
 
-  permission_inside : (word : List ℕ) (b : Bool) (x : Option (List Piece)) → Good word → MaybeInside Good x
-      → MaybeInside Good (joined (cond b None (Some (permission word ∷ []))) x)
-  permission_inside word true x good made = tt
-  permission_inside word false None good made = tt
-  permission_inside word false (Some xs) good made = (good, made)
+  permissions_append : (xs ys : List Piece) → ArePermissions Good xs → ArePermissions Good ys → ArePermissions Good (xs ++ ys)
+  permissions_append [] ys made more = more
+  permissions_append (permission name ∷ xs) ys made more = (made.0, permissions_append xs ys made.1 more)
+  permissions_append (_ ∷ xs) ys made more = absurd made
+
+  permissions_inside : (xs : List Piece) → ArePermissions Good xs → AreMade Good true (xs ++ closed ∷ [])
+  permissions_inside [] made = tt
+  permissions_inside (permission name ∷ xs) made = (made.0, permissions_inside xs made.1)
+  permissions_inside (_ ∷ xs) made = absurd made
+
+  permission_made : (word : List ℕ) → Good word → ArePermissions Good (permission_or_operator word)
+  permission_made word good = by (is_among exprs.operators word)
+    where
+      by : (b : Bool) → ArePermissions Good (cond b [] (permission word ∷ []))
+      by true = tt
+      by false = (good, tt)
 
   permissions_made : (trees : Trees) → AreGood Good trees → MaybeInside Good (permissions_in trees)
-  permissions_made none good = tt
-  permissions_made (a_word at name rest) good = permission_inside name (is_among operators name) (permissions_in rest) good.0 (permissions_made rest good.1)
-  permissions_made (a_string at text rest) good = tt
-  permissions_made (a_list at end items rest) good = tt
+  permissions_made trees good = by (has_no_string trees)
+    where
+      by : (b : Bool) → MaybeInside Good (cond b (Some (operands_in operands.Permission trees)) None)
+      by true = permissions_inside (operands_in operands.Permission trees) (operands_made (ArePermissions Good) operands.Permission tt permissions_append permission_made trees good)
+      by false = tt
 
   listed_made : (name : List ℕ) (x : Option (List Piece)) → Good name → MaybeInside Good x
       → MaybeMade Good (joined (joined (Some (opened name ∷ [])) x) (Some (closed ∷ [])))

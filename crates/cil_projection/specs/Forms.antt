@@ -4,8 +4,11 @@ use Rattle.std.specs.Borrow.{Bor}
 use Rattle.std.specs.Option.{option_map_or}
 use Rattle.cil_specs.specs.Trees.{Trees, none, a_word, a_string, a_list}
 use Rattle.cil_specs.specs.Shape.{is_among}
+use Rattle.cil_specs.specs.Expr as exprs
 use Rattle.cil_projection.specs.declared.table.Table.{Table}
 use Rattle.cil_projection.specs.declared.table.Table.TheVariants.{Types, Roles, Users, Categories, Sensitivities, Levels, Ranges, Contexts, Addresses, ExtendedPermissions}
+use Rattle.cil_projection.specs.declared.operand.Operand.{Operand}
+use Rattle.cil_projection.specs.declared.operand.Operand.TheVariants as operands
 use Rattle.cil_projection.specs.declared.part.Part.{Part}
 use Rattle.cil_projection.specs.declared.part.Part.TheVariants as parts
 use Rattle.cil_projection.specs.declared.part.Part.TheVariants.{Declared, Name, Target, Expression, Names, Truth, Ignored, Classes, ClassPermissions, Context, PerhapsContext, Range, Level, Address, ExtendedPermission, Constraint}
@@ -31,12 +34,25 @@ operators = codes "and" ∷ codes "or" ∷ codes "xor" ∷ codes "not" ∷ codes
 abbrev pub name_or_operator : Table → List ℕ → List Piece
 name_or_operator table word = cond (is_among operators word) [] (needed table word ∷ [])
 
--- the names in trees, and in the lists among them
+-- expressions of permissions have the operators of the language
+abbrev pub permission_or_operator : List ℕ → List Piece
+permission_or_operator word = cond (is_among exprs.operators word) [] (permission word ∷ [])
+
+-- what is needed of a word in an expression with such operands
+abbrev pub of_operand : Operand → List ℕ → List Piece
+of_operand (operands.Name table) word = name_or_operator table word
+of_operand operands.Permission word = permission_or_operator word
+
+-- the operands in trees, and in the lists among them
+abbrev pub operands_in : Operand → Trees → List Piece
+operands_in operand none = []
+operands_in operand (a_word at word rest) = of_operand operand word ++ operands_in operand rest
+operands_in operand (a_string at text rest) = operands_in operand rest
+operands_in operand (a_list at end items rest) = operands_in operand items ++ operands_in operand rest
+
+-- the names in them
 abbrev pub names_in : Table → Trees → List Piece
-names_in table none = []
-names_in table (a_word at word rest) = name_or_operator table word ++ names_in table rest
-names_in table (a_string at text rest) = names_in table rest
-names_in table (a_list at end items rest) = names_in table items ++ names_in table rest
+names_in table trees = operands_in (operands.Name table) trees
 
 -- whether there is no string in trees, nor in the lists among them
 abbrev pub has_no_string : Trees → Bool
@@ -45,9 +61,17 @@ has_no_string (a_word at word rest) = has_no_string rest
 has_no_string (a_string at text rest) = false
 has_no_string (a_list at end items rest) = has_no_string items && has_no_string rest
 
+-- the operands of an expression
+abbrev pub expression_needs : Operand → Trees → Option (List Piece)
+expression_needs operand trees = cond (has_no_string trees) (Some (operands_in operand trees)) None
+
 -- the names in an expression
 abbrev pub expression_names : Table → Trees → Option (List Piece)
-expression_names table trees = cond (has_no_string trees) (Some (names_in table trees)) None
+expression_names table trees = expression_needs (operands.Name table) trees
+
+-- the permissions in an expression
+abbrev pub permissions_in : Trees → Option (List Piece)
+permissions_in trees = expression_needs operands.Permission trees
 
 -- names and nothing else
 abbrev pub listed_names : Table → Trees → Option (List Piece)
@@ -67,18 +91,11 @@ classes_in (a_word at name rest) = joined (Some (a_class name ∷ [])) (classes_
 classes_in (a_string at text rest) = None
 classes_in (a_list at end items rest) = None
 
--- permissions and nothing else, and no expression
-abbrev pub permissions_in : Trees → Option (List Piece)
-permissions_in none = Some []
-permissions_in (a_word at name rest) = joined (cond (is_among operators name) None (Some (permission name ∷ []))) (permissions_in rest)
-permissions_in (a_string at text rest) = None
-permissions_in (a_list at end items rest) = None
-
--- a class with the permissions of a list
+-- a class with the permissions in an expression, which is a list of these trees
 abbrev pub listed : List ℕ → Trees → Option (List Piece)
 listed name items = joined (joined (Some (opened name ∷ [])) (permissions_in items)) (Some (closed ∷ []))
 
--- a class and the list of its permissions
+-- a class and a list that is an expression of its permissions
 abbrev pub class_permissions : Trees → Option (List Piece)
 class_permissions (a_word at name (a_list from end items none)) = listed name items
 class_permissions trees = None

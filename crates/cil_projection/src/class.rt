@@ -2,12 +2,12 @@
 
 ghost use Rattle.std.specs.Prelude.{IfOk};
 ghost use Rattle.cil_text.specs.Common.{trees_of};
-ghost use Rattle.cil_projection.specs.Forms.{Adds, class_permissions, classes_in, listed, permissions_in};
+ghost use Rattle.cil_projection.specs.Forms.{Adds, class_permissions, classes_in, listed};
 
-use crate::names::OPERATORS;
+use crate::names::add_expression;
+use crate::operand::Operand;
 use crate::piece::Piece;
 use crate::split::{split_list, split_word};
-use crate::words::is_among;
 use cil_text::{Tree, TreeSlice, Word};
 use std::alloc::{AllocError, Allocator};
 
@@ -30,29 +30,7 @@ pub fn add_classes<'a, A: Allocator>(
     Ok(true)
 }
 
-/// Adds permissions, where trees are them and nothing else, and no expression.
-fn add_permissions<'a, A: Allocator>(
-    pieces: &mut Vec<Piece<'a>, A>,
-    trees: TreeSlice<'_, 'a>,
-) -> Result<bool, AllocError>
-    ensures { IfOk result (λ fits.
-        Adds pieces.old.items pieces.new.items fits (permissions_in (trees_of trees.entry))) }
-{
-    let mut rest = trees;
-    while let Some((tree, behind)) = rest.split_first() {
-        let Tree::Word(word) = tree else {
-            return Ok(false);
-        };
-        if is_among(&OPERATORS, word.text) {
-            return Ok(false);
-        }
-        pieces.push(Piece::Permission { name: word.text })?;
-        rest = behind;
-    }
-    Ok(true)
-}
-
-/// Adds a class with the permissions that these trees are, where they are permissions and nothing else.
+/// Adds a class with the permissions in an expression, which is a list of these trees, where there is no string in it.
 fn add_listed<'a, A: Allocator>(
     pieces: &mut Vec<Piece<'a>, A>,
     class: Word<'a>,
@@ -62,14 +40,14 @@ fn add_listed<'a, A: Allocator>(
         (listed class.entry.text.now (trees_of items.entry))) }
 {
     pieces.push(Piece::Opened { class: class.text })?;
-    if !add_permissions(pieces, items)? {
+    if !add_expression(pieces, Operand::Permission, items)? {
         return Ok(false);
     }
     pieces.push(Piece::Closed)?;
     Ok(true)
 }
 
-/// Adds a class and its permissions, where trees are a class and a list of permissions.
+/// Adds a class and its permissions, where trees are a class and a list that is an expression of permissions.
 pub fn add_class_permissions<'a, A: Allocator>(
     pieces: &mut Vec<Piece<'a>, A>,
     trees: TreeSlice<'_, 'a>,

@@ -10,6 +10,7 @@ use crate::class::{add_class_permissions, add_classes};
 use crate::constraint::add_constraint;
 use crate::declaration::truth;
 use crate::names::{add_expression, add_listed, add_name};
+use crate::operand::Operand;
 use crate::part::Part;
 use crate::piece::Piece;
 use crate::split::split_word;
@@ -98,7 +99,7 @@ fn add_level<'a, A: Allocator>(
         table: Table::Sensitivities,
         name: sensitivity.text,
     })?;
-    let fits = add_expression(pieces, Table::Categories, categories)?;
+    let fits = add_expression(pieces, Operand::Name(Table::Categories), categories)?;
     Ok(fits)
 }
 
@@ -113,7 +114,7 @@ fn add_list<'a, A: Allocator>(
         (of_list part (trees_of items.entry) (fit (inner_parts part) (trees_of items.entry)))) }
 {
     match part {
-        Part::Expression(table) => add_expression(pieces, table, items),
+        Part::Expression(table) => add_expression(pieces, Operand::Name(table), items),
         Part::Names(table) => add_listed(pieces, table, items),
         Part::Ignored | Part::Address => Ok(true),
         Part::Classes => add_classes(pieces, items),

@@ -18,6 +18,7 @@ mod laws;
 mod marked;
 mod names;
 mod needs;
+mod operand;
 mod part;
 mod piece;
 mod projecting;

@@ -1,10 +1,11 @@
-//! The names in trees.
+//! The names and the permissions in trees.
 
 ghost use Rattle.std.specs.Prelude.{◌≡◌, ◌++◌, IfOk, OnOk};
 ghost use Rattle.cil_text.specs.Common.{trees_of};
 ghost use Rattle.cil_projection.specs.Pieces.{pieces_of};
-ghost use Rattle.cil_projection.specs.Forms.{Adds, expression_names, has_no_string, listed_names, name_or_operator, names_in};
+ghost use Rattle.cil_projection.specs.Forms.{Adds, expression_needs, has_no_string, listed_names, name_or_operator, of_operand, operands_in, permission_or_operator};
 
+use crate::operand::Operand;
 use crate::piece::Piece;
 use crate::table::Table;
 use crate::words::is_among;
@@ -15,6 +16,9 @@ use std::alloc::{AllocError, Allocator};
 pub const OPERATORS: [&[u8]; 8] = [
     b"and", b"or", b"xor", b"not", b"all", b"eq", b"neq", b"range",
 ];
+
+/// The words that are no permissions in expressions of them.
+const PERMISSION_OPERATORS: [&[u8]; 5] = [b"and", b"or", b"xor", b"not", b"all"];
 
 /// Adds a name that is needed, where the word is one and no operator.
 pub fn add_name<'a, A: Allocator>(
@@ -34,22 +38,51 @@ pub fn add_name<'a, A: Allocator>(
     Ok(())
 }
 
-/// Adds the names that are needed in trees, and in the lists among them.
-#[cycle(names)]
-pub fn add_names<'a, A: Allocator>(
+/// Adds a permission that is needed, where the word is one and no operator.
+fn add_permission<'a, A: Allocator>(
     pieces: &mut Vec<Piece<'a>, A>,
-    table: Table,
+    word: Word<'a>,
+) -> Result<(), AllocError>
+    ensures { OnOk result (pieces_of pieces.new.items
+        ≡ pieces_of pieces.old.items ++ permission_or_operator word.entry.text.now) }
+{
+    if !is_among(&PERMISSION_OPERATORS, word.text) {
+        pieces.push(Piece::Permission { name: word.text })?;
+    }
+    Ok(())
+}
+
+/// Adds an operand of an expression, where the word is one and no operator.
+fn add_operand<'a, A: Allocator>(
+    pieces: &mut Vec<Piece<'a>, A>,
+    operand: Operand,
+    word: Word<'a>,
+) -> Result<(), AllocError>
+    ensures { OnOk result (pieces_of pieces.new.items
+        ≡ pieces_of pieces.old.items ++ of_operand operand word.entry.text.now) }
+{
+    match operand {
+        Operand::Name(table) => add_name(pieces, table, word),
+        Operand::Permission => add_permission(pieces, word),
+    }
+}
+
+/// Adds the operands that are needed in trees, and in the lists among them.
+#[cycle(operands)]
+pub fn add_operands<'a, A: Allocator>(
+    pieces: &mut Vec<Piece<'a>, A>,
+    operand: Operand,
     trees: TreeSlice<'_, 'a>,
 ) -> Result<(), AllocError>
     ensures { OnOk result (pieces_of pieces.new.items
-        ≡ pieces_of pieces.old.items ++ names_in table (trees_of trees.entry)) }
+        ≡ pieces_of pieces.old.items ++ operands_in operand (trees_of trees.entry)) }
 {
     let mut rest = trees;
     while let Some((tree, behind)) = rest.split_first() {
         match tree {
-            Tree::Word(word) => add_name(pieces, table, word)?,
+            Tree::Word(word) => add_operand(pieces, operand, word)?,
             Tree::String(_) => {}
-            Tree::List { items, .. } => add_names(pieces, table, items)?,
+            Tree::List { items, .. } => add_operands(pieces, operand, items)?,
         }
         rest = behind;
     }
@@ -77,19 +110,19 @@ fn has_no_string(trees: TreeSlice<'_, '_>) -> bool
     true
 }
 
-/// Adds the names of an expression, where there is no string in it.
+/// Adds the operands of an expression, where there is no string in it.
 pub fn add_expression<'a, A: Allocator>(
     pieces: &mut Vec<Piece<'a>, A>,
-    table: Table,
+    operand: Operand,
     trees: TreeSlice<'_, 'a>,
 ) -> Result<bool, AllocError>
     ensures { IfOk result (λ fits. Adds pieces.old.items pieces.new.items fits
-        (expression_names table (trees_of trees.entry))) }
+        (expression_needs operand (trees_of trees.entry))) }
 {
     if !has_no_string(trees) {
         return Ok(false);
     }
-    add_names(pieces, table, trees)?;
+    add_operands(pieces, operand, trees)?;
     Ok(true)
 }
 

@@ -7,8 +7,9 @@ use crate::booleans::Booleans;
 use crate::branches::are_branches;
 use crate::by_names::{Span, by_names};
 use crate::condition::list_value;
-use crate::names::{add_name, add_names};
+use crate::names::{add_name, add_operands};
 use crate::needs::Choice;
+use crate::operand::Operand;
 use crate::piece::Piece;
 use crate::table::Table;
 use cil_text::{Tree, TreeSlice, Word};
@@ -63,7 +64,7 @@ impl<'w, 'm, A: Allocator + Copy> Projector<'w, 'm, A> {
             }
             Tree::String(_) => Ok(None),
             Tree::List { items, .. } => {
-                add_names(names, table, items)?;
+                add_operands(names, Operand::Name(table), items)?;
                 let value = list_value(self.alloc, self.booleans, items)?;
                 Ok(value)
             }

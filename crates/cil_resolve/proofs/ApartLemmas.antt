@@ -1,5 +1,5 @@
 -- The set statements of a policy in order stand apart, and so do those that an order lists.
-use Rattle.cil_resolve.proofs.Common.{◌≡◌, ◌≢◌, ◌∙◌, inl, inr, ℕ, suc, ◌+◌, ◌<◌, ◌≤◌, ◌^◌, List, [], ◌∷◌, ◌++◌, length, map, flat_map, get_or, Option, Some, None, All, Contains, refl, sym, ap, subst, arith, cons_option, ordering_reverse, Less, Greater, cases_order, nat_list_cmp_total, get_or-map, length-append, length-map, All-contains, Contains-get_or, recursion_from_All, Contains-from_any, get_or_from_slice_get, slice_get_within, Placed, name_cmp, SetStatement, sets_of, set_statement_of, Form, attribute_set, flat-contains, all-contained, contains-cases, contains-first, contains-mapped, offsets_in, IsBefore, AreOrdered, set_of, sets_at, IsSetOrder, NumberedSet}
+use Rattle.cil_resolve.proofs.Common.{◌≡◌, ◌≢◌, ◌∙◌, inl, inr, ℕ, suc, ◌<◌, ◌≤◌, ◌^◌, List, [], ◌∷◌, ◌++◌, length, map, flat_map, get_or, Option, Some, None, All, Contains, refl, sym, ap, subst, arith, cons_option, ordering_reverse, Less, Greater, cases_order, nat_list_cmp_total, get_or-map, length-append, length-map, All-contains, Contains-get_or, recursion_from_All, Contains-from_any, get_or_from_slice_get, slice_get_within, Placed, name_cmp, SetStatement, sets_of, set_statement_of, Form, attribute_set, flat-contains, all-contained, contains-cases, contains-first, contains-mapped, offsets_in, IsBefore, AreOrdered, set_of, sets_at, IsSetOrder, NumberedSet}
 use Rattle.std.proofs.Common.{slice_get, AllPairs, eqb-true}
 use Rattle.std.proofs.lemmas.Bool.Decides.{Decides-eqb}
 use Rattle.std.proofs.lemmas.List.Kept.{AllPairs-cons}

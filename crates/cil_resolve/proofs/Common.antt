@@ -17,20 +17,20 @@ pub use Rattle.cil_check.specs.Ordered.{IsFaultIn, IsFaultless}
 pub use Rattle.cil_check.specs.Permissions.{lists_own}
 pub use Rattle.cil_dependence.specs.Graph.{AreNodes, IsEdge, LeadsThrough}
 pub use Rattle.cil_expression.proofs.SpellingLemmas.{expr-is, filled, nodes-mapped, written-nodes, written-spelt}
-pub use Rattle.cil_expression.specs.Expression.{expr_in}
+pub use Rattle.cil_expression.specs.Expression.{expr_in, set_expr_in}
 pub use Rattle.cil_expression.specs.declared.expression.Element.{Element}
 pub use Rattle.cil_expression.specs.declared.expression.Element.TheVariants.{Attribute, «Type»}
 pub use Rattle.cil_parse.specs.Builder.{read}
 pub use Rattle.cil_parse.specs.Forms.{expr_nodes, kind_of, nodes_in, permissions_in, rule_kind, words_in}
 pub use Rattle.cil_parse.specs.Parsed.{permission_lists_of, texts_of}
-pub use Rattle.cil_resolve.specs.Below.{is_class_below, is_element_below, is_name_below, is_rule_below, is_set_below, is_target_below}
+pub use Rattle.cil_resolve.specs.Below.{is_class_below, is_element_below, is_name_below, is_rule_below, is_set_below, is_target_below, is_written_below}
 pub use Rattle.cil_resolve.specs.Consistent.{are_placed_in, are_rules_of, is_aim_of, is_class_with, is_consistent, is_declared, is_element_of, is_rule_of}
 pub use Rattle.cil_resolve.specs.Dropped.{HaveMarks, dropped_if}
 pub use Rattle.cil_resolve.specs.FullNames.{full_name_of, full_name_or, is_numbered, is_numbered_kind, name_in, numbered_id, space_text}
 pub use Rattle.cil_resolve.specs.KnownPermissions.{HaveNumbers, KnowNumbers, known_at, list_at}
-pub use Rattle.cil_resolve.specs.Lowering.{AreElements, ArePartsOf, AreRules, AreSets, HaveElements, IsClass, IsDeclared, IsElement, IsExpression, IsIn, IsLowering, attribute_if, class_if, common_in, common_of, is_set, modules_of, rule_if, set_if, type_if}
+pub use Rattle.cil_resolve.specs.Lowering.{AreElements, ArePartsOf, ArePermissions, AreRules, AreSets, HaveElements, IsClass, IsDeclared, IsElement, IsExpression, IsIn, IsLowering, IsRuleWith, IsRuleWritten, IsSpeltBy, attribute_if, class_if, common_in, common_of, is_set, modules_of, rule_if, set_if, type_if}
 pub use Rattle.cil_resolve.specs.Numbering.{AreNamesOf, AreNumbersIn, HavePermissionsOf, HavePlaces, listed_names, names_of, names_with, number_in}
-pub use Rattle.cil_resolve.specs.Numbers.{class_of, declared_of, dropped_with, element_of, resolved_target_of, set_of}
+pub use Rattle.cil_resolve.specs.Numbers.{GivesNumbered, class_of, declared_of, dropped_with, element_of, keeps_no_list, resolved_target_of, set_of}
 pub use Rattle.cil_resolve.specs.Resolved.{meaning_in}
 pub use Rattle.cil_resolve.specs.Same.{same_element, same_set}
 pub use Rattle.cil_resolve.specs.SetOrder.{AreNamed, AreStraight, DependsThrough, IsNext, IsSetOrder, Mentions, StandTogether, attributes_in, names_in, sets_at}

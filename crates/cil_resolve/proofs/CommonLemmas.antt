@@ -1,5 +1,5 @@
 -- The commons of classes.
-use Rattle.cil_resolve.proofs.Common.{◌≡◌, ℕ, Bool, true, false, ◌||◌, List, [], ◌∷◌, ◌++◌, flat_map, filter, append_assoc, position, Contains, Option, Some, None, is_some, refl, sym, ap, ◌∙◌, subst, true≢false, append-nil, if◌then◌else◌, cond, find, list_any, option_and_then, Word, Form, block, optional, type_name, type_alias, alias_actual, type_attribute, attribute_set, common, class, class_common, class_order, rule, Placed, commons, classes, references, leads, gives_common, is_same, holds_of, common_permissions, permissions_of, own_permissions, texts, listed_by, declared_in, second_common, has_earlier_common, common_words, contains-first, or-false, list_any-append, kind_of, IsFaultless, lists_own, IsFirstOf, none-there, common_in, common_of}
+use Rattle.cil_resolve.proofs.Common.{◌≡◌, ℕ, Bool, true, false, ◌||◌, List, [], ◌∷◌, ◌++◌, flat_map, filter, append_assoc, Contains, Option, Some, None, is_some, refl, sym, ap, ◌∙◌, subst, true≢false, append-nil, if◌then◌else◌, cond, find, list_any, option_and_then, Word, Form, block, optional, type_name, type_alias, alias_actual, type_attribute, attribute_set, common, class, class_common, class_order, rule, Placed, commons, classes, references, leads, gives_common, is_same, holds_of, common_permissions, permissions_of, own_permissions, texts, listed_by, declared_in, second_common, has_earlier_common, common_words, contains-first, or-false, list_any-append, kind_of, IsFaultless, lists_own, IsFirstOf, none-there, common_in, common_of}
 use Rattle.std.proofs.Common.{slice_get}
 use Rattle.cil_check.proofs.FirstsLemmas.{same-test}
 use Rattle.cil_check.proofs.PositionLemmas.{any-same}

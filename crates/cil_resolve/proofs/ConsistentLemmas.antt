@@ -1,12 +1,12 @@
 -- The rules of a policy without faults name what it declares.
-use Rattle.cil_resolve.proofs.Common.{◌≡◌, true, false, ◌&&◌, ◌||◌, List, [], ◌∷◌, ◌++◌, map, Contains, Option, Some, None, is_some, bytes_eq, refl, sym, ap, ◌∙◌, subst, true≢false, if◌then◌else◌, list_all, list_any, find, option_and_then, Word, Placed, RuleKind, Form, block, optional, type_name, type_alias, alias_actual, type_attribute, attribute_set, common, class, class_common, class_order, rule, Target, itself, the_named, target_words, types, classes, declared_in, declared_name, leads, references, named_permissions, has_name, texts, distinct, permissions_of, gives_actual, actual_statement, actual_in, actual_of, is_type, is_alias, is_attribute, element_words, kinds_asked, declared_as, class_as, is_class, types_of, attributes_of, classes_of, rules_of, rule_of, element_or_none, element_at, class_name, name_or_none, contains-first, contains-other, contains-map, contains-middle, both_true, bytes_eq-refl, IsFaultless, has-fold, is_declared, is_element_of, is_aim_of, is_class_with, is_rule_of, are_rules_of}
+use Rattle.cil_resolve.proofs.Common.{◌≡◌, true, false, ◌&&◌, ◌||◌, List, [], ◌∷◌, ◌++◌, map, Contains, Option, Some, None, is_some, bytes_eq, refl, sym, ap, ◌∙◌, subst, true≢false, if◌then◌else◌, list_all, list_any, option_and_then, Word, Placed, RuleKind, Form, block, optional, type_name, type_alias, alias_actual, type_attribute, attribute_set, common, class, class_common, class_order, rule, Target, itself, the_named, target_words, types, classes, declared_in, declared_name, leads, references, named_permissions, has_name, texts, distinct, permissions_of, gives_actual, actual_statement, actual_in, actual_of, is_type, is_alias, is_attribute, element_words, kinds_asked, declared_as, class_as, is_class, types_of, attributes_of, classes_of, rules_of, rule_of, element_or_none, element_at, class_name, name_or_none, contains-first, contains-other, contains-map, contains-middle, both_true, bytes_eq-refl, IsFaultless, has-fold, WordExpr, leaves, map_leaves, leaves-mapped, is_declared, is_element_of, is_aim_of, is_class_with, is_rule_of, are_rules_of}
 use Rattle.cil_specs.specs.Rule.{element_of, resolved_target_of}
 use Rattle.cil_resolve.proofs.ElementLemmas.{IsTypeKind, is_a_type, is_an_alias, is_an_attribute, type-kind, find-holds, gives-form}
 use Rattle.cil_resolve.proofs.FaultlessLemmas.{word-found, permission-found, kind-found, alias-set}
 use Rattle.cil_resolve.proofs.LedLemmas.{IsLed, leads-led}
 use Rattle.cil_resolve.proofs.ListLemmas.{any-of-flat, all-of-flat, find-there}
 
-class-declared : (form : Form) → is_some (declared_in classes form) ≡ is_class form
+pub class-declared : (form : Form) → is_some (declared_in classes form) ≡ is_class form
 class-declared (class id permissions) = refl
 class-declared (block id) = refl
 class-declared (optional id) = refl
@@ -91,7 +91,7 @@ module _ (policy : List Placed) (faultless : IsFaultless policy) where
             ap (λ o. is_element_of (types_of policy) (attributes_of policy) (element_or_none policy o)) e
             ∙ element-declared t (leads-led policy types t s.namespace word.text e) (alias-set policy faultless s there word named t e)
 
-    class-declares-them : (the_class : Word) (permissions : List Word) → Contains (references s.form) (classes, the_class) → named_permissions s.form ≡ map (λ w. (the_class, w)) permissions
+    pub class-declares-them : (the_class : Word) (permissions : List Word) → Contains (references s.form) (classes, the_class) → named_permissions s.form ≡ map (λ w. (the_class, w)) permissions
         → list_any (is_class_with (class_name policy s.namespace the_class) (texts permissions)) (classes_of policy) ≡ true
     class-declares-them the_class permissions refers named = by (leads policy classes s.namespace the_class.text) refl (word-found policy faultless s there classes the_class refers)
       where
@@ -103,7 +103,7 @@ module _ (policy : List Placed) (faultless : IsFaultless policy) where
             ∙ class-has policy t permissions (leads-led policy classes t s.namespace the_class.text e)
             (λ w is. permission-found policy faultless s there the_class w (subst (λ l. Contains l (the_class, w)) (sym named) (contains-map (λ v. (the_class, v)) permissions w is)) t e)
 
-    target-declared : (kind : RuleKind) (source : Word) (target : Target) (the_class : Word) (permissions : List Word) → s.form ≡ rule kind source target the_class permissions
+    target-declared : (kind : RuleKind) (source : Word) (target : Target) (the_class : Word) (permissions : WordExpr) → s.form ≡ rule kind source target the_class permissions
         → is_aim_of (types_of policy) (attributes_of policy) (resolved_target_of policy s.namespace target) ≡ true
     target-declared kind source itself the_class permissions form = refl
     target-declared kind source (the_named word) the_class permissions form =
@@ -118,14 +118,14 @@ module _ (policy : List Placed) (faultless : IsFaultless policy) where
         let source_is = word-declared source
         (subst (λ f. Contains (references f) (types, source)) (sym form) (contains-first (types, source) (others ++ (classes, the_class) ∷ [])))
         (subst (λ f. Contains (element_words f) source) (sym form) (contains-first source (target_words target))) in
-        let class_is = class-declares-them the_class permissions
+        let class_is = subst (λ l. list_any (is_class_with (class_name policy s.namespace the_class) l) (classes_of policy) ≡ true) (sym (leaves-mapped (λ w. w.text) permissions)) (class-declares-them the_class (leaves permissions)
         (subst (λ f. Contains (references f) (classes, the_class)) (sym form)
         (contains-other (types, source) (others ++ (classes, the_class) ∷ []) (classes, the_class) (contains-middle others (classes, the_class) [])))
-        (ap named_permissions form) in
+        (ap named_permissions form)) in
         ap (λ b. b && true)
         (both_true (is_element_of (types_of policy) (attributes_of policy) (element_of policy s.namespace source))
-        (is_aim_of (types_of policy) (attributes_of policy) (resolved_target_of policy s.namespace target) && list_any (is_class_with (class_name policy s.namespace the_class) (texts permissions)) (classes_of policy)) source_is
-        (both_true (is_aim_of (types_of policy) (attributes_of policy) (resolved_target_of policy s.namespace target)) (list_any (is_class_with (class_name policy s.namespace the_class) (texts permissions)) (classes_of policy))
+        (is_aim_of (types_of policy) (attributes_of policy) (resolved_target_of policy s.namespace target) && list_any (is_class_with (class_name policy s.namespace the_class) (leaves (map_leaves (λ w. w.text) permissions))) (classes_of policy)) source_is
+        (both_true (is_aim_of (types_of policy) (attributes_of policy) (resolved_target_of policy s.namespace target)) (list_any (is_class_with (class_name policy s.namespace the_class) (leaves (map_leaves (λ w. w.text) permissions))) (classes_of policy))
         (target-declared kind source target the_class permissions form) class_is))
     rule-declared _ form = refl
 

@@ -1,6 +1,6 @@
 -- What names of rules lead to: types, attributes, and aliases with their types.
 use Rattle.std.proofs.Common.{slice_get}
-use Rattle.cil_resolve.proofs.Common.{◌≡◌, ◌⊎◌, inl, inr, ◌+◌, ◌++◌, arith, ℕ, ◌<◌, suc, Bool, true, false, not, ◌&&◌, List, [], ◌∷◌, length, get_or, Contains, Option, Some, None, is_some, option_map, position, cond, refl, sym, ap, ◌∙◌, subst, true≢false, cases_order, get_or_append_left, get_or_push, find, option_and_then, unwrap_or, lt-ltb, none-some, same_Some, Word, Form, block, optional, type_name, type_alias, alias_actual, type_attribute, attribute_set, common, class, class_common, class_order, rule, itself, Placed, Table, types, declared_in, declared_name, full_name, word_text, same_namespace, holds_of, gives_actual, actual_statement, actual_in, actual_of, is_type, is_alias, is_attribute, is_word, references, leads, kinds_asked, a_type, an_attribute, name_or_none, element_at, first_true, contains-first, contains-other, kind_of, IsLead, IsFirstOf, IsFaultless, numbered_id, is_numbered, full_name_or, full_name_of, IsElement, HaveElements, is_set, number_in, HavePlaces, Element}
+use Rattle.cil_resolve.proofs.Common.{◌≡◌, ◌⊎◌, inl, inr, ◌+◌, ◌++◌, arith, ℕ, ◌<◌, suc, Bool, true, false, not, ◌&&◌, List, [], ◌∷◌, length, get_or, Contains, Option, Some, None, is_some, option_map, position, cond, refl, sym, ap, ◌∙◌, subst, true≢false, cases_order, get_or_append_left, get_or_push, find, option_and_then, unwrap_or, lt-ltb, none-some, same_Some, Word, Form, block, optional, type_name, type_alias, alias_actual, type_attribute, attribute_set, common, class, class_common, class_order, rule, Placed, Table, types, declared_in, declared_name, full_name, word_text, same_namespace, holds_of, gives_actual, actual_statement, actual_in, actual_of, is_type, is_alias, is_word, references, leads, kinds_asked, a_type, an_attribute, name_or_none, element_at, first_true, contains-first, contains-other, kind_of, IsLead, IsFirstOf, IsFaultless, numbered_id, is_numbered, full_name_or, full_name_of, IsElement, is_set, number_in, HavePlaces, Element}
 use Rattle.cil_parse.specs.declared.row.StatementKind.{StatementKind}
 use Rattle.cil_parse.specs.declared.row.StatementKind.TheVariants as kinds
 use Rattle.cil_check.specs.Associations.{first_at, gives, HasFirsts}

@@ -1,5 +1,5 @@
 -- What holds of the names and words of a policy without faults.
-use Rattle.cil_resolve.proofs.Common.{◌≡◌, inl, inr, Bool, true, false, not, ◌&&◌, List, [], ◌∷◌, ◌++◌, map, filter, Contains, Some, is_some, cond, refl, sym, ap, ◌∙◌, subst, true≢false, arith, Contains-append_left, Contains-append_right, Word, Form, class, rule, Placed, Table, types, classes, leads, has_name, holds_of, references, named_permissions, permissions_of, actual_statement, is_alias, PolicyFaultKind, wrong_kind, alias_unset, IsFaulty, is_unfound, is_lacking, missing_words, kinds_asked, is_of_another_kind, element_words, is_unset, contains-first, contains-other, contains-cases, contains-map, around, IsFaultless}
+use Rattle.cil_resolve.proofs.Common.{◌≡◌, inl, inr, Bool, true, false, not, ◌&&◌, List, [], ◌∷◌, ◌++◌, map, filter, Contains, Some, is_some, cond, refl, sym, ap, ◌∙◌, subst, true≢false, arith, Contains-append_left, Contains-append_right, Word, Form, Placed, Table, types, classes, leads, has_name, holds_of, references, named_permissions, permissions_of, actual_statement, is_alias, PolicyFaultKind, wrong_kind, alias_unset, IsFaulty, is_unfound, is_lacking, missing_words, kinds_asked, is_of_another_kind, element_words, is_unset, contains-first, contains-other, contains-cases, contains-map, around, IsFaultless}
 
 pub contains-filter : {X : Type 0} (p : X → Bool) (xs : List X) (x : X) → Contains xs x → p x ≡ true → Contains (filter p xs) x
 contains-filter p [] x c e = absurd (omega (arith, c.1))

@@ -1,5 +1,5 @@
 -- What is judged of the statements in kept optionals holds of the policy by these.
-use Rattle.cil_resolve.proofs.Common.{◌≡◌, ℕ, suc, ◌+◌, slice_index_or, Some, IsTrue, inl, inr, Bool, true, false, cond, map, List, [], ◌∷◌, filter, Contains, refl, sym, ap, ◌∙◌, subst, arith, list_all, Placed, PolicyFaultKind, PolicyFault, twice, missing, wrong_kind, alias_twice, alias_unset, second_common, too_many_permissions, circular, IsFaultOf, Optionals, dropped_of, has_innermost, is_within, restricted, AreKept, AreApart, judged, IsPolicyFault, IsFirst, Compiles, IsFirstFault, Meaning, meaning_of, Means, contains-first, contains-other, contains-cases, kept-good, first_true, once-filtered, Module, joined, names_rise, is_optional, AreOrdered, IsLeast, NamedModule, Makes, fault_of, TellsAround, HaveMarks, dropped_with, IsFaultIn, IsFaultless, AreFoundInside}
+use Rattle.cil_resolve.proofs.Common.{◌≡◌, ℕ, suc, ◌+◌, slice_index_or, Some, IsTrue, inl, inr, Bool, true, false, cond, map, List, [], ◌∷◌, filter, Contains, refl, sym, ap, ◌∙◌, subst, arith, list_all, Placed, PolicyFaultKind, PolicyFault, twice, missing, wrong_kind, alias_twice, alias_unset, second_common, too_many_permissions, circular, IsFaultOf, Optionals, dropped_of, has_innermost, is_within, restricted, AreKept, AreApart, judged, IsPolicyFault, Compiles, IsFirstFault, Meaning, meaning_of, Means, contains-first, contains-other, contains-cases, kept-good, first_true, once-filtered, Module, joined, names_rise, is_optional, AreOrdered, IsLeast, NamedModule, Makes, fault_of, TellsAround, HaveMarks, dropped_with, IsFaultIn, IsFaultless, AreFoundInside}
 use Rattle.std.proofs.Common.{slice_get}
 use Rattle.cil_specs.proofs.FaultWords.{contains-filtered}
 use Rattle.cil_bind.proofs.OrderedLemmas.{spelt-names, joined-ordered, ordered-filtered}

@@ -15,7 +15,10 @@ pub mod LoweringLemmas
 pub mod KnownLemmas
 pub mod PartLemmas
 pub mod CommonLemmas
+pub mod ClassLemmas
+pub mod PermitLemmas
 pub mod RuleLemmas
+pub mod GivenLemmas
 pub mod RuleOrderLemmas
 pub mod SetLemmas
 pub mod OneNameLemmas

@@ -1,5 +1,6 @@
 -- Tests of the elements of lists.
-use Rattle.cil_resolve.proofs.Common.{◌≡◌, ◌∙◌, Bool, true, false, ◌||◌, List, [], ◌∷◌, ◌++◌, flat_map, Contains, Some, cond, refl, ap, subst, list_all, list_any, find, or-true, flat_map-append, list_any-append, list_all-append, none-some, same_Some, around, contains-first, contains-other, both_true}
+use Rattle.cil_resolve.proofs.Common.{◌≡◌, ◌∙◌, Bool, true, false, true≢false, inl, inr, any-contained, contains-cases, ◌||◌, List, [], ◌∷◌, ◌++◌, flat_map, map, length, arith, Contains, Some, cond, refl, sym, ap, subst, list_all, list_any, find, or-true, flat_map-append, list_any-append, list_all-append, none-some, same_Some, around, contains-first, contains-other, both_true}
+use Rattle.cil_specs.proofs.DeclaredLemmas.{AtMostOne}
 
 -- what passes a test in the list of one element passes it in the list of all
 pub any-of-flat : {X Y : Type 0} (p : Y → Bool) (f : X → List Y) (xs : List X) (x : X) → Contains xs x → list_any p (f x) ≡ true → list_any p (flat_map f xs) ≡ true
@@ -25,3 +26,29 @@ find-there {X = X} p (y ∷ ys) x e = by (p y) e (find-there p ys x)
     by : (b : Bool) → cond b (Some y) (find p ys) ≡ Some x → (find p ys ≡ Some x → Contains ys x) → Contains (y ∷ ys) x
     by true e more = subst (Contains (y ∷ ys)) (same_Some y x e) (contains-first y ys)
     by false e more = contains-other y ys x (more e)
+
+-- what is left of a list decides whether one of its items passes
+pub any-here : {X Y : Type 0} (p : Y → Bool) (f : X → Y) (left all more : List X) (x : X) → list_any p (map f left) ≡ list_any p (map f all) → left ≡ x ∷ more → p (f x) ≡ true → true ≡ list_any p (map f all)
+any-here p f left all more x so_far split passes = ap (λ b. b || list_any p (map f more)) (sym passes) ∙ ap (λ l. list_any p (map f l)) (sym split) ∙ so_far
+
+pub any-next : {X Y : Type 0} (p : Y → Bool) (f : X → Y) (left all more : List X) (x : X) → list_any p (map f left) ≡ list_any p (map f all) → left ≡ x ∷ more → p (f x) ≡ false
+    → list_any p (map f more) ≡ list_any p (map f all)
+any-next p f left all more x so_far split fails = ap (λ b. b || list_any p (map f more)) (sym fails) ∙ ap (λ l. list_any p (map f l)) (sym split) ∙ so_far
+
+pub any-none : {X Y : Type 0} (p : Y → Bool) (f : X → Y) (left all : List X) → list_any p (map f left) ≡ list_any p (map f all) → length left ≡ 0 → false ≡ list_any p (map f all)
+any-none p f [] all so_far none = so_far
+any-none p f (x ∷ left) all so_far none = absurd (omega (arith, none))
+
+-- where at most one passes, two that pass are one
+pub one-passes : {X : Type 0} (p : X → Bool) (xs : List X) (x y : X) → AtMostOne p xs → Contains xs x → p x ≡ true → Contains xs y → p y ≡ true → x ≡ y
+one-passes p [] x y one there a too b = absurd (omega (arith, there.1))
+one-passes p (z ∷ xs) x y one there a too b = elim (contains-cases z xs x there) [
+  | inl same ↦ elim (contains-cases z xs y too) [
+    | inl also ↦ sym same ∙ also
+    | inr behind ↦ absurd (true≢false (sym (any-contained p xs y behind b) ∙ one.0 (ap p same ∙ a)))
+  ]
+  | inr behind ↦ elim (contains-cases z xs y too) [
+    | inl also ↦ absurd (true≢false (sym (any-contained p xs x behind a) ∙ one.0 (ap p also ∙ b)))
+    | inr further ↦ one-passes p xs x y one.1 behind a further b
+  ]
+]

@@ -1,12 +1,14 @@
 -- The types, attributes, classes, set statements and rules of a policy, statement by statement.
-use Rattle.cil_resolve.proofs.Common.{◌≡◌, ℕ, Bool, true, false, ◌&&◌, nat_lt, List, [], ◌∷◌, ◌++◌, length, map, flat_map, Some, refl, sym, ap, ◌∙◌, true≢false, append-nil, if◌then◌else◌, list_all, lt-ltb, map-append, list_all-append, flat_map-append, Word, Placed, Form, block, optional, type_name, type_alias, alias_actual, type_attribute, attribute_set, common, class, class_common, class_order, rule, types, classes, declared_in, distinct, permissions_of, declared_as, class_as, is_class, is_type, is_attribute, itself, the_named, kind_of, kind-form, both_true, is_name_below, numbered_id, full_name_of, IsDeclared, IsClass, type_if, attribute_if, class_if, set_if, rule_if, AreNumbersIn, declared_of}
+use Rattle.cil_resolve.proofs.Common.{◌≡◌, ℕ, Bool, true, false, ◌&&◌, nat_lt, List, [], ◌∷◌, ◌++◌, length, map, flat_map, Some, refl, sym, ap, ◌∙◌, true≢false, append-nil, if◌then◌else◌, list_all, lt-ltb, map-append, list_all-append, flat_map-append, Word, Placed, Form, block, optional, type_name, type_alias, alias_actual, type_attribute, attribute_set, common, class, class_common, class_order, rule, types, classes, declared_in, distinct, permissions_of, declared_as, class_as, is_class, is_type, is_attribute, itself, the_named, kind_of, kind-form, both_true, is_name_below, numbered_id, full_name_of, IsDeclared, IsClass, type_if, attribute_if, class_if, set_if, rule_if, AreNumbersIn, declared_of, AreRules, GivesNumbered, is_rule_below, is_written_below, keeps_no_list, meaning_of, Contains, Contains-push_cases, contains-first, first_true, inl, inr, subst}
 use Rattle.cil_specs.specs.Rule as spec
 use Rattle.cil_parse.specs.declared.row.StatementKind.{StatementKind}
 use Rattle.cil_parse.specs.declared.row.StatementKind.TheVariants as kinds
 use Rattle.cil_check.specs.Kinds.{is_kind}
 use Rattle.cil_check.specs.declared.kinds.Kind.TheVariants.{«Type», Attribute}
 use Rattle.cil_resolve.specs.declared.numbered.NumberedName.{NumberedName}
+use Rattle.cil_resolve.specs.Numbers.{rule_of}
 use Rattle.cil_resolve.specs.declared.numbered.NumberedClass.{NumberedClass}
+use Rattle.cil_resolve.specs.declared.numbered.NumberedRule.{NumberedRule}
 use Rattle.cil_resolve.proofs.ElementLemmas.{full-name-in}
 use Rattle.cil_resolve.proofs.NumberLemmas.{number-is, numbers-are, numbers-below}
 
@@ -161,3 +163,29 @@ no-attribute s e = ap (λ b. if b then declared_as types s ∷ [] else []) e
 
 pub no-class : (policy : List Placed) (s : Placed) → is_class s.form ≡ false → class_if policy s ≡ []
 no-class policy s e = ap (λ b. if b then class_as policy s ∷ [] else []) e
+
+-- the rules of some statements, with none more
+pub rules-stay : {A : Type 0} (modules names : List (List ℕ)) (policy : List Placed) (rules : List (NumberedRule A)) (statements : List Placed) (s : Placed) → AreRules modules names policy rules (flat_map (rule_if policy) statements)
+    → rule_if policy s ≡ [] → AreRules modules names policy rules (flat_map (rule_if policy) (statements ++ s ∷ []))
+rules-stay modules names policy rules statements s so_far none = record {
+  is = stay (rule_of modules names) (rule_if policy) rules rules statements s so_far.is refl none;
+  below = so_far.below;
+  written_below = so_far.written_below;
+  no_lists = so_far.no_lists;
+  give = so_far.give;
+}
+
+-- with one more
+pub rules-grow : {A : Type 0} (modules names : List (List ℕ)) (policy : List Placed) (old new : List (NumberedRule A)) (r : NumberedRule A) (statements : List Placed) (s : Placed)
+    → AreRules modules names policy old (flat_map (rule_if policy) statements) → new ≡ old ++ r ∷ [] → AreRules modules names policy (r ∷ []) (rule_if policy s)
+    → AreRules modules names policy new (flat_map (rule_if policy) (statements ++ s ∷ []))
+rules-grow modules names policy old new r statements s so_far pushed one = record {
+  is = grow (rule_of modules names) (rule_if policy) old new (r ∷ []) statements s so_far.is pushed one.is;
+  below = below-more (is_rule_below (length names)) old new r so_far.below pushed (first_true (is_rule_below (length names) r) true one.below);
+  written_below = below-more (is_written_below (length names)) old new r so_far.written_below pushed (first_true (is_written_below (length names) r) true one.written_below);
+  no_lists = below-more keeps_no_list old new r so_far.no_lists pushed (first_true (keeps_no_list r) true one.no_lists);
+  give = λ x c. elim (Contains-push_cases old r x (subst (λ l. Contains l x) pushed c)) [
+    | inl before ↦ so_far.give x before
+    | inr same ↦ subst (GivesNumbered (meaning_of policy []) modules names) same (one.give r (contains-first r []))
+  ];
+}

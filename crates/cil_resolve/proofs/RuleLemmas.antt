@@ -1,31 +1,49 @@
 -- Rules by numbers.
-use Rattle.cil_resolve.proofs.Common.{◌≡◌, ℕ, Bool, true, false, ◌&&◌, ◌||◌, nat_lt, List, [], ◌∷◌, length, get_or, map, flat_map, Contains, Option, Some, None, is_some, bytes_eq, refl, sym, ap, ◌∙◌, subst, true≢false, if◌then◌else◌, list_all, lt-ltb, none-some, slice_get-get_or, Word, Placed, RuleKind, allow, auditallow, dontaudit, neverallow, Target, Form, block, optional, type_name, type_alias, alias_actual, type_attribute, attribute_set, common, class, class_common, class_order, rule, unwrap_or, list_any-append, contains-first, contains-other, contains-map, rule_kind, IsLead, IsFaultless, lead-of, bound-at, Table, commons, classes, has_name, texts, own_permissions, listed_by, leads, references, named_permissions, gives_common, common_permissions, permissions_of, class_name, both_true, place_of, rule_kind_of, is_element_below, is_target_below, is_rule_below, IsElement, AreRules, number_in, AreNumbersIn, listed_names, resolved_target_of}
+use Rattle.cil_resolve.proofs.Common.{◌≡◌, ℕ, Bool, true, false, ◌&&◌, ◌||◌, nat_lt, List, [], ◌∷◌, length, get_or, map, flat_map, Contains, inl, inr, arith, list_any, contains-cases, WordExpr, meaning_of, Option, Some, None, is_some, bytes_eq, refl, sym, ap, ◌∙◌, subst, true≢false, if◌then◌else◌, list_all, lt-ltb, none-some, slice_get-get_or, Word, Placed, RuleKind, allow, auditallow, dontaudit, neverallow, Target, Form, block, optional, type_name, type_alias, alias_actual, type_attribute, attribute_set, common, class, class_common, class_order, rule, unwrap_or, list_any-append, contains-first, contains-other, contains-map, rule_kind, IsLead, IsFaultless, lead-of, bound-at, Table, commons, classes, has_name, texts, own_permissions, listed_by, leads, references, named_permissions, gives_common, common_permissions, permissions_of, class_name, both_true, place_of, rule_kind_of, is_element_below, is_target_below, is_rule_below, is_written_below, keeps_no_list, IsElement, ArePermissions, AreRules, GivesNumbered, number_in, listed_names, resolved_target_of}
 use Rattle.std.proofs.Common.{slice_get}
 use Rattle.cil_bind.specs.Binding.{AreBound}
 use Rattle.cil_resolve.proofs.FaultlessLemmas.{permission-found}
 use Rattle.cil_resolve.proofs.LoweringLemmas.{found-at}
 use Rattle.cil_resolve.proofs.StatementLemmas.{contained}
 use Rattle.cil_specs.specs.Rule as spec
+use Rattle.cil_specs.specs.Expr.{holds_by}
+use Rattle.cil_specs.specs.Meaning.{has_permission}
 use Rattle.cil_resolve.specs.declared.numbered.NumberedRule.{NumberedRule}
-use Rattle.cil_resolve.proofs.NumberLemmas.{named-in, number-is, numbers-are, numbers-below}
+use Rattle.cil_resolve.proofs.NumberLemmas.{named-in, number-is}
 
 -- a rule, by its parts
-pub rule-made : {A : Type 0} (modules names : List (List ℕ)) (policy : List Placed) (s : Placed) (r : NumberedRule A) (kind : RuleKind) (source : Word) (target : Target) (the_class : Word) (permissions : List Word)
+pub rule-made : {A : Type 0} (modules names : List (List ℕ)) (policy : List Placed) (s : Placed) (r : NumberedRule A) (kind : RuleKind) (source : Word) (target : Target) (the_class : Word) (permissions : WordExpr)
     → get_or modules r.«module» [] ≡ s.module_name → place_of r.at ≡ s.at → rule_kind_of r.kind ≡ kind → IsElement names r.source (spec.element_of policy s.namespace source)
     → resolved_target_of names r.target ≡ spec.resolved_target_of policy s.namespace target → is_target_below (length names) r.target ≡ true → number_in names (class_name policy s.namespace the_class) ≡ Some r.class
-    → AreNumbersIn names (texts permissions) r.permissions → AreRules modules names (r ∷ []) (spec.rule_of policy s (rule kind source target the_class permissions))
-rule-made modules names policy s r kind source target the_class permissions m a k from aim aim_below cls numbers =
+    → ArePermissions {A = A} names policy (class_name policy s.namespace the_class) permissions (record { given = r.permissions; written = r.written })
+    → AreRules modules names policy (r ∷ []) (spec.rule_of policy s (rule kind source target the_class permissions))
+rule-made modules names policy s r kind source target the_class permissions m a k from aim aim_below cls are =
     let (low, named) = number-is names (class_name policy s.namespace the_class) r.class cls in
-    let all = numbers-are names (texts permissions) r.permissions numbers in
     record {
-      is = λ j. record { module_name = m j; at = a j; kind = k j; source = from.named j; target = aim j; the_class = named j; permissions = all j } ∷ [];
+      is = λ j. record { module_name = m j; at = a j; kind = k j; source = from.named j; target = aim j; the_class = named j; permissions = are.spelt.named j } ∷ [];
       below =
           both_true (is_rule_below (length names) r) true
           (both_true (is_element_below (length names) r.source) (is_target_below (length names) r.target && (nat_lt r.class (length names) && list_all (λ p. nat_lt p (length names)) r.permissions)) from.below
           (both_true (is_target_below (length names) r.target) (nat_lt r.class (length names) && list_all (λ p. nat_lt p (length names)) r.permissions) aim_below
-          (both_true (nat_lt r.class (length names)) (list_all (λ p. nat_lt p (length names)) r.permissions) (lt-ltb r.class (length names) low)
-          (numbers-below names (texts permissions) r.permissions numbers)))) refl;
+          (both_true (nat_lt r.class (length names)) (list_all (λ p. nat_lt p (length names)) r.permissions) (lt-ltb r.class (length names) low) are.below))) refl;
+      written_below = both_true (is_written_below (length names) r) true are.spelt.below refl;
+      no_lists = both_true (keeps_no_list r) true are.no_list refl;
+      give = λ x c. elim (contains-cases r [] x c) [
+        | inl same ↦ subst (GivesNumbered (meaning_of policy []) modules names) same (gives named)
+        | inr none ↦ absurd (omega (arith, none.1))
+      ];
     }
+  where
+    gives : get_or names r.class [] ≡ class_name policy s.namespace the_class → GivesNumbered (meaning_of policy []) modules names r
+    gives named c q =
+        (λ i. bytes_eq (named i) c && (has_permission (meaning_of policy []) c q && holds_by (bytes_eq q) (are.spelt.named i))) ∙ are.gives c q
+        ∙ ap (λ x. bytes_eq x c && list_any (bytes_eq q) (map (λ n. get_or names n []) r.permissions)) (sym named)
+
+-- no rules
+pub no-rules : {A : Type 0} (modules names : List (List ℕ)) (policy : List Placed) (rules : List (NumberedRule A)) → rules ≡ [] → AreRules modules names policy rules []
+no-rules modules names policy rules none =
+    subst (λ l. AreRules modules names policy l []) (sym none)
+    (record { is = refl; below = refl; written_below = refl; no_lists = refl; give = λ r there. absurd (omega (arith, there.1)) })
 
 pub kind-back : (kind : RuleKind) → rule_kind_of (rule_kind kind) ≡ kind
 kind-back allow = refl

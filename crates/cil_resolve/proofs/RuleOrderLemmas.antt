@@ -1,5 +1,5 @@
 -- The rules of a policy in order are in order.
-use Rattle.cil_resolve.proofs.Common.{◌≡◌, ◌∙◌, inl, inr, ◌+◌, ◌<◌, ◌≤◌, List, [], ◌∷◌, ◌++◌, length, flat_map, Contains, sym, ap, arith, AllByRecursion, IsStrictlySortedBy, nat_cmp, ordering_then, Less, nat_list_cmp_total, tied_itself, Placed, name_cmp, Rule, rules_of, rule_of, Form, rule, flat-contains, all-contained, contains-cases, contains-first, contains-other, offsets_in, IsBefore, AreOrdered}
+use Rattle.cil_resolve.proofs.Common.{◌≡◌, ◌∙◌, inl, inr, ◌<◌, ◌≤◌, List, [], ◌∷◌, ◌++◌, length, flat_map, Contains, sym, ap, arith, AllByRecursion, IsStrictlySortedBy, nat_cmp, ordering_then, Less, nat_list_cmp_total, tied_itself, Placed, name_cmp, Rule, rules_of, rule_of, Form, rule, flat-contains, all-contained, contains-cases, contains-first, contains-other, offsets_in, IsBefore, AreOrdered}
 use Rattle.std.specs.Cmp.{nat_cmp_is}
 use Rattle.cil_specs.specs.Violations.{rule_cmp}
 

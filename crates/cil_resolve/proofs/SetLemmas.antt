@@ -1,9 +1,9 @@
 -- Set statements by numbers.
-use Rattle.cil_resolve.proofs.Common.{◌≡◌, ℕ, ◌+◌, suc, true, ◌&&◌, nat_lt, List, [], ◌∷◌, ◌++◌, length, get_or, map, Contains, IsTrue, Some, refl, sym, ap, ◌∙◌, subst, arith, list_all, lt-ltb, map-append, length-map, list_all-append, Word, WordExpr, leaves, map_leaves, Placed, types, leads, references, element_words, attribute_set, name_or_none, both_true, leaves-mapped, place_of, expr_nodes, words_in, set-reference, is_element_below, is_set_below, expr_in, expr-is, nodes-mapped, written-spelt, filled, IsElement, AreElements, IsExpression, AreSets, number_in, element_of, Element, NumberedSet}
+use Rattle.cil_resolve.proofs.Common.{◌≡◌, ℕ, ◌+◌, suc, true, ◌&&◌, nat_lt, List, [], ◌∷◌, ◌++◌, length, get_or, map, Contains, IsTrue, Some, refl, sym, ap, ◌∙◌, subst, arith, list_all, lt-ltb, map-append, length-map, list_all-append, Word, WordExpr, leaves, map_leaves, Placed, types, leads, references, element_words, attribute_set, name_or_none, both_true, leaves-mapped, place_of, expr_nodes, words_in, set-reference, is_element_below, is_set_below, set_expr_in, expr-is, nodes-mapped, written-spelt, filled, IsElement, AreElements, IsExpression, AreSets, number_in, element_of, Element, NumberedSet}
 use Rattle.std.proofs.Common.{slice_get}
 use Rattle.cil_specs.specs.Rule as spec
 use Rattle.cil_expression.specs.Spelling.{expr_of, IsSpelt}
-use Rattle.cil_expression.specs.declared.expression.SetExpression.{SetExpression}
+use Rattle.cil_expression.specs.declared.set_expression.SetExpression.{SetExpression}
 use Rattle.cil_resolve.proofs.NumberLemmas.{number-is}
 use Rattle.cil_resolve.proofs.StatementLemmas.{contained}
 
@@ -39,7 +39,7 @@ expression-spelt names policy s expr elements are = filled expr elements (names-
 
 -- It stands for the statement's, by names.
 pub expression-made : {A : Type 0} (names : List (List ℕ)) (policy : List Placed) (s : Placed) (expr : WordExpr) (elements : List Element) (e : SetExpression A)
-    → (are : AreElements names elements (map (spec.element_of policy s.namespace) (leaves expr))) → expr_in e ≡ (expression-spelt names policy s expr elements are).expr
+    → (are : AreElements names elements (map (spec.element_of policy s.namespace) (leaves expr))) → set_expr_in e ≡ (expression-spelt names policy s expr elements are).expr
     → IsExpression names e (map_leaves (spec.element_of policy s.namespace) expr)
 expression-made names policy s expr elements e are is =
     let x = expression-spelt names policy s expr elements are in
@@ -63,5 +63,5 @@ set-made modules names policy s x attribute expr m a numbered e =
       is = λ j. record { module_name = m j; at = a j; attribute = named j; expr = e.named j } ∷ [];
       below =
           both_true (is_set_below (length names) x) true
-          (both_true (nat_lt x.attribute (length names)) (list_all (is_element_below (length names)) (leaves (expr_in x.expression))) (lt-ltb x.attribute (length names) low) e.below) refl;
+          (both_true (nat_lt x.attribute (length names)) (list_all (is_element_below (length names)) (leaves (set_expr_in x.expression))) (lt-ltb x.attribute (length names) low) e.below) refl;
     }

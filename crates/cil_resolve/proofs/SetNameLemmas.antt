@@ -1,8 +1,7 @@
 -- The order of set statements, by names.
-use Rattle.cil_resolve.proofs.Common.{◌≡◌, ◌≢◌, ◌∙◌, inl, inr, ℕ, zero, suc, ◌<◌, ◌≤◌, Bool, true, false, List, [], ◌∷◌, length, map, get_or, Option, Some, None, Contains, bytes_eq, refl, sym, ap, subst, true≢false, arith, cons_option, list_any, Contains-from_any, get_or_from_slice_get, slice_get-get_or, slice_get_within, bytes_eq-Decides, leaves, an_attribute, SetStatement, is_the_attribute, mentions, HasNoCircle, IsNextOf, any-contained, contains-cases, contains-first, contains-map, contains-mapped, contains-middle, contains-other, passes-among, Element, «Type», Attribute, NumberedSet, element_of, set_of, names_in, sets_at, AreNamed, AreStraight, DependsThrough, IsNext, IsSetOrder, leaves-mapped, expr_in}
+use Rattle.cil_resolve.proofs.Common.{◌≡◌, ◌∙◌, inl, inr, ℕ, zero, suc, ◌<◌, ◌≤◌, Bool, true, false, List, [], ◌∷◌, length, map, get_or, Option, Some, None, Contains, bytes_eq, refl, sym, ap, subst, true≢false, arith, cons_option, list_any, Contains-from_any, get_or_from_slice_get, slice_get-get_or, slice_get_within, bytes_eq-Decides, an_attribute, SetStatement, is_the_attribute, mentions, HasNoCircle, IsNextOf, any-contained, contains-cases, contains-first, contains-map, contains-mapped, contains-middle, contains-other, passes-among, Element, «Type», Attribute, NumberedSet, element_of, set_of, names_in, sets_at, AreNamed, AreStraight, DependsThrough, IsNext, IsSetOrder, leaves-mapped, set_expr_in}
 use Rattle.std.proofs.Common.{slice_get, eqb-true}
 use Rattle.cil_specs.specs.Dependence.{has_set, AreInOrder, AreTheSame}
-use Rattle.cil_specs.specs.Rule as spec
 use Rattle.cil_specs.specs.Sets as sets_by_names
 use Rattle.cil_resolve.proofs.RisingNames.{same-number}
 use Rattle.cil_resolve.proofs.SetOrderLemmas.{attribute-below, named-below}
@@ -65,7 +64,7 @@ module _ {A : Type 0} (modules names : List (List ℕ)) (sets : List (NumberedSe
     -- an attribute that a statement mentions by name, it names by number
     mentioned : (s : NumberedSet A) (name : List ℕ) → Contains sets s → mentions name (set_of modules names s).expr ≡ true → (b : ℕ) × Contains (names_in s) (Attribute b) × (get_or names b [] ≡ name)
     mentioned s name c m =
-        let any = subst (λ l. list_any (is_the_attribute name) l ≡ true) (leaves-mapped (element_of names) (expr_in s.expression)) m in
+        let any = subst (λ l. list_any (is_the_attribute name) l ≡ true) (leaves-mapped (element_of names) (set_expr_in s.expression)) m in
         let one = passes-among (is_the_attribute name) (map (element_of names) (names_in s)) any in
         let (e, has, same) = contains-mapped (element_of names) (names_in s) one.x (subst (λ l. Contains l one.x) (sym one.split) (contains-middle one.before one.x one.after)) in
         let (b, is, at) = attribute-named names e name (subst (λ x. is_the_attribute name x ≡ true) (sym same) one.passes) in
@@ -113,7 +112,7 @@ module _ {A : Type 0} (modules names : List (List ℕ)) (sets : List (NumberedSe
       is_in = contains-map (set_of modules names) sets next.s next.is_in;
       of_attribute = ap (λ n. get_or names n []) next.mentions.0;
       mentioned =
-          subst (λ l. list_any (is_the_attribute (get_or names b [])) l ≡ true) (sym (leaves-mapped (element_of names) (expr_in next.s.expression)))
+          subst (λ l. list_any (is_the_attribute (get_or names b [])) l ≡ true) (sym (leaves-mapped (element_of names) (set_expr_in next.s.expression)))
           (any-contained (is_the_attribute (get_or names b [])) (map (element_of names) (names_in next.s)) (an_attribute (get_or names b []))
           (contains-map (element_of names) (names_in next.s) (Attribute b) next.mentions.1) ((bytes_eq-Decides (get_or names b []) (get_or names b [])).1 refl));
     }

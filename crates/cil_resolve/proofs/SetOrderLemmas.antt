@@ -1,5 +1,5 @@
 -- The graph of set statements, and their order.
-use Rattle.cil_resolve.proofs.Common.{◌≡◌, ◌≢◌, ◌↔◌, ◌⊎◌, ◌∙◌, inl, inr, ℕ, zero, suc, ◌+◌, ◌<◌, ◌≤◌, true, List, [], ◌∷◌, ◌++◌, length, take, map, get_or, nat_lt, Option, Some, None, Result, Ok, Err, IfOk, Vec, All, Contains, refl, sym, ap, subst, arith, list_all, AllByRecursion, cases_eq, cases_lt, nat_eq_equiv, get_or_default, get_or-map, length-map, take_all, take_more, Contains-append_left, Contains-push, Contains-push_cases, list_any-from_Contains, get_or_from_slice_get, slice_get_within, cons_option, option_and_then, contains-cases, none-there, leaves, expr_in, first_true, second_true, IsEdge, AreNodes, LeadsThrough, Element, «Type», Attribute, NumberedSet, is_set_below, is_element_below, names_in, attributes_in, AreStraight, DependsThrough, IsNext, IsSetOrder, Mentions, StandTogether, sets_at}
+use Rattle.cil_resolve.proofs.Common.{◌≡◌, ◌≢◌, ◌↔◌, ◌⊎◌, ◌∙◌, inl, inr, ℕ, zero, suc, ◌+◌, ◌<◌, ◌≤◌, true, List, [], ◌∷◌, ◌++◌, length, take, map, get_or, nat_lt, Option, Some, None, Result, Ok, Err, IfOk, Vec, All, Contains, refl, sym, ap, subst, arith, list_all, AllByRecursion, cases_eq, cases_lt, nat_eq_equiv, get_or_default, get_or-map, length-map, take_all, take_more, Contains-append_left, Contains-push, Contains-push_cases, list_any-from_Contains, get_or_from_slice_get, slice_get_within, cons_option, option_and_then, contains-cases, none-there, leaves, set_expr_in, first_true, second_true, IsEdge, AreNodes, LeadsThrough, Element, «Type», Attribute, NumberedSet, is_set_below, is_element_below, names_in, attributes_in, AreStraight, DependsThrough, IsNext, IsSetOrder, Mentions, StandTogether, sets_at}
 use Rattle.std.proofs.Common.{slice_get, AllPairs, ltb-true}
 use Rattle.cil_dependence.specs.Dependence.{IsOrder, IsCircular}
 use Rattle.cil_dependence.specs.Items.{AreEachOnce, ComesBefore}
@@ -102,11 +102,11 @@ module _ {A : Type 0} (names : ℕ) where
   each-below (x ∷ sets) s all (suc k, low, is) = each-below sets s (second_true (is_set_below names x) (list_all (is_set_below names) sets) all) (k, omega (arith, low), is)
 
   pub attribute-below : (sets : List (NumberedSet A)) (s : NumberedSet A) → list_all (is_set_below names) sets ≡ true → Contains sets s → s.attribute < names
-  attribute-below sets s all c = ltb-true s.attribute names (first_true (nat_lt s.attribute names) (list_all (is_element_below names) (leaves (expr_in s.expression))) (each-below sets s all c))
+  attribute-below sets s all c = ltb-true s.attribute names (first_true (nat_lt s.attribute names) (list_all (is_element_below names) (leaves (set_expr_in s.expression))) (each-below sets s all c))
 
   pub named-below : (sets : List (NumberedSet A)) (s : NumberedSet A) (b : ℕ) → list_all (is_set_below names) sets ≡ true → Contains sets s → Contains (names_in s) (Attribute b) → b < names
   named-below sets s b all c d =
-      ltb-true b names (element-below names (leaves (expr_in s.expression)) (Attribute b) (second_true (nat_lt s.attribute names) (list_all (is_element_below names) (leaves (expr_in s.expression))) (each-below sets s all c)) d)
+      ltb-true b names (element-below names (leaves (set_expr_in s.expression)) (Attribute b) (second_true (nat_lt s.attribute names) (list_all (is_element_below names) (leaves (set_expr_in s.expression))) (each-below sets s all c)) d)
 
   pub attributes-below : (sets : List (NumberedSet A)) → list_all (is_set_below names) sets ≡ true → All (λ n. n < names) (attributes_in sets)
   attributes-below [] all k d low = absurd (omega (arith, low))

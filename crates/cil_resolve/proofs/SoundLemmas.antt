@@ -1,5 +1,5 @@
 -- The set statements of a policy without faults are of attributes that it declares, mention what it declares, and make no circle.
-use Rattle.cil_resolve.proofs.Common.{◌≡◌, ◌∙◌, inl, inr, ℕ, true, false, List, [], map, Contains, Option, Some, None, is_some, bytes_eq, refl, sym, ap, subst, true≢false, arith, list_any, bytes_eq-Decides, Word, WordExpr, leaves, map_leaves, Placed, Form, attribute_set, types, leads, references, declared_name, is_attribute, circular, kinds_asked, element_words, a_type, an_attribute, Declared, SetStatement, types_of, attributes_of, sets_of, name_or_none, set_statement_of, DependsOn, meaning_of, keeps_element, HasSoundSets, contains-first, contains-other, contains-cases, contains-map, contains-mapped, contains-middle, around, any-contained, first-step, passes-among, flat-contains, leaves-mapped, IsFaultless, is_declared, is_element_of}
+use Rattle.cil_resolve.proofs.Common.{◌≡◌, ◌∙◌, inl, inr, ℕ, true, List, [], map, Contains, Option, Some, None, is_some, bytes_eq, refl, sym, ap, subst, true≢false, arith, list_any, bytes_eq-Decides, Word, WordExpr, leaves, map_leaves, Placed, Form, attribute_set, types, leads, references, declared_name, is_attribute, circular, kinds_asked, element_words, a_type, an_attribute, Declared, SetStatement, types_of, attributes_of, sets_of, name_or_none, set_statement_of, DependsOn, meaning_of, keeps_element, HasSoundSets, contains-first, contains-other, contains-cases, contains-map, contains-mapped, contains-middle, around, any-contained, first-step, passes-among, flat-contains, leaves-mapped, IsFaultless, is_declared, is_element_of}
 use Rattle.cil_specs.specs.Rule.{Element, element_of}
 use Rattle.cil_specs.proofs.CircularLemmas.{attribute-word}
 use Rattle.cil_resolve.proofs.ConsistentLemmas.{attribute-declared, word-declared}

@@ -10,7 +10,8 @@ use Rattle.cil_resolve.specs.declared.numbered.NumberedClass.{NumberedClass}
 use Rattle.cil_resolve.specs.declared.numbered.NumberedRule.{NumberedRule}
 use Rattle.cil_resolve.specs.declared.numbered.NumberedSet.{NumberedSet}
 use Rattle.cil_specs.specs.Expr.{leaves}
-use Rattle.cil_expression.specs.Expression.{expr_in}
+use Rattle.cil_expression.specs.Expression.{set_expr_in}
+use Rattle.cil_resolve.specs.Numbers.{written_in}
 
 -- whether the numbers are below this one
 abbrev pub is_element_below : ℕ → Element → Bool
@@ -24,8 +25,12 @@ is_target_below n (aims.Element e) = is_element_below n e
 abbrev pub is_rule_below : {A : Type 0} → ℕ → NumberedRule A → Bool
 is_rule_below n r = is_element_below n r.source && (is_target_below n r.target && (nat_lt r.class n && list_all (λ p. nat_lt p n) r.permissions))
 
+-- so are those that a rule's permissions are written with
+abbrev pub is_written_below : {A : Type 0} → ℕ → NumberedRule A → Bool
+is_written_below n r = list_all (λ p. nat_lt p n) (leaves (written_in r))
+
 abbrev pub is_set_below : {A : Type 0} → ℕ → NumberedSet A → Bool
-is_set_below n s = nat_lt s.attribute n && list_all (is_element_below n) (leaves (expr_in s.expression))
+is_set_below n s = nat_lt s.attribute n && list_all (is_element_below n) (leaves (set_expr_in s.expression))
 
 abbrev pub is_name_below : ℕ → NumberedName → Bool
 is_name_below n d = nat_lt d.name n

@@ -10,26 +10,26 @@ pub use Rattle.cil_expression.specs.Holds.{holds_by}
 pub use Rattle.cil_parse.specs.Builder.{read}
 pub use Rattle.cil_parse.specs.Parsed.{texts_of}
 pub use Rattle.cil_resolve.specs.Apart.{StandApart}
-pub use Rattle.cil_resolve.specs.Below.{is_element_below, is_rule_below}
+pub use Rattle.cil_resolve.specs.Below.{is_element_below, is_rule_below, is_written_below}
 pub use Rattle.cil_resolve.specs.FullNames.{full_name_of, is_numbered, is_numbered_kind, numbered_id, space_text}
 pub use Rattle.cil_resolve.specs.Judged.{AreJudged, IsInOrder, IsJudged, IsWhole}
 pub use Rattle.cil_resolve.specs.KnownPermissions.{KnowNumbers, known_at, list_at}
-pub use Rattle.cil_resolve.specs.Lowering.{AreElements, ArePartsOf, AreRules, AreSets, HaveElements, IsClass, IsDeclared, IsElement, IsExpression, IsIn, IsLowering, IsSet, common_of, is_set, modules_of, rule_if, set_if}
+pub use Rattle.cil_resolve.specs.Lowering.{AreElements, ArePartsOf, ArePermissions, AreRules, AreSets, HaveElements, IsClass, IsDeclared, IsElement, IsExpression, IsIn, IsLowering, IsRuleWith, IsRuleWritten, IsSet, IsSpeltBy, common_of, is_set, modules_of, rule_if, set_if}
 pub use Rattle.cil_resolve.specs.Meter.{adjustments_in, evaluations_in}
 pub use Rattle.cil_resolve.specs.Modules.{AreParsedFrom}
 pub use Rattle.cil_resolve.specs.Numbering.{AreNumbersIn, HavePlaces, listed_names, number_in}
-pub use Rattle.cil_resolve.specs.Numbers.{dropped_with, element_of, resolved_target_of, set_of}
+pub use Rattle.cil_resolve.specs.Numbers.{GivesNumbered, dropped_with, element_of, keeps_no_list, resolved_target_of, set_of}
 pub use Rattle.cil_resolve.specs.Resolved.{meaning_in}
 pub use Rattle.cil_resolve.specs.Sets.{IsAnswer, TellsMembers, name_in, sets_in}
 pub use Rattle.cil_specs.specs.Expr.{Expr, WordExpr, leaves, map_leaves}
 pub use Rattle.cil_specs.specs.Joined.{Placed}
 pub use Rattle.cil_specs.specs.Kept.{AreApart, AreKept, IsFirstFault, IsGood, IsWithin, Optionals, dropped_of, restricted}
 pub use Rattle.cil_specs.specs.Lookup.{Table, classes, commons, distinct, has_name, leads, own_permissions, permissions_of, references, scopes, texts, types, with_name}
-pub use Rattle.cil_specs.specs.Meaning.{Meaning, Means, holds, is_in, keeps_type, meaning_of}
+pub use Rattle.cil_specs.specs.Meaning.{Meaning, Means, holds, is_in, keeps_type, meaning_of, permits}
 pub use Rattle.cil_specs.specs.Members.{HasSoundSets, is_member, keeps_attribute}
 pub use Rattle.cil_specs.specs.Names.{Word}
 pub use Rattle.cil_specs.specs.Report.{name_cmp, names_rise}
-pub use Rattle.cil_specs.specs.Rule.{Element, IsSameSet, SetStatement, declared_as}
+pub use Rattle.cil_specs.specs.Rule.{Element, IsSameSet, Rule, SetStatement, declared_as}
 pub use Rattle.cil_specs.specs.Statements.{attribute_set, is_optional}
 pub use Rattle.cil_specs.specs.Violations.{rule_cmp}
 pub use Rattle.std.specs.List.{list_all, prefix_len}

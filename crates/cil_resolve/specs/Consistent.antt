@@ -1,6 +1,7 @@
 -- What the rules of a policy name is among what it declares.
 use Rattle.std.specs.Prelude.{ℕ, Bool, true, ◌&&◌, List, bytes_eq}
 use Rattle.std.specs.List.{list_all, list_any}
+use Rattle.cil_specs.specs.Expr.{leaves}
 use Rattle.cil_specs.specs.Lookup.{has_name}
 use Rattle.cil_specs.specs.Meaning.{Meaning}
 use Rattle.cil_specs.specs.Rule.{Element, a_type, an_attribute, ResolvedTarget, at_itself, at_element, Rule, Declared, ClassOf}
@@ -22,9 +23,9 @@ is_aim_of types attributes (at_element element) = is_element_of types attributes
 abbrev pub is_class_with : List ℕ → List (List ℕ) → ClassOf → Bool
 is_class_with name permissions c = bytes_eq c.name name && list_all (has_name c.permissions) permissions
 
--- whether a rule's source and target are declared, and its class with its permissions
+-- whether a rule's source and target are declared, and its class with the permissions that its expression names
 abbrev pub is_rule_of : List Declared → List Declared → List ClassOf → Rule → Bool
-is_rule_of types attributes classes r = is_element_of types attributes r.source && (is_aim_of types attributes r.target && list_any (is_class_with r.the_class r.permissions) classes)
+is_rule_of types attributes classes r = is_element_of types attributes r.source && (is_aim_of types attributes r.target && list_any (is_class_with r.the_class (leaves r.permissions)) classes)
 
 abbrev pub are_rules_of : List Declared → List Declared → List ClassOf → List Rule → Bool
 are_rules_of types attributes classes rules = list_all (is_rule_of types attributes classes) rules

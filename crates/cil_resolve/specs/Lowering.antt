@@ -1,22 +1,24 @@
 -- What a policy without faults means, by numbers.
-use Rattle.std.specs.Prelude.{◌≡◌, ℕ, Bool, not, ◌&&◌, List, [], ◌∷◌, map, flat_map, length, slice_get, slice_index_or, is_some, Option, Some, None, Contains, IsTrue, if◌then◌else◌}
+use Rattle.std.specs.Prelude.{◌≡◌, ℕ, Bool, false, not, ◌&&◌, bytes_eq, nat_lt, List, [], ◌∷◌, map, flat_map, length, slice_get, slice_index_or, is_some, Option, Some, None, Contains, IsTrue, if◌then◌else◌}
 use Rattle.cil_specs.specs.Joined.{Placed}
-use Rattle.std.specs.List.{list_all, find}
+use Rattle.std.specs.List.{list_all, list_any, find}
 use Rattle.std.specs.Option.{option_and_then}
 use Rattle.cil_specs.specs.Names.{Word}
-use Rattle.cil_specs.specs.Expr.{Expr, WordExpr, leaves, map_leaves}
+use Rattle.cil_specs.specs.Expr.{Expr, WordExpr, holds_by, leaves, map_leaves}
+use Rattle.cil_specs.specs.Meaning.{has_permission, meaning_of}
 use Rattle.cil_specs.specs.Statements.{Form, class_common, attribute_set}
-use Rattle.cil_specs.specs.Lookup.{Table, types, commons, leads, gives_common, actual_statement, is_alias, is_type, is_attribute}
+use Rattle.cil_specs.specs.Lookup.{types, classes, commons, leads, named_permissions, references, gives_common, actual_statement, is_alias, is_type, is_attribute}
 use Rattle.cil_specs.specs.Rule as spec
 use Rattle.cil_specs.specs.Rule.{element_at, declared_as, class_as, is_class, set_statement_of, rule_of}
 use Rattle.cil_bind.specs.Lookup.{IsFirstOf}
 use Rattle.cil_bind.specs.declared.joined.Joined.{Joined}
+use Rattle.cil_parse.specs.Forms.{is_plain, nodes_in, permission_nodes, permissions_in}
 use Rattle.cil_parse.specs.Lexicon.{AreNumbersOf}
 use Rattle.cil_parse.specs.Parsed.{names_of}
 use Rattle.cil_check.specs.Bound.{IsSeen}
 use Rattle.cil_check.specs.Checker.{IsNoted}
 use Rattle.cil_check.specs.Ordered.{IsFaultless}
-use Rattle.cil_resolve.specs.Below.{is_element_below, is_name_below, is_class_below, is_set_below, is_rule_below}
+use Rattle.cil_resolve.specs.Below.{is_element_below, is_name_below, is_class_below, is_set_below, is_rule_below, is_written_below}
 use Rattle.cil_text.specs.Image.{place_of}
 use Rattle.cil_resolve.specs.FullNames.{full_name_of}
 use Rattle.cil_resolve.specs.Numbering.{number_in, HavePlaces, HavePermissions}
@@ -25,14 +27,15 @@ use Rattle.cil_resolve.specs.Numbers as numbered
 use Rattle.cil_check.specs.declared.bound.Seen.{Seen}
 use Rattle.cil_expression.specs.declared.expression.Element.{Element}
 use Rattle.cil_expression.specs.declared.expression.Element.TheVariants.{«Type»}
-use Rattle.cil_expression.specs.Expression.{expr_in}
-use Rattle.cil_expression.specs.declared.expression.SetExpression.{SetExpression}
+use Rattle.cil_expression.specs.Expression.{set_expr_in}
+use Rattle.cil_expression.specs.declared.set_expression.SetExpression.{SetExpression}
 use Rattle.cil_resolve.specs.declared.numbered.NumberedName.{NumberedName}
 use Rattle.cil_resolve.specs.declared.numbered.NumberedClass.{NumberedClass}
 use Rattle.cil_resolve.specs.declared.numbered.NumberedSet.{NumberedSet}
 use Rattle.cil_resolve.specs.declared.numbered.NumberedRule.{NumberedRule}
 use Rattle.cil_resolve.specs.declared.lowering.Lowering.{Lowering}
 use Rattle.cil_resolve.specs.declared.lowering.Parts.{Parts}
+use Rattle.cil_resolve.specs.declared.rule_permissions.RulePermissions.{RulePermissions}
 
 -- the names of the modules of a joined policy
 abbrev pub modules_of : {A : Type 0} → Joined A → List (List ℕ)
@@ -103,10 +106,38 @@ pub record IsClass {A : Type 0} (modules names : List (List ℕ)) (c : NumberedC
   pub is : class_of modules names c ≡ class_as policy s
   pub below : IsTrue (is_class_below (length names) c)
 
+-- The statement is a rule of these permissions, and this reference of it is its class.
+pub record IsRuleWith (form : Form) (k : ℕ) (the_class : Word) (permissions : WordExpr) : Type 0 where
+  pub refers : slice_get (references form) k ≡ Some (classes, the_class)
+  pub named : named_permissions form ≡ map (λ w. (the_class, w)) (leaves permissions)
+  pub words : permissions_in form ≡ leaves permissions
+  pub nodes : nodes_in form ≡ permission_nodes permissions
+
+-- it is one whose permissions are no plain list
+pub record IsRuleWritten (form : Form) (k : ℕ) (the_class : Word) (permissions : WordExpr) : Type 0 where
+  pub is : IsRuleWith form k the_class permissions
+  pub no_list : is_plain permissions ≡ false
+
+-- an expression of permissions, by numbers
+pub record IsSpeltBy (names : List (List ℕ)) (e : Expr ℕ) (permissions : WordExpr) : Type 0 where
+  pub named : map_leaves (λ p. slice_index_or names p []) e ≡ map_leaves (λ w. w.text) permissions
+  pub below : IsTrue (list_all (λ p. nat_lt p (length names)) (leaves e))
+
+-- The permissions of a rule of a class of this full name: how they are written, and the numbers of those that it gives.
+pub record ArePermissions {A : Type 0} (names : List (List ℕ)) (policy : List Placed) (the_class : List ℕ) (permissions : WordExpr) (p : RulePermissions A) : Type 0 where
+  pub spelt : IsSpeltBy names (numbered.written_or p.written p.given) permissions
+  pub no_list : IsTrue (numbered.is_no_list p.written)
+  pub below : IsTrue (list_all (λ n. nat_lt n (length names)) p.given)
+  pub gives : (c q : List ℕ) → (bytes_eq the_class c && (has_permission (meaning_of policy []) c q && holds_by (bytes_eq q) (map_leaves (λ w. w.text) permissions)))
+      ≡ (bytes_eq the_class c && list_any (bytes_eq q) (map (λ n. slice_index_or names n []) p.given))
+
 -- rules
-pub record AreRules {A : Type 0} (modules names : List (List ℕ)) (rules : List (NumberedRule A)) (are : List spec.Rule) : Type 0 where
+pub record AreRules {A : Type 0} (modules names : List (List ℕ)) (policy : List Placed) (rules : List (NumberedRule A)) (are : List spec.Rule) : Type 0 where
   pub is : map (numbered.rule_of modules names) rules ≡ are
   pub below : IsTrue (list_all (is_rule_below (length names)) rules)
+  pub written_below : IsTrue (list_all (is_written_below (length names)) rules)
+  pub no_lists : IsTrue (list_all numbered.keeps_no_list rules)
+  pub give : (r : NumberedRule A) → Contains rules r → numbered.GivesNumbered (meaning_of policy []) modules names r
 
 -- what names of an expression lead to
 pub record AreElements (names : List (List ℕ)) (elements : List Element) (are : List spec.Element) : Type 0 where
@@ -119,8 +150,8 @@ IsSet form = (attribute : Word) × (expr : WordExpr) × (form ≡ attribute_set 
 
 -- the expression is this one, by names
 pub record IsExpression {A : Type 0} (names : List (List ℕ)) (e : SetExpression A) (is : Expr spec.Element) : Type 0 where
-  pub named : map_leaves (element_of names) (expr_in e) ≡ is
-  pub below : IsTrue (list_all (is_element_below (length names)) (leaves (expr_in e)))
+  pub named : map_leaves (element_of names) (set_expr_in e) ≡ is
+  pub below : IsTrue (list_all (is_element_below (length names)) (leaves (set_expr_in e)))
 
 -- set statements
 pub record AreSets {A : Type 0} (modules names : List (List ℕ)) (sets : List (NumberedSet A)) (are : List spec.SetStatement) : Type 0 where
@@ -136,4 +167,4 @@ pub record ArePartsOf {A : Type 0} (modules names : List (List ℕ)) (policy sta
   pub classes_are : map (class_of modules names) parts.classes.items ≡ flat_map (class_if policy) statements
   pub classes_below : IsTrue (list_all (is_class_below (length names)) parts.classes.items)
   pub sets_are : AreSets modules names parts.sets.items (flat_map (set_if policy) statements)
-  pub rules_are : AreRules modules names parts.rules.items (flat_map (rule_if policy) statements)
+  pub rules_are : AreRules modules names policy parts.rules.items (flat_map (rule_if policy) statements)

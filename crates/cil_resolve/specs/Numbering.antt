@@ -1,7 +1,6 @@
 -- The names of a policy, and their numbers.
-use Rattle.std.specs.Prelude.{◌≡◌, ℕ, Bool, true, false, not, ◌&&◌, List, [], ◌∷◌, ◌++◌, map, flat_map, slice_get, slice_index_or, bytes_eq, Option, Some, is_some, Contains, IsTrue, if◌then◌else◌}
+use Rattle.std.specs.Prelude.{◌≡◌, ℕ, List, [], ◌∷◌, ◌++◌, map, flat_map, slice_get, slice_index_or, bytes_eq, Option, Some, IsTrue, if◌then◌else◌}
 use Rattle.std.specs.List.{position}
-use Rattle.cil_specs.specs.Names.{Word}
 use Rattle.cil_specs.specs.Joined.{Placed}
 use Rattle.cil_specs.specs.Lookup.{has_name, texts, own_permissions}
 use Rattle.cil_resolve.specs.FullNames.{is_numbered, full_name_of}

@@ -2,17 +2,16 @@
 use Rattle.std.specs.Prelude.{◌≡◌, ◌≢◌, ◌<◌, ◌≤◌, ℕ, List, [], ◌∷◌, All, AllPairs, Contains, IsTrue, Some, map, length, filter_map, nat_eq, slice_get, slice_index}
 use Rattle.std.specs.List.{list_all, list_any}
 use Rattle.cil_specs.specs.Expr.{leaves}
-use Rattle.cil_expression.specs.Expression.{expr_in}
+use Rattle.cil_expression.specs.Expression.{set_expr_in}
 use Rattle.cil_specs.specs.Report.{names_rise}
 use Rattle.cil_resolve.specs.Below.{is_set_below}
-use Rattle.cil_resolve.specs.Numbers.{element_of, set_of}
 use Rattle.cil_expression.specs.declared.expression.Element.{Element}
 use Rattle.cil_expression.specs.declared.expression.Element.TheVariants.{Attribute}
 use Rattle.cil_resolve.specs.declared.numbered.NumberedSet.{NumberedSet}
 
 -- what the names of a set statement's expression lead to
 abbrev pub names_in : {A : Type 0} → NumberedSet A → List Element
-names_in s = leaves (expr_in s.expression)
+names_in s = leaves (set_expr_in s.expression)
 
 -- a set statement is of one attribute, and mentions another
 abbrev pub Mentions : {A : Type 0} → NumberedSet A → ℕ → ℕ → Type 0

@@ -1,9 +1,7 @@
 -- The set statements of a resolved policy, as evaluation sees them.
-use Rattle.std.specs.Prelude.{◌≡◌, ◌==◌, ◌<◌, ℕ, length, Bool, List, [], map, IsTrue, slice_get, slice_index_or, Some}
-use Rattle.std.specs.List.{list_any}
+use Rattle.std.specs.Prelude.{◌≡◌, ◌==◌, ◌<◌, ℕ, length, Bool, List, [], map, IsTrue, slice_index_or}
 use Rattle.cil_specs.specs.Rule.{SetStatement}
 use Rattle.cil_specs.specs.Sets.{mentions}
-use Rattle.cil_specs.specs.Meaning.{keeps_type}
 use Rattle.cil_specs.specs.Members.{is_member}
 use Rattle.cil_expression.specs.declared.expression.Element.{Element}
 use Rattle.cil_expression.specs.declared.expression.Element.TheVariants.{«Type», Attribute}

@@ -51,7 +51,7 @@ set_head s = record { module_name = s.module_name; at = s.at; attribute = s.attr
 abbrev pub set_seen : SetView → SetHead
 set_seen v = record { module_name = v.«module».now; at = place_of v.at; attribute = v.attribute.now; names = v.names }
 
--- a rule but for its permissions, which are counted
+-- a rule but for its permissions, of which those that are named are counted
 pub record RuleHead : Type 0 where
   pub module_name : List ℕ
   pub at : Place
@@ -69,7 +69,7 @@ rule_head r = record {
   source = r.source;
   target = r.target;
   the_class = r.the_class;
-  permissions = length r.permissions;
+  permissions = length (leaves r.permissions);
 }
 
 abbrev pub rule_seen : RuleView → RuleHead

@@ -1,10 +1,11 @@
 //! Laws of the definitions. They have no code.
 
 ghost use Rattle.std.specs.Prelude.{◌≡◌, ◌<◌, ◌≤◌, ◌^◌, ℕ, false, List, AllPairs, Contains, IsTrue, is_some, length};
-ghost use Rattle.cil_resolve.specs.Common.{IsStrictlySortedBy, Expr, leaves, Placed, Table, has_name, leads, Optionals, restricted, IsWithin, IsGood, AreKept, AreApart, Meaning, Means, keeps_type, is_in, holds, is_member, keeps_attribute, HasSoundSets, Element, rule_cmp, holds_by, StandApart, meaning_in, sets_in};
+ghost use Rattle.cil_resolve.specs.Common.{IsStrictlySortedBy, Expr, leaves, Placed, Table, has_name, leads, Optionals, restricted, IsWithin, IsGood, AreKept, AreApart, Meaning, Means, keeps_type, is_in, holds, is_member, keeps_attribute, HasSoundSets, Element, rule_cmp, holds_by, StandApart, GivesNumbered, meaning_in, sets_in};
 ghost use Rattle.cil_specs.specs.Dependence.{AreInOrder, AreTheSame};
 ghost use Rattle.cil_specs.specs.Sets.{holds_with, mentions};
 ghost use Rattle.cil_resolve.specs.Consistent.{is_consistent};
+ghost use Rattle.cil_resolve.specs.declared.numbered.NumberedRule.{NumberedRule};
 
 use crate::resolved::Resolved;
 use std::alloc::Allocator;
@@ -75,6 +76,12 @@ pub fn resolved_names_are_kept<A: Allocator>(resolved: &Resolved<A>)
 /// Its rules stand in the order of their modules and offsets.
 pub fn resolved_rules_are_in_order<A: Allocator>(resolved: &Resolved<A>)
     ensures { IsStrictlySortedBy rule_cmp (meaning_in resolved.now).rules }
+{}
+
+/// Each of them gives the permissions at its numbers, of its class, and no others.
+pub fn resolved_rules_permit<A: Allocator>(resolved: &Resolved<A>)
+    ensures { (r : NumberedRule A) → Contains resolved.now.rules.items r
+        → GivesNumbered (meaning_in resolved.now) resolved.now.modules.items resolved.now.names.items r }
 {}
 
 /// Where an expression holds nothing that none of its names does (may_hold_any answers no), a type that it doesn't name is in it only

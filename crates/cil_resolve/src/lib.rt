@@ -16,8 +16,10 @@ mod numbered;
 mod numbering;
 mod one_name;
 mod permission_numbers;
+mod permits;
 mod resolved;
 mod resolver;
+mod rule_permissions;
 mod same;
 mod set_order;
 mod text;
@@ -26,12 +28,12 @@ mod words;
 
 pub use cil_bind::{Joined, NamedModule, join};
 pub use cil_check::{PolicyFault, PolicyFaultKind};
-pub use cil_expression::{Element, SetExpression};
+pub use cil_expression::{Element, Expression, SetExpression};
 pub use laws::{
     expressions_agree, found_grows, fuel_is_enough, kept_exists, kept_is_good, kept_is_one,
     meanings_are_consistent, reach_is_a_bound, resolved_is_consistent, resolved_is_sound,
-    resolved_names_are_kept, resolved_rules_are_in_order, resolved_sets_are_apart,
-    resolved_sets_are_in_order, sets_are_sound,
+    resolved_names_are_kept, resolved_rules_are_in_order, resolved_rules_permit,
+    resolved_sets_are_apart, resolved_sets_are_in_order, sets_are_sound,
 };
 pub use meter::Meter;
 pub use numbered::{

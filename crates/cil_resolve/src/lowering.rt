@@ -78,7 +78,7 @@ impl<'l, 'p, 'm, A: Allocator + Copy> Lowering<'l, 'p, 'm, A> {
     }
 
     /// The numbers of the permissions that a rule names.
-    fn permissions(&self, seen: &Seen<'p, 'm, A>) -> Result<Vec<usize, A>, AllocError>
+    pub(crate) fn permissions(&self, seen: &Seen<'p, 'm, A>) -> Result<Vec<usize, A>, AllocError>
         requires { (policy : List Placed) × ((s : Placed) × IsIn self.now seen.now policy s) }
         ensures { IfOk result (λ numbers. (policy : List Placed) (s : Placed) → IsIn self.now seen.now policy s → IsTrue (list_all (has_name (listed_names policy)) (texts (permissions_in s.form)))
             → AreNumbersIn self.now.numbering.now.names.items (texts (permissions_in s.form)) numbers.items) }
@@ -106,7 +106,7 @@ impl<'l, 'p, 'm, A: Allocator + Copy> Lowering<'l, 'p, 'm, A> {
     }
 
     /// The numbers of the permissions that the rule of a place names, which it shares with the rules of its module that name the same.
-    fn shared_permissions(
+    pub(crate) fn shared_permissions(
         &self,
         known: &mut KnownPermissions<A>,
         seen: &Seen<'p, 'm, A>,
@@ -160,7 +160,7 @@ impl<'l, 'p, 'm, A: Allocator + Copy> Lowering<'l, 'p, 'm, A> {
     }
 
     /// The numbers of the permissions of the class of a place, its common's included, each once.
-    fn class_permissions(&self, class: u32) -> Result<Vec<usize, A>, AllocError>
+    pub(crate) fn class_permissions(&self, class: u32) -> Result<Vec<usize, A>, AllocError>
         requires { (policy : List Placed) × IsLowering self.now policy }
         ensures { IfOk result (λ numbers. (policy : List Placed) (s : Placed) → IsLowering self.now policy → slice_get policy class ≡ Some s → IsTrue (is_class s.form)
             → AreNumbersIn self.now.numbering.now.names.items (distinct (permissions_of policy s)) numbers.items) }
@@ -263,7 +263,7 @@ impl<'l, 'p, 'm, A: Allocator + Copy> Lowering<'l, 'p, 'm, A> {
     ) -> Result<Option<NumberedRule<A>>, AllocError>
         requires { (policy : List Placed) × ((s : Placed) × IsIn self.now seen.now policy s × (slice_get policy i ≡ Some s)) }
         ensures rule { IfOk result (λ rule. (policy : List Placed) (s : Placed) → IsIn self.now seen.now policy s → slice_get policy i ≡ Some s → KnowNumbers self.now known.old policy
-            → AreRules (modules_of self.now.checker.now.bound.joined.now) self.now.numbering.now.names.items (option_to_list rule) (rule_if policy s)) }
+            → AreRules (modules_of self.now.checker.now.bound.joined.now) self.now.numbering.now.names.items policy (option_to_list rule) (rule_if policy s)) }
         ensures known { OnOk result ((policy : List Placed) (s : Placed) → IsIn self.now seen.now policy s → slice_get policy i ≡ Some s → KnowNumbers self.now known.old policy
             → KnowNumbers self.now known.new policy) }
     {
@@ -272,6 +272,7 @@ impl<'l, 'p, 'm, A: Allocator + Copy> Lowering<'l, 'p, 'm, A> {
             StatementKind::RuleToSelf(kind) => (kind, ResolvedTarget::Itself, 1),
             _ => return Ok(None),
         };
+        let permissions = self.rule_permissions(known, seen, i, class)?;
         Ok(Some(NumberedRule {
             module: self.module(i),
             at: seen.view.at,
@@ -279,7 +280,8 @@ impl<'l, 'p, 'm, A: Allocator + Copy> Lowering<'l, 'p, 'm, A> {
             source: self.element(seen, 0),
             target,
             class: self.class(seen, class),
-            permissions: self.shared_permissions(known, seen, i)?,
+            permissions: permissions.given,
+            written: permissions.written,
         }))
     }
 

@@ -2,7 +2,7 @@
 
 use crate::permission_numbers::PermissionNumbers;
 use crate::text::Text;
-use cil_expression::{Element, SetExpression};
+use cil_expression::{Element, Expression, SetExpression};
 use cil_text::{Place, RuleKind};
 use std::alloc::{Allocator, Global};
 
@@ -40,7 +40,8 @@ pub struct NumberedSet<A: Allocator = Global> {
     pub expression: SetExpression<A>,
 }
 
-/// A rule whose names are numbers: places in a list of names.
+/// A rule whose names are numbers: places in a list of names. Its permissions are those that it gives of its class; where they are
+/// written as an expression that is no plain list, it keeps that too, with the permissions that it names.
 #[derive(Drop)]
 pub struct NumberedRule<A: Allocator = Global> {
     pub module: usize,
@@ -50,6 +51,7 @@ pub struct NumberedRule<A: Allocator = Global> {
     pub target: ResolvedTarget,
     pub class: usize,
     pub permissions: PermissionNumbers<A>,
+    pub written: Option<Box<Expression<usize, A>, A>>,
 }
 
 /// An optional that drops, also one inside another: the place of its module's name, the place of its statement, and its full name.

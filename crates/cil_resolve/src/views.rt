@@ -1,7 +1,7 @@
 //! What is read of a resolved policy. It takes no memory.
 
 ghost use Rattle.std.specs.Prelude.{◌≡◌, ◌<◌, ◌↔◌, false, Some, IfNone, IfSome, IsTrue, [], length, slice_get, slice_index_or, option_map};
-ghost use Rattle.cil_resolve.specs.Common.{list_all, prefix_len, option_and_then, has_name, name_cmp, names_rise, is_rule_below, element_of, resolved_target_of, meaning_in, name_in, sets_in};
+ghost use Rattle.cil_resolve.specs.Common.{list_all, prefix_len, option_and_then, has_name, name_cmp, names_rise, is_rule_below, is_written_below, keeps_no_list, leaves, element_of, resolved_target_of, meaning_in, name_in, sets_in};
 ghost use Rattle.std.specs.Ordering.{is_lt};
 ghost use Rattle.cil_resolve.specs.Views.{declared_seen, class_seen, class_head, element_seen, resolved_target_seen, rule_seen, rule_head, set_seen, set_head};
 
@@ -268,16 +268,16 @@ impl<A: Allocator> Resolved<A> {
             source: self.element(rule.source),
             target: self.aim(rule.target),
             class: self.name(rule.class),
-            permissions: rule.permissions.as_slice().len(),
+            permissions: rule.named_permissions().len(),
         })
     }
 
-    /// A permission of the rule at a place.
+    /// A permission that the rule at a place names.
     pub fn rule_permission(&self, i: usize, k: usize) -> Option<&[u8]>
-        ensures { option_map (λ name. name.now) result ≡ option_and_then (λ r. slice_get r.permissions k) (slice_get (meaning_in self.now).rules i) }
+        ensures { option_map (λ name. name.now) result ≡ option_and_then (λ r. slice_get (leaves r.permissions) k) (slice_get (meaning_in self.now).rules i) }
     {
         let rule = self.rules.get(i)?;
-        let permission = rule.permissions.as_slice().get(k)?;
+        let permission = rule.named_permissions().get(k)?;
         Some(self.name(*permission))
     }
 
@@ -304,6 +304,8 @@ impl<A: Allocator> Resolved<A> {
     pub fn rules(&self) -> &[NumberedRule<A>]
         ensures rules { result.now ≡ self.now.rules.items }
         ensures within { IsTrue (list_all (is_rule_below (length self.now.names.items)) result.now) }
+        ensures written { IsTrue (list_all (is_written_below (length self.now.names.items)) result.now) }
+        ensures no_lists { IsTrue (list_all keeps_no_list result.now) }
     {
         &self.rules
     }

@@ -1,3 +1,3 @@
 pub mod LineLemmas
-pub mod ListedLemmas
+pub mod PermitLemmas
 pub mod NamedLemmas

@@ -1,5 +1,5 @@
 -- What rules give, by symbols and by full names.
-use Rattle.std.proofs.Common.{◌≡◌, ℕ, zero, suc, ◌<◌, ◌≤◌, ◌==◌, ◌&&◌, ◌||◌, Bool, true, false, bytes_eq, length, map, List, [], ◌∷◌, nat_lt, slice_get, slice_index, slice_index_or, Some, refl, sym, ap, ◌∙◌, subst, inl, inr, arith, true≢false}
+use Rattle.std.proofs.Common.{◌≡◌, ℕ, zero, suc, ◌<◌, ◌≤◌, ◌==◌, ◌&&◌, ◌||◌, ◌⊎◌, Bool, true, false, bytes_eq, length, map, List, [], ◌∷◌, nat_lt, slice_get, slice_index, slice_index_or, Some, refl, sym, ap, ◌∙◌, subst, inl, inr, arith, true≢false}
 use Rattle.std.specs.List.{list_any, list_all}
 use Rattle.std.proofs.Math.Bool.{and-false}
 use Rattle.std.proofs.lemmas.Bool.{cases_Bool, cases_lt, eq-eqb, eqb-true, ltb-true, lt-ltb, ne_eqb}
@@ -7,7 +7,7 @@ use Rattle.std.proofs.lemmas.List.{length-map}
 use Rattle.std.proofs.lemmas.Option.{slice_get_within, get_or_from_slice_get, slice_get-get_or}
 use Rattle.std.proofs.lemmas.Slice.Eq.{bytes_eq-Decides}
 use Rattle.cil_bind.proofs.DeclareLemmas.{same-bool}
-use Rattle.cil_specs.specs.Meaning.{aims, gives, holds, keeps_type, Meaning}
+use Rattle.cil_specs.specs.Meaning.{aims, gives, holds, keeps_type, permits, Meaning}
 use Rattle.cil_specs.specs.Members.{is_member, keeps_element}
 use Rattle.cil_specs.specs.Rule as spec
 use Rattle.cil_specs.specs.Rule.{Declared}
@@ -18,7 +18,7 @@ use Rattle.cil_keyed_lines.specs.Keyed.{is_kind}
 use Rattle.cil_keyed_lines.specs.declared.symbol_key.SymbolKey.{SymbolKey}
 use Rattle.cil_resolve.specs.Below.{is_element_below, is_rule_below, is_target_below}
 use Rattle.cil_resolve.specs.Consistent.{is_aim_of, is_declared, is_element_of, is_rule_of}
-use Rattle.cil_resolve.specs.Numbers.{element_of, resolved_target_of, rule_of}
+use Rattle.cil_resolve.specs.Numbers.{element_of, resolved_target_of, rule_of, GivesNumbered}
 use Rattle.cil_resolve.specs.Resolved.{meaning_in}
 use Rattle.cil_resolve.specs.Sets.{name_in}
 use Rattle.cil_resolve.specs.declared.numbered.NumberedRule.{NumberedRule}
@@ -26,7 +26,7 @@ use Rattle.cil_resolve.specs.declared.numbered.ResolvedTarget.{ResolvedTarget}
 use Rattle.cil_resolve.specs.declared.numbered.ResolvedTarget.TheVariants as targets
 use Rattle.cil_resolve.specs.declared.resolved.Resolved.{Resolved}
 use Rattle.cil_rule_reach.specs.Named.{atom_of, is_named, name_at, AreMembersOf}
-use Rattle.cil_rule_reach.specs.Reaches.{aims_by, covers_by, has_by}
+use Rattle.cil_rule_reach.specs.Reaches.{aims_by, covers_by, has_by, permits_by}
 
 and-first : (a b : Bool) → (a && b) ≡ true → a ≡ true
 and-first true b e = refl
@@ -40,9 +40,6 @@ and-second false false e = e
 and-again : (a b c : Bool) → ((a && b) && c) ≡ (a && (b && c))
 and-again true b c = refl
 and-again false b c = refl
-
-eqb-turned : (a b : ℕ) → (a == b) ≡ (b == a)
-eqb-turned a b = same-bool (a == b) (b == a) (λ e. eq-eqb b a (sym (eqb-true a b e))) (λ e. eq-eqb a b (sym (eqb-true b a e)))
 
 turned : (xs ys : List ℕ) → bytes_eq xs ys ≡ bytes_eq ys xs
 turned xs ys =
@@ -156,35 +153,48 @@ module _ {A : Type 0} (r : Resolved A) (all : List (List ℕ)) (symbols : List �
         has-named element t below (element-kept (meaning_in r) (element_of r.names.items element) declared) t_within
 
     listed-named : (p : ℕ) (ps : List ℕ) → p < length all → list_all (λ q. nat_lt q count) ps ≡ true
-        → list_any (λ q. p == slice_index symbols q) ps ≡ list_any (bytes_eq (name_at all p)) (map (λ q. slice_index_or r.names.items q []) ps)
+        → list_any (λ q. slice_index symbols q == p) ps ≡ list_any (bytes_eq (name_at all p)) (map (λ q. slice_index_or r.names.items q []) ps)
     listed-named p [] within below = refl
     listed-named p (q ∷ ps) within below =
         let low = ltb-true q count (and-first (nat_lt q count) (list_all (λ k. nat_lt k count) ps) below) in
-        ap (λ b. b || list_any (λ k. p == slice_index symbols k) ps) (eqb-turned p (slice_index symbols q) ∙ same-symbol q p low within ∙ turned (name_in r q) (name_at all p))
+        ap (λ b. b || list_any (λ k. slice_index symbols k == p) ps) (same-symbol q p low within ∙ turned (name_in r q) (name_at all p))
         ∙ ap (λ b. bytes_eq (name_at all p) (name_in r q) || b) (listed-named p ps within (and-second (nat_lt q count) (list_all (λ k. nat_lt k count) ps) below))
 
-    listed-none : (p : ℕ) (ps : List ℕ) → length all ≤ p → list_all (λ q. nat_lt q count) ps ≡ true → list_any (λ q. p == slice_index symbols q) ps ≡ false
+    listed-none : (p : ℕ) (ps : List ℕ) → length all ≤ p → list_all (λ q. nat_lt q count) ps ≡ true → list_any (λ q. slice_index symbols q == p) ps ≡ false
     listed-none p [] past below = refl
     listed-none p (q ∷ ps) past below =
         let low = ltb-true q count (and-first (nat_lt q count) (list_all (λ k. nat_lt k count) ps) below) in
-        ap (λ b. b || list_any (λ k. p == slice_index symbols k) ps) (eqb-turned p (slice_index symbols q) ∙ no-symbol q p low past) ∙ listed-none p ps past (and-second (nat_lt q count) (list_all (λ k. nat_lt k count) ps) below)
+        ap (λ b. b || list_any (λ k. slice_index symbols k == p) ps) (no-symbol q p low past) ∙ listed-none p ps past (and-second (nat_lt q count) (list_all (λ k. nat_lt k count) ps) below)
+
+    -- what a rule permits by symbols, it permits by names
+    pub permits-named : (rule : NumberedRule A) (c p : ℕ) → is_rule_below count rule ≡ true → GivesNumbered (meaning_in r) r.modules.items r.names.items rule → c < length all → p < length all
+        → permits_by symbols rule c p ≡ permits (meaning_in r) (rule_of r.modules.items r.names.items rule) (name_at all c) (name_at all p)
+    permits-named rule c p below given class_within permission_within =
+        let bound = is-below r rule below in
+        ap (λ b. b && list_any (λ q. slice_index symbols q == p) rule.permissions) (same-symbol rule.class c bound.class class_within)
+        ∙ ap (λ b. bytes_eq (name_in r rule.class) (name_at all c) && b) (listed-named p rule.permissions permission_within bound.permissions)
+        ∙ sym (given (name_at all c) (name_at all p))
+
+    -- and it permits nothing by symbols that are those of no names
+    permits-none : (rule : NumberedRule A) (c p : ℕ) → is_rule_below count rule ≡ true → (length all ≤ c) ⊎ (length all ≤ p) → permits_by symbols rule c p ≡ false
+    permits-none rule c p below (inl past) = ap (λ b. b && list_any (λ q. slice_index symbols q == p) rule.permissions) (no-symbol rule.class c (is-below r rule below).class past)
+    permits-none rule c p below (inr past) =
+        ap (λ b. (slice_index symbols rule.class == c) && b) (listed-none p rule.permissions past (is-below r rule below).permissions) ∙ and-false (slice_index symbols rule.class == c)
 
     -- what a rule gives by symbols, it gives by names
     pub covers-named : (rule : NumberedRule A) (key : SymbolKey) (t : ℕ) → is_rule_below count rule ≡ true
         → is_rule_of (meaning_in r).types (meaning_in r).attributes (meaning_in r).classes (rule_of r.modules.items r.names.items rule) ≡ true
-        → is_named all key t ≡ true
+        → GivesNumbered (meaning_in r) r.modules.items r.names.items rule → is_named all key t ≡ true
         → covers_by members symbols rule key t ≡ gives (meaning_in r) (rule_of r.modules.items r.names.items rule) (atom_of all key t)
     unfolding covers_by
-    covers-named rule key t below declared named =
+    covers-named rule key t below declared given named =
         ap (λ b. is_kind rule.kind key.kind && b)
-        (ap (λ b. (b && aims_by members symbols rule.target key.source t) && ((slice_index symbols rule.class == key.class) && list_any (λ p. key.permission == slice_index symbols p) rule.permissions))
+        (ap (λ b. (b && aims_by members symbols rule.target key.source t) && permits_by symbols rule key.class key.permission)
         (has-named rule.source key.source bound.source (element-kept (meaning_in r) whole.source source_declared) source_within)
-        ∙ ap (λ b. (holds (meaning_in r) whole.source (name_at all key.source) && b) && ((slice_index symbols rule.class == key.class) && list_any (λ p. key.permission == slice_index symbols p) rule.permissions))
+        ∙ ap (λ b. (holds (meaning_in r) whole.source (name_at all key.source) && b) && permits_by symbols rule key.class key.permission)
         (aims-named rule.target key.source t bound.target target_declared source_within target_within)
-        ∙ ap (λ b. (holds (meaning_in r) whole.source (name_at all key.source) && aims (meaning_in r) whole.target (name_at all key.source) (name_at all t)) && (b && list_any (λ p. key.permission == slice_index symbols p) rule.permissions))
-        (same-symbol rule.class key.class bound.class class_within)
-        ∙ ap (λ b. (holds (meaning_in r) whole.source (name_at all key.source) && aims (meaning_in r) whole.target (name_at all key.source) (name_at all t)) && (bytes_eq whole.the_class (name_at all key.class) && b))
-        (listed-named key.permission rule.permissions permission_within bound.permissions)
+        ∙ ap (λ b. (holds (meaning_in r) whole.source (name_at all key.source) && aims (meaning_in r) whole.target (name_at all key.source) (name_at all t)) && b)
+        (permits-named rule key.class key.permission below given class_within permission_within)
         ∙ and-again (holds (meaning_in r) whole.source (name_at all key.source)) (aims (meaning_in r) whole.target (name_at all key.source) (name_at all t)) _)
       where
         whole : spec.Rule
@@ -223,20 +233,15 @@ module _ {A : Type 0} (r : Resolved A) (all : List (List ℕ)) (symbols : List �
     covers-none rule key t below unnamed =
         ap (λ b. is_kind rule.kind key.kind && b)
         (elim (cases_lt key.source (length all)) [
-          | inr past ↦ ap (λ b. (b && aims_by members symbols rule.target key.source t) && ((slice_index symbols rule.class == key.class) && list_any (λ p. key.permission == slice_index symbols p) rule.permissions)) (has-none rule.source key.source bound.source past)
+          | inr past ↦ ap (λ b. (b && aims_by members symbols rule.target key.source t) && permits_by symbols rule key.class key.permission) (has-none rule.source key.source bound.source past)
           | inl source_low ↦ elim (cases_lt t (length all)) [
             | inr past ↦
-                ap (λ b. (has_by members symbols rule.source key.source && b) && ((slice_index symbols rule.class == key.class) && list_any (λ p. key.permission == slice_index symbols p) rule.permissions)) (aims-none rule.target key.source t bound.target source_low past)
-                ∙ ap (λ b. b && ((slice_index symbols rule.class == key.class) && list_any (λ p. key.permission == slice_index symbols p) rule.permissions)) (and-false (has_by members symbols rule.source key.source))
+                ap (λ b. (has_by members symbols rule.source key.source && b) && permits_by symbols rule key.class key.permission) (aims-none rule.target key.source t bound.target source_low past)
+                ∙ ap (λ b. b && permits_by symbols rule key.class key.permission) (and-false (has_by members symbols rule.source key.source))
             | inl target_low ↦ elim (cases_lt key.class (length all)) [
-              | inr past ↦
-                  ap (λ b. (has_by members symbols rule.source key.source && aims_by members symbols rule.target key.source t) && (b && list_any (λ p. key.permission == slice_index symbols p) rule.permissions)) (no-symbol rule.class key.class bound.class past)
-                  ∙ and-false (has_by members symbols rule.source key.source && aims_by members symbols rule.target key.source t)
+              | inr past ↦ unpermitted (inl past)
               | inl class_low ↦ elim (cases_lt key.permission (length all)) [
-                | inr past ↦
-                    ap (λ b. (has_by members symbols rule.source key.source && aims_by members symbols rule.target key.source t) && ((slice_index symbols rule.class == key.class) && b)) (listed-none key.permission rule.permissions past bound.permissions)
-                    ∙ ap (λ b. (has_by members symbols rule.source key.source && aims_by members symbols rule.target key.source t) && b) (and-false (slice_index symbols rule.class == key.class))
-                    ∙ and-false (has_by members symbols rule.source key.source && aims_by members symbols rule.target key.source t)
+                | inr past ↦ unpermitted (inr past)
                 | inl permission_low ↦ absurd (true≢false (sym (all-named source_low target_low class_low permission_low) ∙ unnamed))
               ]
             ]
@@ -245,6 +250,12 @@ module _ {A : Type 0} (r : Resolved A) (all : List (List ℕ)) (symbols : List �
       where
         bound : IsBelow r rule
         bound = is-below r rule below
+
+        reached : Bool
+        reached = has_by members symbols rule.source key.source && aims_by members symbols rule.target key.source t
+
+        unpermitted : (length all ≤ key.class) ⊎ (length all ≤ key.permission) → (reached && permits_by symbols rule key.class key.permission) ≡ false
+        unpermitted past = ap (λ b. reached && b) (permits-none rule key.class key.permission below past) ∙ and-false reached
 
         aims-none : (target : ResolvedTarget) (s u : ℕ) → is_target_below count target ≡ true → s < length all → length all ≤ u → aims_by members symbols target s u ≡ false
         aims-none targets.Itself s u low within past = ne_eqb s u (λ e. omega (arith, within, past, e))

@@ -32,8 +32,15 @@ abbrev pub aims_by : (ℕ → ℕ → ℕ) → List ℕ → ResolvedTarget → �
 aims_by members symbols aims.Itself s t = s == t
 aims_by members symbols (aims.Element element) s t = has_by members symbols element t
 
+-- whether a rule permits a permission of a class
+abbrev pub permits_by : {A : Type 0} → List ℕ → NumberedRule A → ℕ → ℕ → Bool
+permits_by symbols rule class permission = (slice_index symbols rule.class == class) && list_any (λ p. slice_index symbols p == permission) rule.permissions
+
+-- whether it reaches a target from a source
+abbrev pub reaches_by : {A : Type 0} → (ℕ → ℕ → ℕ) → List ℕ → NumberedRule A → ℕ → ℕ → Bool
+reaches_by members symbols rule s t = has_by members symbols rule.source s && aims_by members symbols rule.target s t
+
 -- whether a rule gives an access, by its kind and the symbols of its names
 unfoldable pub covers_by : {A : Type 0} → (ℕ → ℕ → ℕ) → List ℕ → NumberedRule A → SymbolKey → ℕ → Bool
 covers_by members symbols rule key t = is_kind rule.kind key.kind
-    && ((has_by members symbols rule.source key.source && aims_by members symbols rule.target key.source t)
-    && ((slice_index symbols rule.class == key.class) && list_any (λ p. key.permission == slice_index symbols p) rule.permissions))
+    && (reaches_by members symbols rule key.source t && permits_by symbols rule key.class key.permission)

@@ -1,11 +1,11 @@
-//! What the rules of a policy reach, by numbers of names that stay.
+//! What the rules of a policy reach and permit, by numbers of names that stay.
 #![tactic(auto)]
 
 mod lines;
-mod permissions;
+mod permits;
 mod reaching;
 mod symbol_members;
 
-pub use permissions::{permission_symbols, symbol_of};
+pub use permits::{rule_permits, symbol_of};
 pub use reaching::rule_reach;
 pub use symbol_members::{SymbolMembers, When};

@@ -6,7 +6,7 @@ ghost use Rattle.cil_rule_shifts.specs.Reach.{has_source, is_present, takes, Are
 ghost use Rattle.cil_rule_reach.specs.Reaches.{aims_by, has_by, members_of};
 
 use crate::lines::{members_line, type_line};
-use crate::permissions::symbol_of;
+use crate::permits::symbol_of;
 use crate::symbol_members::SymbolMembers;
 use cil_lines::Line;
 use cil_resolve::{Element, NumberedRule, ResolvedTarget};

@@ -4,11 +4,14 @@ unfoldable pub use Rattle.cil_keyed_lines.specs.Keyed.{hit_of}
 pub use Rattle.cil_keyed_lines.specs.declared.symbol_key.SymbolKey.{SymbolKey}
 pub use Rattle.cil_lines.proofs.StepLemmas.{hit-here, hit-none, hit-there}
 pub use Rattle.cil_lines.specs.Line.{Counters, IsNextPresent, IsPresence, NonePresent, count_of, hit}
-pub use Rattle.cil_rule_shifts.specs.Moves.{AreSame, AreTurned, AreTurnedForAll, HasNone, differs, goes_over, has_either, has_word, moves_for, moves_in, moves_of, moves_where, turns}
+pub use Rattle.cil_rule_shifts.specs.Moves.{AreSame, AreTurned, AreTurnedForAll, HasNone, differs, goes_over, has_either, has_number, has_word, moves_for, moves_from, moves_in, moves_of, moves_where, turns}
+pub use Rattle.cil_rule_shifts.specs.Permits.{AreInOrder, has_permit, is_permit, permit_cmp}
 pub use Rattle.cil_rule_shifts.specs.Pieces.{AreApart, ArePieces, has_target, hits_of, put_for, put_in}
-pub use Rattle.cil_rule_shifts.specs.Reach.{AreShort, IsMask, IsNext, IsNextWord, IsShort, NoneFrom, NoneFromWord, gives, has_head, has_permission, has_source, is_line, one_if, reaches}
+pub use Rattle.cil_rule_shifts.specs.Reach.{AreShort, IsGrant, IsMask, IsNext, IsNextWord, IsShort, NoneFrom, NoneFromWord, gives, grants, has_head, has_source, head_of, is_line, one_if, reaches}
 unfoldable pub use Rattle.cil_rule_shifts.specs.Reach.{is_present, takes}
+pub use Rattle.cil_rule_shifts.specs.declared.grant.Grant.{Grant}
 pub use Rattle.cil_rule_shifts.specs.declared.head.RuleHead.{RuleHead}
+pub use Rattle.cil_rule_shifts.specs.declared.permit.Permit.{Permit}
 pub use Rattle.cil_rule_shifts.specs.declared.reach.Reach.{Reach}
 pub use Rattle.cil_rule_shifts.specs.declared.targets.Targets.{Targets}
 pub use Rattle.cil_sums.proofs.RiseLemmas.{rises-bits, rises-map, rises-more, rises-none, rises-same, same-from_counts}

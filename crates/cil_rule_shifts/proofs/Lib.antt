@@ -1,6 +1,9 @@
 pub mod Common
 pub mod ReachLemmas
 pub mod ShiftLemmas
+pub mod PermitLemmas
+pub mod OrderedLemmas
+pub mod OtherLemmas
 pub mod MoveLemmas
 pub mod TurnedLemmas
 pub mod PieceLemmas

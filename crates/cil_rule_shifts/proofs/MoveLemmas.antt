@@ -1,9 +1,11 @@
--- How many counters move, word by word, permission by permission and source by source.
-use Rattle.cil_rule_shifts.proofs.Common.{◌≡◌, ℕ, ◌+◌, ◌*◌, ◌/◌, ◌%◌, ◌^◌, ◌<◌, ◌==◌, ◌&&◌, ◌||◌, ◌-◌, Bool, true, false, nat_lt, List, length, take, get_or, max, min, bit_xor, count_ones, refl, sym, ap, ◌∙◌, inl, inr, arith, true≢false, bit_at, IsStrictlyIncreasing, cases_eq, cases_lt, eq-eqb, le-ltb, ne_eqb, eqb-true, bit_at_above, bit_at_xor, hit, hit-here, hit-there, is_key, SymbolKey, differs, has_either, has_word, moves_for, moves_in, moves_of, moves_where, turns, AreSame, AreTurned, gives, has_head, has_source, is_line, one_if, reaches, takes, IsNext, NoneFrom, RuleHead, Reach, Targets, RisesBy, rises-bits, rises-map, rises-more, rises-none, rises-same, same-from_counts}
+-- How many counters move, word by word, permit by permit and source by source.
+use Rattle.cil_rule_shifts.proofs.Common.{◌≡◌, ℕ, ◌+◌, ◌*◌, ◌/◌, ◌%◌, ◌^◌, ◌<◌, ◌==◌, ◌&&◌, ◌||◌, ◌-◌, Bool, true, false, nat_lt, List, [], ◌∷◌, length, take, get_or, max, min, bit_xor, count_ones, refl, sym, ap, ◌∙◌, inl, inr, arith, true≢false, bit_at, cases_eq, cases_lt, eq-eqb, le-ltb, ne_eqb, eqb-true, bit_at_above, bit_at_xor, hit, hit-here, hit-there, is_key, is_kind, SymbolKey, differs, has_either, has_word, moves_for, moves_in, moves_of, moves_where, turns, AreSame, AreTurned, gives, has_head, has_permit, has_source, is_line, one_if, reaches, takes, AreInOrder, IsNext, NoneFrom, Permit, RuleHead, Reach, Targets, RisesBy, rises-bits, rises-map, rises-more, rises-none, rises-same, same-from_counts}
+use Rattle.std.proofs.Math.Bool.{and-false}
 use Rattle.std.proofs.lemmas.Nat.{xor_lt}
 use Rattle.cil_keyed_lines.proofs.KeyedLemmas.{key_itself, one_key}
+use Rattle.cil_rule_shifts.proofs.PermitLemmas.{first, head-more, of_head}
 use Rattle.cil_rule_shifts.proofs.ReachLemmas.{no-first, no-second}
-use Rattle.cil_rule_shifts.proofs.ShiftLemmas.{first, head-more, line-more, of_head, same-either-way, source-all, source-gives, source-more}
+use Rattle.cil_rule_shifts.proofs.ShiftLemmas.{line-more, same-either-way, source-all, source-gives, source-more}
 
 -- a bit that either mask has, and one in which they differ
 pub bit-either : (x y : ℕ) (f g : Bool) → x ≡ one_if f → y ≡ one_if g → max x y ≡ one_if (f || g)
@@ -100,7 +102,7 @@ module _ {A : Type 0} (key : SymbolKey) (was is : Targets A) (words : List ℕ) 
       let hits : (t : ℕ) → hit word mask t ≡ one_if ((t / 64 == word) && f t) = λ t. hit-differs word gone come t (takes was key.source t) (takes is key.source t) (gone_hits t) (come_hits t) in
       rises-more (moves_in_words key was is (take i words)) (λ p. is_key key p.0 && ((p.1 / 64 == word) && f p.1)) (moves_in_words key was is (take (i + 1) words))
       (λ p. ap (λ n. one_if (moves_in_words key was is (take i words) p) + n) (regrouped (is_key key p.0) (f p.1) (p.1 / 64) word)
-      ∙ line-more words turned.rising i word within refl (is_key key p.0) true (f p.1) (p.1 / 64)) 0 count (count_ones mask) after moved
+      ∙ line-more words turned.rising i word within refl (is_key key p.0) (f p.1) (p.1 / 64)) 0 count (count_ones mask) after moved
       (word-count key word mask f (xor_lt 64 gone come gone_fits come_fits) hits) (omega (arith, sum, counted))
     where
       regrouped : (b w : Bool) (n word : ℕ) → one_if (b && ((n == word) && w)) ≡ one_if ((b && (word == n)) && w)
@@ -117,18 +119,32 @@ module _ {A : Type 0} (key : SymbolKey) (was is : Targets A) (words : List ℕ) 
       by true true w rest = refl
       by true false w rest = sym (rest refl)
 
-module _ {A : Type 0} (source : ℕ) (head : RuleHead) (rising : IsStrictlyIncreasing head.permissions.now) (was is : Targets A) (i count : ℕ) where
-  -- one permission more
-  pub lines-step : (here after : ℕ) → i < length head.permissions.now → RisesBy (moves_for source (first i head) was is) 0 count
-      → RisesBy (moves_in (of_head source head (get_or head.permissions.now i 0)) was is) 0 here → after ≡ min (count + here) (2 ^ 128 - 1)
+module _ {A : Type 0} (source : ℕ) (head : RuleHead) (ordered : AreInOrder head.permits.now) (was is : Targets A) (i count : ℕ) (d : Permit) where
+  -- one permit more
+  pub lines-step : (here after : ℕ) → i < length head.permits.now → RisesBy (moves_for source (first i head) was is) 0 count
+      → RisesBy (moves_in (of_head source head (get_or head.permits.now i d)) was is) 0 here → after ≡ min (count + here) (2 ^ 128 - 1)
       → RisesBy (moves_for source (first (i + 1) head) was is) 0 after
   lines-step here after within =
-      rises-more (moves_for source (first i head) was is) (moves_in (of_head source head (get_or head.permissions.now i 0)) was is) (moves_for source (first (i + 1) head) was is)
-      (λ p. head-more source head rising i (get_or head.permissions.now i 0) within refl p.0 (turns was is source p.1)) 0 count here after
+      rises-more (moves_for source (first i head) was is) (moves_in (of_head source head (get_or head.permits.now i d)) was is) (moves_for source (first (i + 1) head) was is)
+      (λ p. head-more source head ordered i d within p.0 (turns was is source p.1)) 0 count here after
 
 -- a rule gives nothing to what is no source of it
 pub gives-none : {A : Type 0} (reach : Reach A) (head : RuleHead) (p : SymbolKey × ℕ) → has_source reach p.0.source ≡ false → gives reach head p.0 p.1 ≡ false
 gives-none reach head p none = ap (λ b. (b && takes reach.targets p.0.source p.1) && has_head head p.0) none
+
+-- nor does it give anything by no permits
+no-permits : (permits : List Permit) (c q : ℕ) → length permits ≡ 0 → has_permit permits c q ≡ false
+no-permits [] c q none = refl
+no-permits (permit ∷ permits) c q none = absurd (omega (arith, none))
+
+gives-nothing : {A : Type 0} (reach : Reach A) (head : RuleHead) (p : SymbolKey × ℕ) → length head.permits.now ≡ 0 → gives reach head p.0 p.1 ≡ false
+gives-nothing reach head p none =
+    ap (λ b. reaches reach p.0.source p.1 && (is_kind head.kind p.0.kind && b)) (no-permits head.permits.now p.0.class p.0.permission none)
+    ∙ ap (λ b. reaches reach p.0.source p.1 && b) (and-false (is_kind head.kind p.0.kind)) ∙ and-false (reaches reach p.0.source p.1)
+
+pub none-move : {A : Type 0} (was is : Reach A) (head : RuleHead) → length head.permits.now ≡ 0 → RisesBy (moves_where was is head) 0 0
+none-move was is head none =
+    rises-none (moves_where was is head) 0 (λ p. differs-none (gives was head p.0 p.1) (gives is head p.0 p.1) (gives-nothing was head p none) (gives-nothing is head p none))
 
 -- the counters that move in the lines of the sources below one
 abbrev pub moves_up_to : {A : Type 0} → Reach A → Reach A → RuleHead → ℕ → SymbolKey × ℕ → Bool

@@ -1,13 +1,14 @@
 -- The targets of a source word by word, and the counters that rise by them.
-use Rattle.cil_rule_shifts.proofs.Common.{◌≡◌, ℕ, zero, suc, ◌+◌, ◌-◌, ◌/◌, ◌^◌, ◌<◌, ◌≤◌, ◌==◌, ◌&&◌, ◌||◌, ◌++◌, Bool, true, false, cond, nat_lt, List, [], ◌∷◌, length, take, get_or, min, count_ones, refl, sym, ap, ◌∙◌, subst, inl, inr, arith, true≢false, IsStrictlyIncreasing, cases_lt, le-ltb, hit, is_key, SymbolKey, has_either, has_target, hits_of, put_for, put_in, AreApart, gives, has_source, is_line, one_if, takes, AreShort, IsNext, IsNextWord, NoneFrom, NoneFromWord, RuleHead, Reach, Targets, RisesBy, rises-more, rises-none, rises-same, same-from_counts}
+use Rattle.cil_rule_shifts.proofs.Common.{◌≡◌, ℕ, zero, suc, ◌+◌, ◌-◌, ◌/◌, ◌^◌, ◌<◌, ◌≤◌, ◌==◌, ◌&&◌, ◌||◌, ◌++◌, Bool, true, false, cond, nat_lt, List, [], ◌∷◌, length, take, get_or, min, count_ones, refl, sym, ap, ◌∙◌, subst, inl, inr, arith, true≢false, cases_lt, le-ltb, hit, is_key, SymbolKey, has_either, has_target, hits_of, put_for, put_in, AreApart, gives, has_source, is_line, one_if, takes, AreShort, AreInOrder, IsNext, IsNextWord, NoneFrom, NoneFromWord, Permit, RuleHead, Reach, Targets, RisesBy, rises-more, rises-none, rises-same, same-from_counts}
 use Rattle.std.specs.List.{All}
 use Rattle.std.proofs.Math.Bool.{and-false}
 use Rattle.std.proofs.lemmas.List.{take_more}
 use Rattle.std.proofs.lemmas.List.Elements.{All-append}
 use Rattle.cil_rule_shifts.specs.declared.pieces.Piece.{Piece}
 use Rattle.cil_rule_shifts.proofs.MoveLemmas.{gives-none, word-count}
+use Rattle.cil_rule_shifts.proofs.PermitLemmas.{first, head-more, of_head}
 use Rattle.cil_rule_shifts.proofs.ReachLemmas.{no-second}
-use Rattle.cil_rule_shifts.proofs.ShiftLemmas.{first, head-more, of_head, same-either-way, source-all, source-gives, source-more}
+use Rattle.cil_rule_shifts.proofs.ShiftLemmas.{same-either-way, source-all, source-gives, source-more}
 
 -- one piece more
 pub hits-push : (pieces : List Piece) (piece : Piece) (t : ℕ) → hits_of (pieces ++ piece ∷ []) t ≡ hits_of pieces t + hit piece.word piece.mask t
@@ -121,13 +122,13 @@ short-word targets source from word short fits next =
       | inr high ↦ absurd (true≢false (sym is ∙ short source t fits high))
     ]
 
--- one permission more
-pub put-step : (source : ℕ) (head : RuleHead) (pieces : List Piece) (i count here after : ℕ) → IsStrictlyIncreasing head.permissions.now → i < length head.permissions.now
-    → RisesBy (put_for source (first i head) pieces) 0 count → RisesBy (put_in (of_head source head (get_or head.permissions.now i 0)) pieces) 0 here
+-- one permit more
+pub put-step : (source : ℕ) (head : RuleHead) (pieces : List Piece) (i : ℕ) (d : Permit) (count here after : ℕ) → AreInOrder head.permits.now → i < length head.permits.now
+    → RisesBy (put_for source (first i head) pieces) 0 count → RisesBy (put_in (of_head source head (get_or head.permits.now i d)) pieces) 0 here
     → after ≡ min (count + here) (2 ^ 128 - 1) → RisesBy (put_for source (first (i + 1) head) pieces) 0 after
-put-step source head pieces i count here after rising within =
-    rises-more (put_for source (first i head) pieces) (put_in (of_head source head (get_or head.permissions.now i 0)) pieces) (put_for source (first (i + 1) head) pieces)
-    (λ p. head-more source head rising i (get_or head.permissions.now i 0) within refl p.0 (has_target pieces p.1)) 0 count here after
+put-step source head pieces i d count here after ordered within =
+    rises-more (put_for source (first i head) pieces) (put_in (of_head source head (get_or head.permits.now i d)) pieces) (put_for source (first (i + 1) head) pieces)
+    (λ p. head-more source head ordered i d within p.0 (has_target pieces p.1)) 0 count here after
 
 -- the accesses of the sources below one
 abbrev pub put_up_to : {A : Type 0} → Reach A → RuleHead → ℕ → SymbolKey × ℕ → Bool

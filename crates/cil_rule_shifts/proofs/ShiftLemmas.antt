@@ -1,9 +1,8 @@
--- Counters moved word by word, permission by permission and source by source.
-use Rattle.cil_rule_shifts.proofs.Common.{◌≡◌, ℕ, zero, suc, ◌+◌, ◌-◌, ◌^◌, ◌/◌, ◌%◌, ◌<◌, ◌≤◌, ◌==◌, ◌&&◌, ◌||◌, Bool, true, false, cond, nat_lt, nat_eq, List, [], ◌∷◌, length, take, get_or, refl, sym, ap, ◌∙◌, subst, inl, inr, arith, le_of_eq, true≢false, bit_and, add-zero, zero-add, IsStrictlyIncreasing, cases_eq, cases_lt, eq-eqb, ne_eqb, eqb-true, lt-ltb, le-ltb, bit_at_and, hit, hit-here, hit-there, hit_of, is_key, is_kind, SymbolKey, differs, has_either, has_word, gives, has_head, has_permission, has_source, is_line, one_if, takes, IsNext, IsShort, RuleHead, Reach, Targets}
-use Rattle.std.proofs.lemmas.List.Folds.{list_any_at, list_any_more}
+-- Counters moved word by word, permit by permit and source by source.
+use Rattle.cil_rule_shifts.proofs.Common.{◌≡◌, ℕ, zero, suc, ◌+◌, ◌-◌, ◌^◌, ◌/◌, ◌%◌, ◌<◌, ◌≤◌, ◌==◌, ◌&&◌, ◌||◌, Bool, true, false, cond, nat_lt, nat_eq, List, [], ◌∷◌, length, take, get_or, refl, sym, ap, ◌∙◌, subst, inl, inr, arith, le_of_eq, true≢false, bit_and, add-zero, zero-add, IsStrictlyIncreasing, cases_eq, cases_lt, eq-eqb, ne_eqb, eqb-true, lt-ltb, le-ltb, bit_at_and, hit, hit-here, hit-there, hit_of, is_key, SymbolKey, differs, has_either, has_word, gives, has_head, has_number, has_source, is_line, one_if, takes, IsNext, IsShort, RuleHead, Reach, Targets}
+use Rattle.std.proofs.lemmas.List.Folds.{list_any_more}
 use Rattle.std.specs.List.{list_any}
 use Rattle.std.proofs.lemmas.List.Kept.{AllPairs-from_increasing}
-use Rattle.cil_keyed_lines.proofs.KeyedLemmas.{kind_itself}
 use Rattle.cil_rule_shifts.proofs.ReachLemmas.{and-no}
 
 -- two numbers are the same either way
@@ -34,7 +33,7 @@ hit-less word a b t =
     ]
 
 -- what stands in the front of a list stands in the list
-any-taken : (test : ℕ → Bool) (xs : List ℕ) (n : ℕ) → list_any test (take n xs) ≡ true → list_any test xs ≡ true
+pub any-taken : {A : Type 0} (test : A → Bool) (xs : List A) (n : ℕ) → list_any test (take n xs) ≡ true → list_any test xs ≡ true
 any-taken test [] zero any = any
 any-taken test [] (suc n) any = any
 any-taken test (x ∷ xs) zero any = absurd (true≢false (sym any))
@@ -45,46 +44,44 @@ any-taken test (x ∷ xs) (suc n) any = by (test x) any (any-taken test xs n)
     by false rest behind = behind rest
 
 -- a test that holds where another one does counts as much at least
-one-less : (a b w : Bool) → (a ≡ true → b ≡ true) → one_if (a && w) ≤ one_if (b && w)
+pub one-less : (a b w : Bool) → (a ≡ true → b ≡ true) → one_if (a && w) ≤ one_if (b && w)
 one-less true b w holds = le_of_eq (ap (λ c. one_if (c && w)) (sym (holds refl)))
 one-less false b w holds = omega arith
 
--- a permission that stands in the front of a rising list is below the next
-bounded : (xs : List ℕ) → IsStrictlyIncreasing xs → (i p : ℕ) → i < length xs → has_permission (take i xs) p ≡ true → p < get_or xs i 0
+-- a number that stands in the front of a rising list is below the next
+bounded : (xs : List ℕ) → IsStrictlyIncreasing xs → (i p : ℕ) → i < length xs → has_number (take i xs) p ≡ true → p < get_or xs i 0
 bounded xs rising zero p within any = absurd (true≢false (sym any))
 bounded xs rising (suc i) p within any =
     let next : i + 1 ≡ suc i = omega arith in
     let step : get_or xs i 0 < get_or xs (i + 1) 0 = AllPairs-from_increasing xs rising i (i + 1) 0 (omega arith) (omega (arith, within)) in
-    subst (λ n. p < get_or xs n 0) next (by (has_permission (take i xs) p) refl step (λ front. bounded xs rising i p (omega (arith, within)) front))
+    subst (λ n. p < get_or xs n 0) next (by (has_number (take i xs) p) refl step (λ front. bounded xs rising i p (omega (arith, within)) front))
   where
-    either : (has_permission (take i xs) p || nat_eq p (get_or xs i 0)) ≡ true
-    either = sym (list_any_more (nat_eq p) xs i 0 (omega (arith, within))) ∙ subst (λ n. has_permission (take n xs) p ≡ true) (let next : suc i ≡ i + 1 = omega arith in next) any
+    either : (has_number (take i xs) p || nat_eq p (get_or xs i 0)) ≡ true
+    either = sym (list_any_more (nat_eq p) xs i 0 (omega (arith, within))) ∙ subst (λ n. has_number (take n xs) p ≡ true) (let next : suc i ≡ i + 1 = omega arith in next) any
 
-    by : (b : Bool) → has_permission (take i xs) p ≡ b → get_or xs i 0 < get_or xs (i + 1) 0 → (has_permission (take i xs) p ≡ true → p < get_or xs i 0) → p < get_or xs (i + 1) 0
+    by : (b : Bool) → has_number (take i xs) p ≡ b → get_or xs i 0 < get_or xs (i + 1) 0 → (has_number (take i xs) p ≡ true → p < get_or xs i 0) → p < get_or xs (i + 1) 0
     by true front step less = let low = less front in omega (arith, low, step)
     by false front step less = let same = eqb-true p (get_or xs i 0) (sym (ap (λ b. b || nat_eq p (get_or xs i 0)) front) ∙ either) in omega (arith, same, step)
 
+-- one or the other holds, and not both
+pub either-one : (h e w : Bool) → (e ≡ true → h ≡ false) → one_if (h && w) + one_if (e && w) ≡ one_if ((h || e) && w)
+either-one true true w apart = absurd (true≢false (apart refl))
+either-one true false w apart = add-zero (one_if w)
+either-one false e w apart = zero-add (one_if (e && w))
+
 module _ (xs : List ℕ) (rising : IsStrictlyIncreasing xs) (i p : ℕ) (within : i < length xs) (at : get_or xs i 0 ≡ p) where
   -- the next one doesn't stand in the front
-  new-permission : has_permission (take i xs) p ≡ false
-  new-permission = by (has_permission (take i xs) p) refl
+  new-number : has_number (take i xs) p ≡ false
+  new-number = by (has_number (take i xs) p) refl
     where
-      by : (b : Bool) → has_permission (take i xs) p ≡ b → has_permission (take i xs) p ≡ false
+      by : (b : Bool) → has_number (take i xs) p ≡ b → has_number (take i xs) p ≡ false
       by true front = let low = bounded xs rising i p within front in absurd (omega (arith, low, at))
       by false front = front
 
-  has-next : has_permission xs p ≡ true
-  has-next = list_any_at (nat_eq p) xs i 0 within (ap (nat_eq p) at ∙ eq-eqb p p refl)
-
-  more : (q : ℕ) → has_permission (take (i + 1) xs) q ≡ (has_permission (take i xs) q || (p == q))
+  more : (q : ℕ) → has_number (take (i + 1) xs) q ≡ (has_number (take i xs) q || (p == q))
   more q =
-      list_any_more (nat_eq q) xs i 0 within ∙ ap (λ n. has_permission (take i xs) q || nat_eq q n) at
-      ∙ ap (λ b. has_permission (take i xs) q || b) (same-either-way q p)
-
-  either-one : (h e w : Bool) → (e ≡ true → h ≡ false) → one_if (h && w) + one_if (e && w) ≡ one_if ((h || e) && w)
-  either-one true true w apart = absurd (true≢false (apart refl))
-  either-one true false w apart = add-zero (one_if w)
-  either-one false e w apart = zero-add (one_if (e && w))
+      list_any_more (nat_eq q) xs i 0 within ∙ ap (λ n. has_number (take i xs) q || nat_eq q n) at
+      ∙ ap (λ b. has_number (take i xs) q || b) (same-either-way q p)
 
   -- the targets of the next word that go have counters
   pub above-word : (b : Bool) (gone mask now before t : ℕ) (was is : Bool) → hit p gone t ≡ one_if ((t / 64 == p) && was) → one_if was ≤ before
@@ -92,7 +89,7 @@ module _ (xs : List ℕ) (rising : IsStrictlyIncreasing xs) (i p : ℕ) (within 
   above-word b gone mask now before t was is hits counted moved =
       elim (cases_eq (t / 64) p) [
         | inl same ↦
-            let no : has_word (take i xs) t ≡ false = ap (has_permission (take i xs)) same ∙ new-permission in
+            let no : has_word (take i xs) t ≡ false = ap (has_number (take i xs)) same ∙ new-number in
             let no_was : one_if ((b && has_word (take i xs) t) && was) ≡ 0 = ap (λ c. one_if ((b && c) && was)) no ∙ nothing b was in
             let no_is : one_if ((b && has_word (take i xs) t) && is) ≡ 0 = ap (λ c. one_if ((b && c) && is)) no ∙ nothing b is in
             let hit_was : hit p gone t ≡ one_if was = hits ∙ ap (λ c. one_if (c && was)) (eq-eqb (t / 64) p same) in
@@ -105,90 +102,17 @@ module _ (xs : List ℕ) (rising : IsStrictlyIncreasing xs) (i p : ℕ) (within 
       nothing true w = refl
       nothing false w = refl
 
-  -- the lines of one more permission
-  pub line-more : (s c w : Bool) (q : ℕ) → one_if ((s && (c && has_permission (take i xs) q)) && w) + one_if ((s && (c && (p == q))) && w) ≡ one_if ((s && (c && has_permission (take (i + 1) xs) q)) && w)
-  line-more true true w q =
-      either-one (has_permission (take i xs) q) (p == q) w (λ e. ap (has_permission (take i xs)) (sym (eqb-true p q e)) ∙ new-permission)
+  -- the targets of one more word
+  pub line-more : (b w : Bool) (q : ℕ) → one_if ((b && has_number (take i xs) q) && w) + one_if ((b && (p == q)) && w) ≡ one_if ((b && has_number (take (i + 1) xs) q) && w)
+  line-more true w q =
+      either-one (has_number (take i xs) q) (p == q) w (λ e. ap (has_number (take i xs)) (sym (eqb-true p q e)) ∙ new-number)
       ∙ ap (λ b. one_if (b && w)) (sym (more q))
-  line-more true false w q = refl
-  line-more false c w q = refl
+  line-more false w q = refl
 
-  -- are lines of the whole list
-  line-within : (s c w : Bool) (q : ℕ) → one_if ((s && (c && has_permission (take i xs) q)) && w) + one_if ((s && (c && (p == q))) && w) ≤ one_if ((s && (c && has_permission xs q)) && w)
-  line-within s c w q = let less = one-less (s && (c && has_permission (take (i + 1) xs) q)) (s && (c && has_permission xs q)) w (there s c) in omega (arith, line-more s c w q, less)
-    where
-      there : (s c : Bool) → (s && (c && has_permission (take (i + 1) xs) q)) ≡ true → (s && (c && has_permission xs q)) ≡ true
-      there true true front = any-taken (nat_eq q) xs (i + 1) front
-      there true false front = front
-      there false c front = front
-
--- ---- the head of a rule
-
--- nothing is of no word, nor of no permission
+-- nothing is of no word
 pub no-word : (b w : Bool) → ((b && false) && w) ≡ false
 no-word true w = refl
 no-word false w = refl
-
-no-line : (s b c w : Bool) → ((s && (b && (c && false))) && w) ≡ false
-no-line true true true w = refl
-no-line true true false w = refl
-no-line true false c w = refl
-no-line false b c w = refl
-
--- a head with the first permissions alone
-abbrev pub first : ℕ → RuleHead → RuleHead
-first i head = record head { permissions = record head.permissions { now = take i head.permissions.now } }
-
--- the key of a source's line for a permission
-abbrev pub of_head : ℕ → RuleHead → ℕ → SymbolKey
-of_head source head p = record { kind = head.kind; source = source; class = head.class; permission = p }
-
-pub no-permission : (source : ℕ) (head : RuleHead) (k : SymbolKey) (w : Bool) → (is_line source (first 0 head) k && w) ≡ false
-no-permission source head k w = no-line (source == k.source) (is_kind head.kind k.kind) (head.class == k.class) w
-
-module _ (source : ℕ) (head : RuleHead) (rising : IsStrictlyIncreasing head.permissions.now) (i p : ℕ) (within : i < length head.permissions.now) (at : get_or head.permissions.now i 0 ≡ p) where
-  abbrev xs : List ℕ
-  xs = head.permissions.now
-
-  abbrev key : SymbolKey
-  key = of_head source head p
-
-  -- the lines of one more permission
-  pub head-more : (k : SymbolKey) (w : Bool) → one_if (is_line source (first i head) k && w) + one_if (is_key key k && w) ≡ one_if (is_line source (first (i + 1) head) k && w)
-  head-more k w = by (is_kind head.kind k.kind) (source == k.source)
-    where
-      by : (b s : Bool) → one_if ((s && (b && ((head.class == k.class) && has_permission (take i xs) k.permission))) && w) + one_if ((b && (s && ((head.class == k.class) && (p == k.permission)))) && w)
-          ≡ one_if ((s && (b && ((head.class == k.class) && has_permission (take (i + 1) xs) k.permission))) && w)
-      by true s = line-more xs rising i p within at s (head.class == k.class) w k.permission
-      by false true = refl
-      by false false = refl
-
-  -- are lines of the whole list
-  pub head-within : (k : SymbolKey) (w : Bool) → one_if (is_line source (first i head) k && w) + one_if (is_key key k && w) ≤ one_if (is_line source head k && w)
-  head-within k w = by (is_kind head.kind k.kind) (source == k.source)
-    where
-      by : (b s : Bool) → one_if ((s && (b && ((head.class == k.class) && has_permission (take i xs) k.permission))) && w) + one_if ((b && (s && ((head.class == k.class) && (p == k.permission)))) && w)
-          ≤ one_if ((s && (b && ((head.class == k.class) && has_permission xs k.permission))) && w)
-      by true s = line-within xs rising i p within at s (head.class == k.class) w k.permission
-      by false true = omega arith
-      by false false = omega arith
-
-  is-line : (ps : List ℕ) → ((source == source) && (is_kind head.kind head.kind && ((head.class == head.class) && has_permission ps p))) ≡ has_permission ps p
-  is-line ps =
-      ap (λ b. b && (is_kind head.kind head.kind && ((head.class == head.class) && has_permission ps p))) (eq-eqb source source refl)
-      ∙ ap (λ b. b && ((head.class == head.class) && has_permission ps p)) (kind_itself head.kind)
-      ∙ ap (λ b. b && has_permission ps p) (eq-eqb head.class head.class refl)
-
-  -- what the line of the next permission had has counters
-  pub above-line : (now before : ℕ) (was is : Bool) → one_if (is_line source head key && was) ≤ before
-      → now + one_if (is_line source (first i head) key && was) ≡ before + one_if (is_line source (first i head) key && is) → one_if was ≤ now
-  above-line now before was is counted moved =
-      let here : is_line source head key ≡ true = is-line xs ∙ has-next xs rising i p within at in
-      let not_yet : is_line source (first i head) key ≡ false = is-line (take i xs) ∙ new-permission xs rising i p within at in
-      let no_was : one_if (is_line source (first i head) key && was) ≡ 0 = ap (λ b. one_if (b && was)) not_yet in
-      let no_is : one_if (is_line source (first i head) key && is) ≡ 0 = ap (λ b. one_if (b && is)) not_yet in
-      let all : one_if (is_line source head key && was) ≡ one_if was = ap (λ b. one_if (b && was)) here in
-      omega (arith, no_was, no_is, all, counted, moved)
 
 -- the lines of a source are those of the accesses of the source
 pub source-gives : {A : Type 0} (reach : Reach A) (targets : Targets A) (source : ℕ) (head : RuleHead) (k : SymbolKey) (t : ℕ) → takes targets source t ≡ (has_source reach source && takes reach.targets source t)

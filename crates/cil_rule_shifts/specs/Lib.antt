@@ -1,3 +1,4 @@
+pub mod Permits
 pub mod Reach
 pub mod Moves
 pub mod Pieces

@@ -1,10 +1,13 @@
 -- Which counters move where a rule gives something else than it gave.
-use Rattle.std.specs.Prelude.{◌≡◌, ◌<◌, ◌/◌, ◌^◌, ◌&&◌, ◌||◌, ◌==◌, ℕ, Bool, true, false, List, Option, MatchOption, Vec, length, not, slice_index}
+use Rattle.std.specs.Prelude.{◌≡◌, ◌<◌, ◌/◌, ◌^◌, ◌&&◌, ◌||◌, ◌==◌, ℕ, Bool, true, false, List, Option, MatchOption, Vec, length, nat_eq, not, slice_index}
+use Rattle.std.specs.List.{list_any}
 use Rattle.std.specs.List.Sorted.{IsStrictlyIncreasing}
 use Rattle.std.specs.Option.{IfSome}
 use Rattle.cil_keyed_lines.specs.Keyed.{is_key}
 use Rattle.cil_keyed_lines.specs.declared.symbol_key.SymbolKey.{SymbolKey}
-use Rattle.cil_rule_shifts.specs.Reach.{gives, has_permission, has_source, is_line, takes, IsShort}
+use Rattle.cil_rule_shifts.specs.Reach.{gives, grants, has_source, is_line, takes, IsShort}
+use Rattle.cil_text.specs.declared.statement.RuleKind.{RuleKind}
+use Rattle.cil_rule_shifts.specs.declared.grant.Grant.{Grant}
 use Rattle.cil_rule_shifts.specs.declared.head.RuleHead.{RuleHead}
 use Rattle.cil_rule_shifts.specs.declared.reach.Reach.{Reach}
 use Rattle.cil_rule_shifts.specs.declared.targets.Targets.{Targets}
@@ -24,11 +27,11 @@ turns was is source t = differs (takes was source t) (takes is source t)
 abbrev pub moves_in : {A : Type 0} → SymbolKey → Targets A → Targets A → SymbolKey × ℕ → Bool
 moves_in key was is p = is_key key p.0 && turns was is key.source p.1
 
--- in the lines of a source for a rule's kind, class and permissions
+-- in the lines of a source for a rule's kind and permits
 abbrev pub moves_for : {A : Type 0} → ℕ → RuleHead → Targets A → Targets A → SymbolKey × ℕ → Bool
 moves_for source head was is p = is_line source head p.0 && turns was is source p.1
 
--- wherever a rule gave or gives the access, and not both
+-- wherever a rule gave or gives the access by its permits, and not both
 abbrev pub moves_where : {A : Type 0} → Reach A → Reach A → RuleHead → SymbolKey × ℕ → Bool
 moves_where was is head p = differs (gives was head p.0 p.1) (gives is head p.0 p.1)
 
@@ -36,9 +39,17 @@ moves_where was is head p = differs (gives was head p.0 p.1) (gives is head p.0 
 abbrev pub moves_of : {A : Type 0} → ℕ → Reach A → Reach A → RuleHead → SymbolKey × ℕ → Bool
 moves_of source was is head p = (source == p.0.source) && moves_where was is head p
 
--- whether a list has the word of a target
+-- wherever a rule of a kind gave the access by what it had, or gives it by what it has, and not both
+abbrev pub moves_from : {A : Type 0} → RuleKind → Grant A → Grant A → SymbolKey × ℕ → Bool
+moves_from kind was is p = differs (grants kind was p) (grants kind is p)
+
+-- whether a list has a number
+abbrev pub has_number : List ℕ → ℕ → Bool
+has_number numbers n = list_any (nat_eq n) numbers
+
+-- whether it has the word of a target
 abbrev pub has_word : List ℕ → ℕ → Bool
-has_word words t = has_permission words (t / 64)
+has_word words t = has_number words (t / 64)
 
 -- the words of two sets of targets, each once and in their order, in none but which they differ
 pub record AreTurned (was is : ℕ → Bool) (words : List ℕ) : Type 0 where

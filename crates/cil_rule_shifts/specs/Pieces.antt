@@ -38,6 +38,6 @@ pub record ArePieces {A : Type 0} (pieces : Pieces A) : Type 0 where
 abbrev pub ArePiecesOf : {A B : Type 0} → ℕ → Targets A → Pieces B → Type 0
 ArePiecesOf source targets pieces = (t : ℕ) → has_target pieces.list.items t ≡ takes targets source t
 
--- whether a counter is one of the targets in the lines of a source for a rule's kind, class and permissions
+-- whether a counter is one of the targets in the lines of a source for a rule's kind and permits
 abbrev pub put_for : ℕ → RuleHead → List Piece → SymbolKey × ℕ → Bool
 put_for source head pieces p = is_line source head p.0 && has_target pieces p.1

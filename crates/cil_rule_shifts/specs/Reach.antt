@@ -1,10 +1,12 @@
 -- What a rule gives, by symbols.
-use Rattle.std.specs.Prelude.{◌≡◌, ◌≤◌, ◌+◌, ◌-◌, ◌*◌, ◌^◌, ◌/◌, ◌&&◌, ◌==◌, ◌<◌, ℕ, Bool, true, false, List, MatchOption, Option, cond, nat_eq, nat_lt}
+use Rattle.std.specs.Prelude.{◌≡◌, ◌≤◌, ◌+◌, ◌-◌, ◌*◌, ◌^◌, ◌/◌, ◌&&◌, ◌==◌, ◌<◌, ℕ, Bool, true, false, MatchOption, Option, cond, nat_lt}
 use Rattle.std.specs.Int.{bit_at}
-use Rattle.std.specs.List.{list_any}
 use Rattle.cil_lines.specs.Line.{Counters, count_of}
 use Rattle.cil_keyed_lines.specs.Keyed.{is_key, is_kind}
 use Rattle.cil_keyed_lines.specs.declared.symbol_key.SymbolKey.{SymbolKey}
+use Rattle.cil_text.specs.declared.statement.RuleKind.{RuleKind}
+use Rattle.cil_rule_shifts.specs.Permits.{has_permit, AreInOrder}
+use Rattle.cil_rule_shifts.specs.declared.grant.Grant.{Grant}
 use Rattle.cil_rule_shifts.specs.declared.head.RuleHead.{RuleHead}
 use Rattle.cil_rule_shifts.specs.declared.targets.Targets.{Targets}
 use Rattle.cil_rule_shifts.specs.declared.targets.Targets.TheVariants.{Nothing, Itself, These}
@@ -28,17 +30,13 @@ takes (These line) s t = is_present line t
 abbrev pub has_source : {A : Type 0} → Reach A → ℕ → Bool
 has_source reach s = is_present reach.sources s
 
--- whether a list has a permission
-abbrev pub has_permission : List ℕ → ℕ → Bool
-has_permission permissions p = list_any (nat_eq p) permissions
-
 -- whether a source of a rule has a target
 abbrev pub reaches : {A : Type 0} → Reach A → ℕ → ℕ → Bool
 reaches reach s t = has_source reach s && takes reach.targets s t
 
--- whether a key is of a rule's kind, class, and one of its permissions
+-- whether a key is of a kind and has one of some permits
 abbrev pub has_head : RuleHead → SymbolKey → Bool
-has_head head key = is_kind head.kind key.kind && ((head.class == key.class) && has_permission head.permissions.now key.permission)
+has_head head key = is_kind head.kind key.kind && has_permit head.permits.now key.class key.permission
 
 -- whether a rule gives an access
 abbrev pub gives : {A : Type 0} → Reach A → RuleHead → SymbolKey → ℕ → Bool
@@ -52,7 +50,15 @@ gives_at reach head p = gives reach head p.0 p.1
 abbrev pub gives_from : {A : Type 0} → ℕ → Reach A → RuleHead → SymbolKey × ℕ → Bool
 gives_from source reach head p = (source == p.0.source) && gives_at reach head p
 
--- whether a key is of a source and a rule's kind, class and permissions
+-- the kind of a rule, with what it permits in a policy
+abbrev pub head_of : {A : Type 0} → RuleKind → Grant A → RuleHead
+head_of kind grant = record { kind = kind; permits = grant.permits }
+
+-- whether a rule of a kind gives it by what it reaches and permits in a policy
+abbrev pub grants : {A : Type 0} → RuleKind → Grant A → SymbolKey × ℕ → Bool
+grants kind grant = gives_at grant.reach.now (head_of kind grant)
+
+-- whether a key is of a source and a rule's kind and permits
 abbrev pub is_line : ℕ → RuleHead → SymbolKey → Bool
 is_line source head key = (source == key.source) && has_head head key
 
@@ -60,7 +66,7 @@ is_line source head key = (source == key.source) && has_head head key
 abbrev pub takes_in : {A : Type 0} → SymbolKey → Targets A → SymbolKey × ℕ → Bool
 takes_in key targets p = is_key key p.0 && takes targets key.source p.1
 
--- whether a source has it, in its lines for a rule's kind, class and permissions
+-- whether a source has it, in its lines for a rule's kind and permits
 abbrev pub takes_for : {A : Type 0} → ℕ → RuleHead → Targets A → SymbolKey × ℕ → Bool
 takes_for source head targets p = is_line source head p.0 && takes targets source p.1
 
@@ -72,6 +78,11 @@ AreShort targets = (s t : ℕ) → s < 2 ^ 64 → 2 ^ 64 ≤ t → takes targets
 pub record IsShort {A : Type 0} (reach : Reach A) : Type 0 where
   pub sources : (s : ℕ) → 2 ^ 64 - 1 ≤ s → has_source reach s ≡ false
   pub targets : AreShort reach.targets
+
+-- What a rule reaches are numbers of the code, and its permits stand in their order, each once.
+pub record IsGrant {A : Type 0} (grant : Grant A) : Type 0 where
+  pub reach : IsShort grant.reach.now
+  pub permits : AreInOrder grant.permits.now
 
 -- the first number from one on at which a test holds
 pub record IsNext (test : ℕ → Bool) (from next : ℕ) : Type 0 where

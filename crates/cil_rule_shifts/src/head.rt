@@ -1,11 +1,11 @@
-//! What a rule says beside its sources and targets.
+//! The kind of a rule with its permits.
 
+use crate::permit::Permit;
 use cil_text::RuleKind;
 
-/// The kind of a rule, its class, and its permissions, by numbers of their names that stay.
+/// The kind of a rule, and what it permits.
 #[derive(Clone, Copy)]
 pub struct RuleHead<'r> {
     pub kind: RuleKind,
-    pub class: usize,
-    pub permissions: &'r [usize],
+    pub permits: &'r [Permit],
 }

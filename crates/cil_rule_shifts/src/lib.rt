@@ -1,7 +1,9 @@
 //! The counters of an access table, moved from what a rule gave to what it gives.
 #![tactic(auto)]
 
+mod grant;
 mod head;
+mod permit;
 mod pieces;
 mod put;
 mod reach;
@@ -10,7 +12,8 @@ mod targets;
 mod turned;
 mod words;
 
-pub use head::RuleHead;
+pub use grant::Grant;
+pub use permit::{Permit, put_in_order};
 pub use put::put_rule;
 pub use reach::Reach;
 pub use shift::shift_rule;

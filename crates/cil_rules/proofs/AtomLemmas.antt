@@ -1,5 +1,5 @@
 -- Accesses by numbers have the order of those by names.
-use Rattle.cil_rules.proofs.Common.{◌≡◌, ◌⊎◌, inl, inr, ℕ, ◌<◌, List, [], length, map, refl, sym, ap, ◌∙◌, arith, IsTrue, All, IsStrictlySortedBy, nat_cmp, ordering_then, ordering_reverse, Ordering, Less, Equal, Greater, cases_order, tied_itself, recursion_from_All, name_cmp, atom_cmp, names_rise, name_total, sorted_from_names_rise, sorted_map, rule_kind_of, AccessNumbers, IsWithin, atom_at, name_at, AreNumbered}
+use Rattle.cil_rules.proofs.Common.{◌≡◌, ◌⊎◌, inl, inr, ℕ, ◌<◌, List, [], length, map, refl, sym, ap, ◌∙◌, arith, IsTrue, IsStrictlySortedBy, nat_cmp, ordering_then, ordering_reverse, Ordering, Less, Equal, Greater, cases_order, tied_itself, recursion_from_All, name_cmp, atom_cmp, names_rise, name_total, sorted_from_names_rise, sorted_map, rule_kind_of, AccessNumbers, IsWithin, atom_at, name_at, AreNumbered}
 use Rattle.std.proofs.lemmas.Bool.Decides.{nat_tests}
 use Rattle.std.proofs.lemmas.Map.Keys.{Less-from_sorted}
 use Rattle.cil_specs.specs.Rule as spec

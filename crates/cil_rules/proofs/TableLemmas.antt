@@ -1,11 +1,13 @@
 -- The names of the accesses that the rules of a policy give are the policy's.
-use Rattle.cil_rules.proofs.Common.{◌≡◌, ℕ, ◌<◌, ◌==◌, List, [], ◌∷◌, length, bytes_eq, nat_lt, sym, subst, inl, inr, IsTrue, list_all, list_any, and_parts, eqb-true, ltb-true, kind_index, same-kind, AnyByRecursion, any_from_counted, any_from_map, any_from_test, rule_kind_of, AccessNumbers, IsWithin, atom_at, name_at}
+use Rattle.cil_rules.proofs.Common.{◌≡◌, ℕ, ◌<◌, ◌==◌, ◌&&◌, List, [], ◌∷◌, length, bytes_eq, nat_lt, sym, subst, inl, inr, IsTrue, list_all, list_any, and_parts, eqb-true, ltb-true, kind_index, same-kind, AnyByRecursion, any_from_counted, any_from_map, any_from_test, rule_kind_of, AccessNumbers, IsWithin, atom_at, name_at}
 use Rattle.std.specs.Cmp.Lexicographic.{bytes_decides}
 use Rattle.cil_specs.specs.Rule as spec
-use Rattle.cil_specs.specs.Meaning.{aims, covers, gives, holds, is_in_table, keeps_type}
-use Rattle.cil_resolve.specs.Below.{is_element_below, is_name_below, is_rule_below, is_target_below}
-use Rattle.cil_resolve.specs.Numbers.{declared_of, rule_of}
+use Rattle.cil_specs.specs.Expr.{holds_by}
+use Rattle.cil_specs.specs.Meaning.{aims, covers, gives, has_permission, holds, is_in_table, keeps_type}
+use Rattle.cil_resolve.specs.Below.{is_class_below, is_element_below, is_name_below, is_rule_below, is_target_below}
+use Rattle.cil_resolve.specs.Numbers.{class_of, declared_of, rule_of}
 use Rattle.cil_resolve.specs.Resolved.{meaning_in}
+use Rattle.cil_resolve.specs.declared.numbered.NumberedClass.{NumberedClass}
 use Rattle.cil_resolve.specs.declared.numbered.NumberedName.{NumberedName}
 use Rattle.cil_resolve.specs.declared.numbered.NumberedRule.{NumberedRule}
 use Rattle.cil_resolve.specs.declared.resolved.Resolved.{Resolved}
@@ -47,6 +49,22 @@ module _ {A : Type 0} (r : Resolved A) where
   aimed-named spec.at_itself s t source aimed = subst (IsNamed names) ((bytes_decides s t).0 aimed) source
   aimed-named (spec.at_element element) s t source aimed = held-named element t aimed
 
+  -- so has a permission of a class
+  listed-named : (classes : List (NumberedClass A)) (c p : List ℕ) → IsTrue (list_all (is_class_below (length names)) classes)
+      → AnyByRecursion (λ d. IsTrue (bytes_eq c (class_of r.modules.items names d).name && list_any (bytes_eq p) (class_of r.modules.items names d).permissions)) classes → IsNamed names p
+  listed-named [] c p below none = absurd none
+  listed-named (d ∷ classes) c p below (inl is) =
+      number-named names p d.permissions.items (and_parts (nat_lt d.name (length names)) _ (and_parts (is_class_below (length names) d) _ below).0).1
+      (any_from_map (name_at names) (λ q. IsTrue (bytes_eq p q)) d.permissions.items
+      (any_from_test (bytes_eq p) (class_of r.modules.items names d).permissions (and_parts (bytes_eq c (name_at names d.name)) (list_any (bytes_eq p) (class_of r.modules.items names d).permissions) is).1))
+  listed-named (d ∷ classes) c p below (inr later) = listed-named classes c p (and_parts (is_class_below (length names) d) _ below).1 later
+
+  permission-named : (c p : List ℕ) → IsTrue (has_permission (meaning_in r) c p) → IsNamed names p
+  permission-named c p has =
+      listed-named r.classes.items c p r.classes_within
+      (any_from_map (class_of r.modules.items names) (λ d. IsTrue (bytes_eq c d.name && list_any (bytes_eq p) d.permissions)) r.classes.items
+      (any_from_test (λ d. bytes_eq c d.name && list_any (bytes_eq p) d.permissions) (meaning_in r).classes has))
+
   -- what a rule gives has numbers
   given-numbered : (rule : NumberedRule A) (a : spec.Atom) → IsTrue (is_rule_below (length names) rule) → IsTrue (gives (meaning_in r) (rule_of r.modules.items names rule) a) → IsNumbered names a
   given-numbered rule a below given =
@@ -54,7 +72,7 @@ module _ {A : Type 0} (r : Resolved A) where
       let kinds = and_parts (kind_index named.kind == kind_index a.kind) (covers (meaning_in r) named a.source a.target a.the_class a.permission) given in
       let sources = and_parts (holds (meaning_in r) named.source a.source) _ kinds.1 in
       let targets = and_parts (aims (meaning_in r) named.target a.source a.target) _ sources.1 in
-      let classes = and_parts (bytes_eq named.the_class a.the_class) (list_any (bytes_eq a.permission) named.permissions) targets.1 in
+      let classes = and_parts (bytes_eq named.the_class a.the_class) (has_permission (meaning_in r) a.the_class a.permission && holds_by (bytes_eq a.permission) named.permissions) targets.1 in
       let below_source = and_parts (is_element_below (length names) rule.source) _ below in
       let below_target = and_parts (is_target_below (length names) rule.target) _ below_source.1 in
       let below_class = and_parts (nat_lt rule.class (length names)) (list_all (λ p. nat_lt p (length names)) rule.permissions) below_target.1 in
@@ -63,8 +81,7 @@ module _ {A : Type 0} (r : Resolved A) where
       let source : IsNamed names a.source = held-named named.source a.source sources.0 in
       let target : IsNamed names a.target = aimed-named named.target a.source a.target source targets.0 in
       let permission : IsNamed names a.permission =
-      number-named names a.permission rule.permissions below_class.1
-      (any_from_map (name_at names) (λ q. IsTrue (bytes_eq a.permission q)) rule.permissions (any_from_test (bytes_eq a.permission) named.permissions classes.1)) in (
+      permission-named a.the_class a.permission (and_parts (has_permission (meaning_in r) a.the_class a.permission) (holds_by (bytes_eq a.permission) named.permissions) classes.1).0 in (
         record { kind = rule.kind; source = source.0; target = target.0; class = rule.class; permission = permission.0 },
         record { source = source.1; target = target.1; the_class = ltb-true rule.class (length names) below_class.0; permission = permission.1 },
         λ i. record { kind = kind i; source = source.2 i; target = target.2 i; the_class = the_class i; permission = permission.2 i },

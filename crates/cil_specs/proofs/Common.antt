@@ -12,7 +12,7 @@ pub use Rattle.cil_specs.specs.Place.{Place, is_line_feed, place_at}
 pub use Rattle.cil_specs.specs.PolicyFault.{IsCircular, IsFaultOf, IsFaulty, PolicyFault, PolicyFaultKind, alias_twice, alias_twice_words, alias_unset, alias_unset_words, alias_words, circular, common_words, element_words, has_earlier_actual, has_earlier_common, has_too_many, is_again, is_lacking, is_of_another_kind, is_outside, is_unfound, is_unset, kinds_asked, missing, missing_words, second_common, second_common_words, tables, too_many_permissions, too_many_words, twice, twice_words, wrong_kind, wrong_kind_words}
 pub use Rattle.cil_specs.specs.Rule.{Atom, Declared, Element, SetStatement, a_type, an_attribute, attributes_of, declared_as, element_at, element_of, element_or_none, kind_index, name_or_none, set_statement_of, sets_of}
 pub use Rattle.cil_specs.specs.Sets.{DependsOn, DependsThrough, HasNoCircle, IsNextOf, attribute_holds, differ, expr_holds, holds_with, is_the_attribute, mentions}
-pub use Rattle.cil_specs.specs.Shape.{Begins, Fits, IsAllowed, IsAtWord, IsBodyFault, IsClassAndPermissions, IsClassList, IsFirstShapeFault, IsGoodWord, IsInnerFault, IsListFault, IsShapeFault, IsTargetThen, IsWordFault, IsWordList, Shapes, all_words, in_optional, is_among, keywords, no_fit, no_keyword, no_name, outside_optionals, put_word}
+pub use Rattle.cil_specs.specs.Shape.{Begins, Fits, IsAllowed, IsAtWord, IsBodyFault, IsClassAndPermissions, IsExpressionList, IsClassList, IsFirstShapeFault, IsGoodWord, IsInnerFault, IsListFault, IsShapeFault, IsTargetThen, IsWordFault, IsWordList, Shapes, all_words, in_optional, is_among, keywords, no_fit, no_keyword, no_name, outside_optionals, put_word}
 pub use Rattle.cil_specs.specs.Statements.{Form, RuleKind, Statements, Target, alias_actual, allow, are_apart, as_declared, as_referred, attribute_set, auditallow, block, class, class_common, class_order, common, dontaudit, is_optional, itself, neverallow, no_more, optional, rise_from, rule, rule_word, stands_apart, statement, statement_offsets, target_words, the_named, type_alias, type_attribute, type_name, words_of}
 pub use Rattle.cil_specs.specs.TextFault.{IsNoLater, TextFault, TextFaultKind, bad_byte, bad_name, bare_word, code_of, misshapen, not_in_optional, reserved, too_deep, unbalanced, unclosed, unclosed_string, unsupported}
 pub use Rattle.cil_specs.specs.Trees.{Mark, Reads, Trees, a_list, a_string, a_word, are_lists, closing_before, in_order, marks, none, opening_at, string_at, told, word_at}

@@ -1,4 +1,4 @@
--- Set expressions in lists.
+-- Expressions of types and of permissions in lists.
 use Rattle.cil_specs.proofs.Common.{◌≡◌, ℕ, inl, inr, true, false, List, [], sym, ◌∙◌, subst, refl, codes, bytes_eq, true≢false, bytes_eq-Decides, list_any, Place, Trees, none, a_word, a_string, a_list, WordExpr, every, named, opposite, both, either, one_of, nothing, elements, operators, HasNoOperator, IsOperationThen, Expresses, Lists}
 
 -- the word of an operation, and of none

@@ -1,4 +1,4 @@
--- Trees spell one set expression at most.
+-- Trees spell one expression of types or of permissions at most.
 use Rattle.cil_specs.proofs.Common.{◌≡◌, ◌≢◌, ℕ, inl, inr, List, sym, ◌∙◌, ap, subst, refl, true, codes, bytes_eq, list_any, Place, Word, Trees, none, a_word, a_list, WordExpr, every, named, opposite, both, either, one_of, nothing, elements, operators, IsOperationThen, Expresses, Lists}
 use Rattle.cil_specs.proofs.ExprLemmas.{apart, operator_of, ArePair, AreOperands, operation_is, union_is}
 

@@ -17,7 +17,7 @@ words_in (common id permissions) = id ∷ permissions
 words_in (class id permissions) = id ∷ permissions
 words_in (class_common the_class the_common) = the_class ∷ the_common ∷ []
 words_in (class_order the_classes) = the_classes
-words_in (rule kind source target the_class permissions) = source ∷ (target_words target ++ (the_class ∷ permissions))
+words_in (rule kind source target the_class permissions) = source ∷ (target_words target ++ (the_class ∷ leaves permissions))
 
 -- they stand where the words with a role each do
 pub word-offsets : (form : Form) → map offset_of (words_in form) ≡ map role_offset (words_of form)
@@ -25,8 +25,8 @@ word-offsets (attribute_set attribute expr) = ap (λ ns. attribute.at.offset ∷
 word-offsets (common id permissions) = ap (λ ns. id.at.offset ∷ ns) (sym (declared_offsets permissions))
 word-offsets (class id permissions) = ap (λ ns. id.at.offset ∷ ns) (sym (declared_offsets permissions))
 word-offsets (class_order the_classes) = sym (referred_offsets the_classes)
-word-offsets (rule kind source itself the_class permissions) = ap (λ ns. source.at.offset ∷ the_class.at.offset ∷ ns) (sym (declared_offsets permissions))
-word-offsets (rule kind source (the_named target) the_class permissions) = ap (λ ns. source.at.offset ∷ target.at.offset ∷ the_class.at.offset ∷ ns) (sym (declared_offsets permissions))
+word-offsets (rule kind source itself the_class permissions) = ap (λ ns. source.at.offset ∷ the_class.at.offset ∷ ns) (sym (declared_offsets (leaves permissions)))
+word-offsets (rule kind source (the_named target) the_class permissions) = ap (λ ns. source.at.offset ∷ target.at.offset ∷ the_class.at.offset ∷ ns) (sym (declared_offsets (leaves permissions)))
 word-offsets _ = refl
 
 -- each of the words is among others
@@ -98,21 +98,22 @@ reference-words (alias_actual alias actual) = all-themselves (alias ∷ actual �
 reference-words (attribute_set attribute expr) = (contains-first attribute (leaves expr), seconds types (attribute ∷ leaves expr) (leaves expr) (among-more attribute (leaves expr) (leaves expr) (all-themselves (leaves expr))))
 reference-words (class_common the_class the_common) = all-themselves (the_class ∷ the_common ∷ [])
 reference-words (class_order the_classes) = seconds classes the_classes the_classes (all-themselves the_classes)
-reference-words (rule kind source itself the_class permissions) = (contains-first source (the_class ∷ permissions), (contains-other source (the_class ∷ permissions) the_class (contains-first the_class permissions), tt))
+reference-words (rule kind source itself the_class permissions) = (contains-first source (the_class ∷ leaves permissions), (contains-other source (the_class ∷ leaves permissions) the_class (contains-first the_class (leaves permissions)), tt))
 reference-words (rule kind source (the_named target) the_class permissions) = (
-  contains-first source (target ∷ the_class ∷ permissions),
+  contains-first source (target ∷ the_class ∷ leaves permissions),
   (
-    contains-other source (target ∷ the_class ∷ permissions) target (contains-first target (the_class ∷ permissions)),
-    (contains-other source (target ∷ the_class ∷ permissions) the_class (contains-other target (the_class ∷ permissions) the_class (contains-first the_class permissions)), tt),
+    contains-other source (target ∷ the_class ∷ leaves permissions) target (contains-first target (the_class ∷ leaves permissions)),
+    (contains-other source (target ∷ the_class ∷ leaves permissions) the_class (contains-other target (the_class ∷ leaves permissions) the_class (contains-first the_class (leaves permissions))), tt),
   ),
 )
 reference-words _ = tt
 
 permission-words : (form : Form) → AreAmong (words_in form) (map (λ p. p.1) (named_permissions form))
 permission-words (rule kind source target the_class permissions) =
-    seconds the_class (words_in (rule kind source target the_class permissions)) permissions
-    (among-more source (target_words target ++ (the_class ∷ permissions)) permissions
-    (among-right (target_words target) (the_class ∷ permissions) permissions (among-more the_class permissions permissions (all-themselves permissions))))
+    let names = leaves permissions in
+    seconds the_class (words_in (rule kind source target the_class permissions)) names
+    (among-more source (target_words target ++ (the_class ∷ names)) names
+    (among-right (target_words target) (the_class ∷ names) names (among-more the_class names names (all-themselves names))))
 permission-words _ = tt
 
 kind-words : (form : Form) → AreAmong (words_in form) (map (λ r. r.1) (kinds_asked form))
@@ -125,7 +126,7 @@ alias-word (alias_actual alias actual) = (contains-first alias (actual ∷ []), 
 alias-word _ = tt
 
 element-word : (form : Form) → AreAmong (words_in form) (element_words form)
-element-word (rule kind source target the_class permissions) = (contains-first source (target_words target ++ (the_class ∷ permissions)), target-among source the_class target permissions)
+element-word (rule kind source target the_class permissions) = (contains-first source (target_words target ++ (the_class ∷ leaves permissions)), target-among source the_class target (leaves permissions))
 element-word (attribute_set attribute expr) = among-more attribute (leaves expr) (leaves expr) (all-themselves (leaves expr))
 element-word _ = tt
 

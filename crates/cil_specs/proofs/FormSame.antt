@@ -1,5 +1,5 @@
 -- A list fits one form at most.
-use Rattle.cil_specs.proofs.Common.{◌≡◌, ℕ, inl, inr, List, [], ◌∷◌, sym, ◌∙◌, ap, subst, refl, false, codes, bytes_eq, Word, Trees, none, IsListThen, Expresses, RuleKind, allow, auditallow, dontaudit, neverallow, rule_word, Target, itself, the_named, Form, block, optional, type_name, type_alias, alias_actual, type_attribute, attribute_set, common, class, class_common, class_order, rule, put_word, all_words, IsWordList, IsTargetThen, IsClassList, IsClassAndPermissions, Fits}
+use Rattle.cil_specs.proofs.Common.{◌≡◌, ℕ, inl, inr, List, [], ◌∷◌, sym, ◌∙◌, ap, subst, refl, false, codes, bytes_eq, Word, Trees, none, IsListThen, WordExpr, Expresses, RuleKind, allow, auditallow, dontaudit, neverallow, rule_word, Target, itself, the_named, Form, block, optional, type_name, type_alias, alias_actual, type_attribute, attribute_set, common, class, class_common, class_order, rule, put_word, all_words, IsWordList, IsTargetThen, IsClassList, IsClassAndPermissions, Fits}
 use Rattle.cil_specs.proofs.ExprLemmas.{apart}
 use Rattle.cil_specs.proofs.ExprSame.{same_word, expresses_same}
 use Rattle.cil_specs.proofs.FormLemmas.{first_word, IsNameAndList, OperandsFit, fits_begin, fits_parts}
@@ -51,11 +51,11 @@ class_list_same trees vs ws (items, list, inr h) (others, again, inr k) =
     let same : items ≡ others = (list_same trees items others none none list again).0 in
     all_words_same vs ws (sym h.0 ∙ same ∙ k.0)
 
-class_and_permissions_same : (trees : Trees) (v w : Word) (vs ws : List Word) → IsClassAndPermissions trees v vs → IsClassAndPermissions trees w ws → (v ≡ w) × (vs ≡ ws)
-class_and_permissions_same trees v w vs ws h k =
+class_and_permissions_same : (trees : Trees) (v w : Word) (x y : WordExpr) → IsClassAndPermissions trees v x → IsClassAndPermissions trees w y → (v ≡ w) × (x ≡ y)
+class_and_permissions_same trees v w x y h k =
     let same : h.0 ≡ k.0 = (list_same trees h.0 k.0 none none h.2 k.2).0 in
     let p = put_same v w h.1 k.1 (sym h.3 ∙ same ∙ k.3) in
-    (p.0, word_list_same k.1 vs ws (subst (λ list. IsWordList list vs) p.1 h.4) k.4)
+    (p.0, (expresses_same x k.1 none (subst (λ list. Expresses list x none) p.1 h.4.2) y none k.4.2).0)
 
 rule_word_same : (k l : RuleKind) → rule_word k ≡ rule_word l → k ≡ l
 rule_word_same allow allow h = refl
@@ -116,7 +116,7 @@ rule_of auditallow _ h = apart _ _ refl h
 rule_of dontaudit _ h = apart _ _ refl h
 rule_of neverallow _ h = apart _ _ refl h
 
-pub no_rule : (kind : RuleKind) (operands inner : Trees) (form : Form) → ((source : Word) (target : Target) (the_class : Word) (permissions : List Word) → OperandsFit operands (rule kind source target the_class permissions) none → ⊥)
+pub no_rule : (kind : RuleKind) (operands inner : Trees) (form : Form) → ((source : Word) (target : Target) (the_class : Word) (permissions : WordExpr) → OperandsFit operands (rule kind source target the_class permissions) none → ⊥)
     → rule_word kind ≡ first_word form → OperandsFit operands form inner → ⊥
 no_rule kind operands inner (rule same source target the_class permissions) other is h = other source target the_class permissions (h.0, refl)
 no_rule kind operands inner form other is h = rule_of kind form is

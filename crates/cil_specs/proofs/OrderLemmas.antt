@@ -1,5 +1,5 @@
 -- Trees in order, and the words in them.
-use Rattle.cil_specs.proofs.Common.{◌≡◌, ℕ, ◌+◌, ◌-◌, ◌<◌, ◌≤◌, nat_le, nat_lt, ◌≢◌, ◌⊎◌, inl, inr, List, [], ◌∷◌, ◌++◌, length, map, get_or, zero, suc, sym, ◌∙◌, ap, subst, refl, codes, IsTrue, arith, and_parts, and_from, leb-true, ltb-true, le-leb, map-append, Place, Word, Role, Trees, none, a_word, a_string, a_list, in_order, WordExpr, every, named, opposite, both, either, one_of, nothing, elements, IsOperationThen, Expresses, Lists, leaves, Target, itself, the_named, as_declared, as_referred, target_words, Form, block, optional, type_name, type_alias, alias_actual, type_attribute, attribute_set, common, class, class_common, class_order, rule, words_of, rise_from, put_word, all_words, IsWordList, IsTargetThen, IsClassList, IsClassAndPermissions}
+use Rattle.cil_specs.proofs.Common.{◌≡◌, ℕ, ◌+◌, ◌-◌, ◌<◌, ◌≤◌, nat_le, nat_lt, ◌≢◌, ◌⊎◌, inl, inr, List, [], ◌∷◌, ◌++◌, length, map, get_or, zero, suc, sym, ◌∙◌, ap, subst, refl, codes, IsTrue, arith, and_parts, and_from, leb-true, ltb-true, le-leb, map-append, Place, Word, Role, Trees, none, a_word, a_string, a_list, in_order, WordExpr, every, named, opposite, both, either, one_of, nothing, elements, IsOperationThen, Expresses, Lists, leaves, Target, itself, the_named, as_declared, as_referred, target_words, Form, block, optional, type_name, type_alias, alias_actual, type_attribute, attribute_set, common, class, class_common, class_order, rule, words_of, rise_from, put_word, all_words, IsWordList, IsTargetThen, IsClassList, IsExpressionList, IsClassAndPermissions}
 use Rattle.cil_specs.proofs.FormLemmas.{IsNameAndList, OperandsFit}
 
 -- numbers that rise from one on and stay below another
@@ -209,13 +209,21 @@ class_list_rises ws trees low high (items, list, found) order =
     inside (inl h) from to o = rise_behind from h.0 (codes "unordered") (all_words ws) to (map offset_of ws) (subst (λ t. IsTrue (in_order from t to)) h.1 o) (λ behind b. all_rise ws behind to b)
     inside (inr h) from to o = all_rise ws from to (subst (λ t. IsTrue (in_order from t to)) h.0 o)
 
-class_and_permissions_rise : (id : Word) (ws : List Word) (trees inner : Trees) (low high : ℕ) → IsClassAndPermissions trees id ws → inner ≡ none → IsTrue (in_order low trees high)
-    → RiseThen low (id.at.offset ∷ map role_offset (map as_declared ws)) inner high
-class_and_permissions_rise id ws trees inner low high h empty order =
+-- a class and an expression of permissions
+class_then_expr_rises : (id : Word) (e : WordExpr) (items list : Trees) (low high : ℕ) → items ≡ put_word id list → IsExpressionList list e → IsTrue (in_order low items high)
+    → RiseThen low (id.at.offset ∷ map role_offset (map as_declared (leaves e))) none high
+class_then_expr_rises id e items list low high is h order =
+    put_rises id (map role_offset (map as_declared (leaves e))) items list none low high is order
+    (λ from o. end_rises (map role_offset (map as_declared (leaves e))) none from high refl
+    (subst (λ ns. RiseTo from ns high) (sym (declared_offsets (leaves e))) (rise_end from (map offset_of (leaves e)) high (expr_rises e list none from high h.2 o))))
+
+class_and_permissions_rise : (id : Word) (e : WordExpr) (trees inner : Trees) (low high : ℕ) → IsClassAndPermissions trees id e → inner ≡ none → IsTrue (in_order low trees high)
+    → RiseThen low (id.at.offset ∷ map role_offset (map as_declared (leaves e))) inner high
+class_and_permissions_rise id e trees inner low high h empty order =
     let list = h.2 in
-    let ns : List ℕ = id.at.offset ∷ map role_offset (map as_declared ws) in
+    let ns : List ℕ = id.at.offset ∷ map role_offset (map as_declared (leaves e)) in
     end_rises ns inner low high empty (rise_end low ns high (rise_list low list.0 list.1 h.0 none high ns (subst (λ t. IsTrue (in_order low t high)) list.2 order)
-    (λ o. rise_end (list.0.offset + 1) ns (list.1 - 1) (name_and_list_rise id ws h.0 none (list.0.offset + 1) (list.1 - 1) (h.1, h.3, h.4) refl o))))
+    (λ o. rise_end (list.0.offset + 1) ns (list.1 - 1) (class_then_expr_rises id e h.0 h.1 (list.0.offset + 1) (list.1 - 1) h.3 h.4 o))))
 
 -- the words of a form rise, and its inner statements stand behind them
 pub words_rise : (form : Form) (operands inner : Trees) (low high : ℕ) → OperandsFit operands form inner → IsTrue (in_order low operands high) → RiseThen low (map role_offset (words_of form)) inner high
@@ -235,7 +243,7 @@ words_rise (class_common v w) operands inner low high h order = two_rise v w ope
 words_rise (class_order classes) operands inner low high h order =
     end_rises (map role_offset (map as_referred classes)) inner low high h.1 (subst (λ ns. RiseTo low ns high) (sym (referred_offsets classes)) (class_list_rises classes operands low high h.0 order))
 words_rise (rule kind source target the_class permissions) operands inner low high h order =
-    let last : List ℕ = the_class.at.offset ∷ map role_offset (map as_declared permissions) in
-    subst (λ ns. RiseThen low ns inner high) (sym (ap (λ ns. source.at.offset ∷ ns) (map-append role_offset (map as_referred (target_words target)) (as_referred the_class ∷ map as_declared permissions))))
+    let last : List ℕ = the_class.at.offset ∷ map role_offset (map as_declared (leaves permissions)) in
+    subst (λ ns. RiseThen low ns inner high) (sym (ap (λ ns. source.at.offset ∷ ns) (map-append role_offset (map as_referred (target_words target)) (as_referred the_class ∷ map as_declared (leaves permissions)))))
     (put_rises source (map role_offset (map as_referred (target_words target)) ++ last) operands h.0.0 inner low high h.0.2 order
     (λ from o. target_rises target last h.0.0 h.0.1 inner from high h.0.3 o (λ behind b. class_and_permissions_rise the_class permissions h.0.1 inner behind high h.0.4 h.1 b)))

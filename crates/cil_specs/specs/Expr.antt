@@ -1,5 +1,5 @@
--- Set expressions, and the trees that spell them.
-use Rattle.std.specs.Prelude.{◌≡◌, ◌≢◌, ℕ, ◌⊎◌, false, List, [], ◌∷◌, ◌++◌, codes, bytes_eq}
+-- Expressions of types and of permissions, and the trees that spell them.
+use Rattle.std.specs.Prelude.{◌≡◌, ◌≢◌, ℕ, ◌⊎◌, Bool, true, false, not, ◌&&◌, ◌||◌, List, [], ◌∷◌, ◌++◌, codes, bytes_eq}
 use Rattle.std.specs.List.{list_any}
 use Rattle.cil_specs.specs.Place.{Place}
 use Rattle.cil_specs.specs.Names.{Word}
@@ -41,6 +41,28 @@ map_leaves f (either x y) = either (map_leaves f x) (map_leaves f y)
 map_leaves f (one_of x y) = one_of (map_leaves f x) (map_leaves f y)
 map_leaves f nothing = nothing
 map_leaves f (elements x more) = elements (map_leaves f x) (map_leaves f more)
+
+-- whether exactly one of two holds
+abbrev pub differ : Bool → Bool → Bool
+differ true b = not b
+differ false b = b
+
+-- Whether an expression holds a thing, where a test tells which of its leaves do: all holds each; not, and, or and xor go by their
+-- operands; a list without an operator holds what one of its elements does.
+abbrev pub holds_by : {leaf : Type 0} → (leaf → Bool) → Expr leaf → Bool
+holds_by test every = true
+holds_by test (named l) = test l
+holds_by test (opposite x) = not (holds_by test x)
+holds_by test (both x y) = holds_by test x && holds_by test y
+holds_by test (either x y) = holds_by test x || holds_by test y
+holds_by test (one_of x y) = differ (holds_by test x) (holds_by test y)
+holds_by test nothing = false
+holds_by test (elements x more) = holds_by test x || holds_by test more
+
+-- a plain list of these leaves
+abbrev pub listed : {leaf : Type 0} → List leaf → Expr leaf
+listed [] = nothing
+listed (l ∷ more) = elements (named l) (listed more)
 
 -- the words that are operators where they stand first in a list
 abbrev pub operators : List (List ℕ)

@@ -124,7 +124,7 @@ references _ = []
 
 -- the permissions that a statement names, each with the word of its class
 abbrev pub named_permissions : Form → List (Word × Word)
-named_permissions (rule kind source target the_class permissions) = map (λ w. (the_class, w)) permissions
+named_permissions (rule kind source target the_class permissions) = map (λ w. (the_class, w)) (leaves permissions)
 named_permissions _ = []
 
 abbrev pub texts : List Word → List (List ℕ)

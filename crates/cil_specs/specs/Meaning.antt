@@ -1,7 +1,7 @@
 -- What a policy means: one record, from which the accesses that its rules give and the access table are said.
 use Rattle.std.specs.Prelude.{◌≡◌, ℕ, Bool, ◌&&◌, ◌==◌, List, length, bytes_eq, count_by, nat_lt}
 use Rattle.std.specs.List.{list_any}
-use Rattle.cil_specs.specs.Expr.{Expr, named}
+use Rattle.cil_specs.specs.Expr.{Expr, named, holds_by}
 use Rattle.cil_specs.specs.Joined.{Placed}
 use Rattle.cil_specs.specs.Rule.{Element, ResolvedTarget, at_itself, at_element, Rule, Atom, kind_index, Declared, ClassOf, SetStatement, types_of, attributes_of, classes_of, sets_of, rules_of}
 use Rattle.cil_specs.specs.Sets.{holds_with}
@@ -51,9 +51,17 @@ abbrev pub aims : Meaning → ResolvedTarget → List ℕ → List ℕ → Bool
 aims meaning at_itself s t = bytes_eq s t
 aims meaning (at_element element) s t = holds meaning element t
 
+-- whether a class of this full name has a permission
+abbrev pub has_permission : Meaning → List ℕ → List ℕ → Bool
+has_permission meaning c p = list_any (λ d. bytes_eq c d.name && list_any (bytes_eq p) d.permissions) meaning.classes
+
+-- whether a rule gives a permission of a class: the class is the rule's, and of the permissions that it has the rule's expression holds this one
+abbrev pub permits : Meaning → Rule → List ℕ → List ℕ → Bool
+permits meaning r c p = bytes_eq r.the_class c && (has_permission meaning c p && holds_by (bytes_eq p) r.permissions)
+
 -- whether a rule covers the source s, the target t, the class c and the permission p
 abbrev pub covers : Meaning → Rule → List ℕ → List ℕ → List ℕ → List ℕ → Bool
-covers meaning r s t c p = holds meaning r.source s && (aims meaning r.target s t && (bytes_eq r.the_class c && list_any (bytes_eq p) r.permissions))
+covers meaning r s t c p = holds meaning r.source s && (aims meaning r.target s t && permits meaning r c p)
 
 -- whether a rule gives an access
 abbrev pub gives : Meaning → Rule → Atom → Bool

@@ -17,7 +17,7 @@ pub data ResolvedTarget : Type 0 where
   at_itself : ResolvedTarget
   at_element : Element → ResolvedTarget
 
--- a rule with full names in place of its references
+-- a rule with full names in place of its references; its permissions as they are written, an expression of their names
 pub record Rule : Type 0 where
   pub module_name : List ℕ
   pub at : Place
@@ -25,7 +25,7 @@ pub record Rule : Type 0 where
   pub source : Element
   pub target : ResolvedTarget
   pub the_class : List ℕ
-  pub permissions : List (List ℕ)
+  pub permissions : Expr (List ℕ)
 
 -- what a rule says, wherever it stands
 pub record RuleContent : Type 0 where
@@ -33,7 +33,7 @@ pub record RuleContent : Type 0 where
   pub source : Element
   pub target : ResolvedTarget
   pub the_class : List ℕ
-  pub permissions : List (List ℕ)
+  pub permissions : Expr (List ℕ)
 
 abbrev pub content_of : Rule → RuleContent
 content_of r = record { kind = r.kind; source = r.source; target = r.target; the_class = r.the_class; permissions = r.permissions }
@@ -144,7 +144,7 @@ rule_of policy s (rule kind source target the_class permissions) = record {
   source = element_of policy s.namespace source;
   target = resolved_target_of policy s.namespace target;
   the_class = class_name policy s.namespace the_class;
-  permissions = map (λ w. w.text) permissions;
+  permissions = map_leaves (λ w. w.text) permissions;
 } ∷ []
 rule_of policy s _ = []
 

@@ -1,31 +1,19 @@
 -- The types that typeattributeset statements associate to an attribute, those that an expression holds, and which attributes depend
 -- on which.
-use Rattle.std.specs.Prelude.{◌≡◌, ℕ, zero, suc, Bool, true, false, not, ◌&&◌, ◌||◌, List, [], ◌∷◌, bytes_eq, Contains, IsTrue}
+use Rattle.std.specs.Prelude.{◌≡◌, ℕ, zero, suc, Bool, false, ◌&&◌, List, [], ◌∷◌, bytes_eq, Contains, IsTrue}
 use Rattle.std.specs.List.{list_any}
-use Rattle.cil_specs.specs.Expr.{Expr, every, named, opposite, both, either, one_of, nothing, elements, leaves}
+use Rattle.cil_specs.specs.Expr.{Expr, holds_by, leaves}
+pub use Rattle.cil_specs.specs.Expr.{differ}
 use Rattle.cil_specs.specs.Rule.{Element, a_type, an_attribute, SetStatement}
-
--- whether exactly one of two holds
-abbrev pub differ : Bool → Bool → Bool
-differ true b = not b
-differ false b = b
 
 -- whether a name of an expression holds a type: a type holds itself alone, and known tells which attributes hold it
 abbrev pub element_holds : (List ℕ → Bool) → Element → List ℕ → Bool
 element_holds known (a_type name) t = bytes_eq name t
 element_holds known (an_attribute name) t = known name
 
--- Whether an expression holds a type that the policy keeps, where known tells which attributes hold it: all holds each; not, and, or
--- and xor go by their operands; a list without an operator holds what one of its elements does.
+-- whether an expression holds a type that the policy keeps, where known tells which attributes hold it
 abbrev pub expr_holds : (List ℕ → Bool) → Expr Element → List ℕ → Bool
-expr_holds known every t = true
-expr_holds known (named element) t = element_holds known element t
-expr_holds known (opposite x) t = not (expr_holds known x t)
-expr_holds known (both x y) t = expr_holds known x t && expr_holds known y t
-expr_holds known (either x y) t = expr_holds known x t || expr_holds known y t
-expr_holds known (one_of x y) t = differ (expr_holds known x t) (expr_holds known y t)
-expr_holds known nothing t = false
-expr_holds known (elements x more) t = expr_holds known x t || expr_holds known more t
+expr_holds known e t = holds_by (λ element. element_holds known element t) e
 
 -- Whether an attribute holds a kept type: the expression of one of its set statements does. Each step from an attribute to those that
 -- its expressions mention takes one of the fuel, and without fuel an attribute holds nothing.

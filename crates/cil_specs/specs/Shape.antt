@@ -5,7 +5,7 @@ use Rattle.cil_specs.specs.Place.{Place}
 use Rattle.cil_specs.specs.TextFault.{TextFaultKind, unsupported, misshapen, not_in_optional, TextFault, IsNoLater}
 use Rattle.cil_specs.specs.Names.{Word, Role, name_fault}
 use Rattle.cil_specs.specs.Trees.{Trees, none, a_word, a_string, a_list, are_lists}
-use Rattle.cil_specs.specs.Expr.{Expresses, IsListThen}
+use Rattle.cil_specs.specs.Expr.{WordExpr, Expresses, IsListThen}
 use Rattle.cil_specs.specs.Statements.{rule_word, Target, itself, the_named, Form, block, optional, type_name, type_alias, alias_actual, type_attribute, attribute_set, common, class, class_common, class_order, rule, words_of, is_optional, Statements, no_more, statement}
 
 -- a word, and then the rest
@@ -35,9 +35,13 @@ abbrev pub IsClassList : Trees → List Word → Type 0
 IsClassList trees classes = (items : Trees) × IsListThen trees items none × (((at : Place) × (items ≡ a_word at (codes "unordered") (all_words classes)))
     ⊎ ((items ≡ all_words classes) × ((at : Place) (rest : Trees) → items ≢ a_word at (codes "unordered") rest)))
 
--- the trees are one list of a class and of a list of permissions
-abbrev pub IsClassAndPermissions : Trees → Word → List Word → Type 0
-IsClassAndPermissions trees the_class permissions = (items permission_list : Trees) × IsListThen trees items none × (items ≡ put_word the_class permission_list) × IsWordList permission_list permissions
+-- the trees are one list, which spells the expression
+abbrev pub IsExpressionList : Trees → WordExpr → Type 0
+IsExpressionList trees expr = (items : Trees) × IsListThen trees items none × Expresses trees expr none
+
+-- the trees are one list of a class and of a list that spells an expression of permissions
+abbrev pub IsClassAndPermissions : Trees → Word → WordExpr → Type 0
+IsClassAndPermissions trees the_class permissions = (items permission_list : Trees) × IsListThen trees items none × (items ≡ put_word the_class permission_list) × IsExpressionList permission_list permissions
 
 -- The elements of a statement's list fit the form, and the last are its inner statements; form by form.
 abbrev pub Fits : Trees → Form → Trees → Type 0

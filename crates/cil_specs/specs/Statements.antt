@@ -28,7 +28,7 @@ pub data Form : Type 0 where
   class : Word → List Word → Form
   class_common : Word → Word → Form
   class_order : List Word → Form
-  rule : RuleKind → Word → Target → Word → List Word → Form
+  rule : RuleKind → Word → Target → Word → WordExpr → Form
 
 -- Statements one after the other: none, or a first statement, with the place of its ( and what it says and the statements
 -- inside it, and the statements after it.
@@ -67,7 +67,8 @@ words_of (common id permissions) = as_declared id ∷ map as_declared permission
 words_of (class id permissions) = as_declared id ∷ map as_declared permissions
 words_of (class_common the_class the_common) = as_referred the_class ∷ as_referred the_common ∷ []
 words_of (class_order classes) = map as_referred classes
-words_of (rule kind source target the_class permissions) = as_referred source ∷ (map as_referred (target_words target) ++ (as_referred the_class ∷ map as_declared permissions))
+words_of (rule kind source target the_class permissions) = as_referred source
+    ∷ (map as_referred (target_words target) ++ (as_referred the_class ∷ map as_declared (leaves permissions)))
 
 -- whether a statement is an optional
 abbrev pub is_optional : Form → Bool

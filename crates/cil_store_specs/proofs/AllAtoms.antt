@@ -1,5 +1,6 @@
 -- The accesses of a policy can be listed.
-use Rattle.cil_store_specs.proofs.Common.{◌≡◌, ◌⊎◌, ◌==◌, inl, inr, ℕ, cond, Bool, true, false, List, [], ◌∷◌, filter, map, flat_map, bytes_eq, Contains, refl, sym, ap, ◌∙◌, subst, true≢false, arith, IsTotalOrder, list_any, IsStrictlySortedBy, is_lt, Ordering, Less, Equal, Greater, cases_Bool, eqb-true, CmpEqualImpliesEq, bytes_eq-Decides, Meaning, keeps_type, holds, aims, gives, is_in_table, AreAtoms, atom_cmp, contains-filtered, contains-left, contains-right, contains-append_cases, contains-cases, contains-first, contains-map, first_true, second_true, keep, skip, reversed, put_by}
+use Rattle.cil_store_specs.proofs.Common.{◌≡◌, ◌⊎◌, ◌==◌, ◌&&◌, inl, inr, ℕ, cond, Bool, true, false, List, [], ◌∷◌, filter, map, flat_map, bytes_eq, Contains, refl, sym, ap, ◌∙◌, subst, true≢false, arith, IsTotalOrder, list_any, IsStrictlySortedBy, is_lt, Ordering, Less, Equal, Greater, cases_Bool, eqb-true, CmpEqualImpliesEq, bytes_eq-Decides, Meaning, keeps_type, holds, aims, gives, is_in_table, AreAtoms, atom_cmp, contains-filtered, contains-left, contains-right, contains-append_cases, contains-cases, contains-first, contains-map, first_true, second_true, keep, skip, reversed, put_by}
+use Rattle.cil_specs.specs.Meaning.{has_permission}
 use Rattle.cil_specs.specs.Rule.{Rule, Atom, Element, ResolvedTarget, at_itself, at_element, kind_index}
 use Rattle.cil_specs.proofs.MeansLemmas.{contains-flat}
 use Rattle.cil_specs.proofs.OnceLemmas.{PassesAmong, passes-among}
@@ -115,12 +116,22 @@ target-named : (meaning : Meaning) (target : ResolvedTarget) (s t : List ℕ) �
 target-named meaning at_itself s t source aimed = subst (Contains (type_names meaning)) ((bytes_eq-Decides s t).0 aimed) source
 target-named meaning (at_element element) s t source aimed = source-named meaning element t aimed
 
--- those of a rule, with each type as source and as target
-abbrev of_permissions : Rule → List ℕ → List ℕ → List Atom
-of_permissions r s t = map (λ p. record { kind = r.kind; source = s; target = t; the_class = r.the_class; permission = p }) r.permissions
+-- the names of the permissions, those of all classes
+abbrev permission_names : Meaning → List (List ℕ)
+permission_names meaning = flat_map (λ d. d.permissions) meaning.classes
+
+permission-named : (meaning : Meaning) (c p : List ℕ) → has_permission meaning c p ≡ true → Contains (permission_names meaning) p
+permission-named meaning c p has =
+    let (d, there, both) = passing (λ d. bytes_eq c d.name && list_any (bytes_eq p) d.permissions) meaning.classes has in
+    let (q, among, is) = passing (bytes_eq p) d.permissions (second_true (bytes_eq c d.name) (list_any (bytes_eq p) d.permissions) both) in
+    contains-flat (λ d. d.permissions) meaning.classes d p there (subst (Contains d.permissions) (sym ((bytes_eq-Decides p q).0 is)) among)
+
+-- those of a rule, with each type as source and as target, and with each permission
+abbrev of_permissions : Meaning → Rule → List ℕ → List ℕ → List Atom
+of_permissions meaning r s t = map (λ p. record { kind = r.kind; source = s; target = t; the_class = r.the_class; permission = p }) (permission_names meaning)
 
 abbrev of_targets : Meaning → Rule → List ℕ → List Atom
-of_targets meaning r s = flat_map (of_permissions r s) (type_names meaning)
+of_targets meaning r s = flat_map (of_permissions meaning r s) (type_names meaning)
 
 abbrev of_rule : Meaning → Rule → List Atom
 of_rule meaning r = flat_map (of_targets meaning r) (type_names meaning)
@@ -137,15 +148,16 @@ among-rule meaning r a given =
     let aimed = first_true (aims meaning r.target a.source a.target) _ rest in
     let head = second_true (aims meaning r.target a.source a.target) _ rest in
     let class = (bytes_eq-Decides r.the_class a.the_class).0 (first_true (bytes_eq r.the_class a.the_class) _ head) in
-    let (p, has, is) = passing (bytes_eq a.permission) r.permissions (second_true (bytes_eq r.the_class a.the_class) _ head) in
+    let permitted = second_true (bytes_eq r.the_class a.the_class) _ head in
+    let permission = permission-named meaning a.the_class a.permission (first_true (has_permission meaning a.the_class a.permission) _ permitted) in
     let source = source-named meaning r.source a.source held in
     let target = target-named meaning r.target a.source a.target source aimed in
     let same = same-kind r.kind a.kind (eqb-true (kind_index r.kind) (kind_index a.kind) kind) in
-    let permission = (bytes_eq-Decides a.permission p).0 is in
-    let one : Contains (of_permissions r a.source a.target) (record { kind = r.kind; source = a.source; target = a.target; the_class = r.the_class; permission = p }) = contains-map _ r.permissions p has in
-    let whole : Contains (of_permissions r a.source a.target) a =
-    subst (Contains (of_permissions r a.source a.target)) (λ i. record { kind = same i; source = a.source; target = a.target; the_class = class i; permission = sym permission i }) one in
-    contains-flat (of_targets meaning r) (type_names meaning) a.source a source (contains-flat (of_permissions r a.source) (type_names meaning) a.target a target whole)
+    let one : Contains (of_permissions meaning r a.source a.target) (record { kind = r.kind; source = a.source; target = a.target; the_class = r.the_class; permission = a.permission }) =
+    contains-map _ (permission_names meaning) a.permission permission in
+    let whole : Contains (of_permissions meaning r a.source a.target) a =
+    subst (Contains (of_permissions meaning r a.source a.target)) (λ i. record { kind = same i; source = a.source; target = a.target; the_class = class i; permission = a.permission }) one in
+    contains-flat (of_targets meaning r) (type_names meaning) a.source a source (contains-flat (of_permissions meaning r a.source) (type_names meaning) a.target a target whole)
 
 among-candidates : (meaning : Meaning) (a : Atom) → is_in_table meaning a ≡ true → Contains (candidates meaning) a
 among-candidates meaning a is =

@@ -1,6 +1,6 @@
 -- How far the count of adjustments rises where a rule's counters are moved.
-use Rattle.cil_table_updates.proofs.Common.{◌≡◌, ℕ, ◌+◌, ◌-◌, ◌^◌, ◌==◌, ◌&&◌, Bool, true, false, List, min, nat_lt, not, refl, sym, ap, ◌∙◌, arith, true≢false, eq-eqb, RisesBy, rises-added, rises-map, rises-same, SymbolKey, NumberedRule, differs, one_if, shifts, Counter, gives_as}
-use Rattle.cil_rule_shifts.specs.declared.reach.Reach.{Reach}
+use Rattle.cil_table_updates.proofs.Common.{◌≡◌, ℕ, ◌+◌, ◌-◌, ◌^◌, ◌==◌, ◌&&◌, Bool, true, false, List, min, nat_lt, not, refl, sym, ap, ◌∙◌, arith, true≢false, eq-eqb, RisesBy, rises-added, rises-map, rises-same, SymbolKey, Permit, Reach, differs, granted, one_if, Counter}
+use Rattle.cil_text.specs.declared.statement.RuleKind.{RuleKind}
 
 pub and-both : (a b : Bool) → (a && b) ≡ true → (a ≡ true) × (b ≡ true)
 and-both true b is = (refl, is)
@@ -30,24 +30,25 @@ differs-no true = refl
 differs-no false = refl
 
 -- counters moved from what reaches nothing, to it, and from what one rule covers to what another does
-module _ {A B : Type 0} (symbols : List ℕ) (rule : NumberedRule A) (was is : Reach B) (before after : ℕ)
-    (rises : RisesBy (shifts symbols rule was is) before after) where
-  pub replace-rises : (covered covers : SymbolKey → ℕ → Bool) → AreAlike (gives_as symbols rule was) covered
-      → AreAlike (gives_as symbols rule is) covers
+module _ {A : Type 0} (kind : RuleKind) (was is : Reach A) (had has : List Permit) (before after : ℕ) where
+  abbrev shifts_by : Counter → Bool
+  shifts_by c = differs (granted kind was had c.key c.target) (granted kind is has c.key c.target)
+
+  pub replace-rises : RisesBy shifts_by before after → (covered covers : SymbolKey → ℕ → Bool) → AreAlike (granted kind was had) covered → AreAlike (granted kind is has) covers
       → RisesBy (λ (c : Counter). differs (covered c.key c.target) (covers c.key c.target)) before after
-  replace-rises covered covers was_same is_same =
-      rises-same (shifts symbols rule was is) (λ c. differs (covered c.key c.target) (covers c.key c.target))
+  replace-rises rises covered covers was_same is_same =
+      rises-same shifts_by (λ c. differs (covered c.key c.target) (covers c.key c.target))
       before after (λ c i. differs (was_same c.key c.target i) (is_same c.key c.target i)) rises
 
-  pub put-rises : (covers : SymbolKey → ℕ → Bool) → AreAlike (gives_as symbols rule was) (λ key t. false)
-      → AreAlike (gives_as symbols rule is) covers → RisesBy (λ (c : Counter). covers c.key c.target) before after
-  put-rises covers none same = replace-rises (λ key t. false) covers none same
+  pub put-rises : RisesBy shifts_by before after → (covers : SymbolKey → ℕ → Bool) → AreAlike (granted kind was had) (λ key t. false) → AreAlike (granted kind is has) covers
+      → RisesBy (λ (c : Counter). covers c.key c.target) before after
+  put-rises rises covers none same = replace-rises rises (λ key t. false) covers none same
 
-  pub take-rises : (covered : SymbolKey → ℕ → Bool) → AreAlike (gives_as symbols rule is) (λ key t. false)
-      → AreAlike (gives_as symbols rule was) covered → RisesBy (λ (c : Counter). covered c.key c.target) before after
-  take-rises covered none same =
+  pub take-rises : RisesBy shifts_by before after → (covered : SymbolKey → ℕ → Bool) → AreAlike (granted kind is has) (λ key t. false) → AreAlike (granted kind was had) covered
+      → RisesBy (λ (c : Counter). covered c.key c.target) before after
+  take-rises rises covered none same =
       rises-same (λ c. differs (covered c.key c.target) false) (λ c. covered c.key c.target) before after
-      (λ c. differs-no (covered c.key c.target)) (replace-rises covered (λ key t. false) same none)
+      (λ c. differs-no (covered c.key c.target)) (replace-rises rises covered (λ key t. false) same none)
 
 -- what is given, as a number and as a test
 pub counted-some : (b : Bool) → b ≡ nat_lt 0 (one_if b)

@@ -1,6 +1,8 @@
 -- The counters that an update moves are those of accesses that a rule gives in one of the two policies alone.
-use Rattle.cil_table_updates.proofs.Common.{◌≡◌, ◌≢◌, ◌⊎◌, ℕ, ◌+◌, ◌<◌, ◌==◌, ◌&&◌, Bool, true, false, List, [], ◌++◌, get_or, length, map, nat_lt, not, slice_get, Option, None, Some, Result, Ok, Err, OnOk, refl, sym, ap, ◌∙◌, subst, inl, inr, arith, true≢false, list_all, All, AllPairs, Contains, cases_Bool, cases_eq, eq-eqb, lt-ltb, ltb-true, ne_eqb, length-append, length-map, All-append, All-contains, All-map, Contains-append_left, Contains-append_right, Contains-get_or, none-some, same_Some, slice_get-get_or, slice_get_read, slice_get_within, below, RisesBy, across, alone, sum_below, across-none, across-some, alone-none, alone-some, sum-differs, sum-zero, gives, Meaning, a_type, at_itself, kind_index, Atom, IsSameRule, Rule, SymbolKey, is_rule_below, is_consistent, is_rule_of, rule_of, meaning_in, NumberedRule, atom_of, is_named, name_at, members_of, covers-named, covers-none, differs, one_if, goes, turns, AdjustsAtLeast, AdjustsAtMost, Counter, given, gives_by, AreApart, IsPolicy, Policy}
+use Rattle.cil_table_updates.proofs.Common.{◌≡◌, ◌≢◌, ◌⊎◌, ℕ, ◌+◌, ◌<◌, ◌==◌, ◌&&◌, Bool, true, false, List, [], ◌++◌, get_or, length, map, nat_lt, not, slice_get, Option, None, Some, Result, Ok, Err, OnOk, refl, sym, ap, ◌∙◌, subst, inl, inr, arith, true≢false, All, AllPairs, Contains, cases_Bool, cases_eq, eq-eqb, lt-ltb, ltb-true, ne_eqb, length-append, length-map, All-append, All-contains, All-map, Contains-append_left, Contains-append_right, Contains-get_or, none-some, same_Some, slice_get-get_or, slice_get_read, slice_get_within, below, RisesBy, across, alone, sum_below, across-none, across-some, alone-none, alone-some, sum-differs, sum-zero, gives, Meaning, a_type, at_itself, kind_index, Atom, IsSameRule, Rule, SymbolKey, is_rule_below, is_rule_of, rule_of, meaning_in, NumberedRule, atom_of, is_named, name_at, members_of, covers-named, covers-none, differs, one_if, goes, turns, AdjustsAtLeast, AdjustsAtMost, Counter, given, gives_by, AreApart, HasSoundRules, IsPolicy, Policy}
 use Rattle.cil_sums.proofs.PairLemmas.{at-most-all, from-mapped as from-map, mapped, pairs-append, pairs-map}
+use Rattle.std.proofs.lemmas.Option.{get_or_from_slice_get}
+use Rattle.cil_specs.specs.Expr.{nothing}
 use Rattle.cil_specs.specs.Statements.{allow}
 use Rattle.cil_delta_specs.specs.Dirty.{HasGiver, OnlyOne}
 use Rattle.cil_keyed_lines.proofs.KeyedLemmas.{one_kind}
@@ -28,7 +30,7 @@ nowhere = record {
   source = a_type [];
   target = at_itself;
   the_class = [];
-  permissions = [];
+  permissions = nothing;
 }
 
 module _ (rules : List Rule) where
@@ -100,7 +102,7 @@ module _ (names : List (List ℕ)) (apart : AreApart names) where
 
   -- ---- what a rule gives by names
 
-  module _ {A : Type 0} (p : Policy A) (is : IsPolicy names p) (low : list_all (is_rule_below (length p.resolved.now.names.items)) p.resolved.now.rules.items ≡ true) (declared : is_consistent (meaning_in p.resolved.now) ≡ true) where
+  module _ {A : Type 0} (p : Policy A) (is : IsPolicy names p) (sound : HasSoundRules p) where
     abbrev meaning : Meaning
     meaning = meaning_in p.resolved.now
 
@@ -109,12 +111,14 @@ module _ (names : List (List ℕ)) (apart : AreApart names) where
 
     by-names : (c : Counter) (i : ℕ) (rule : NumberedRule A) → slice_get p.resolved.now.rules.items i ≡ Some rule → gives_by p c.key c.target rule ≡ (named c && gives meaning (named-rule rule) (atom c))
     by-names c i rule at =
-        let below_it = passes-at (is_rule_below (length p.resolved.now.names.items)) p.resolved.now.rules.items i rule low at in
-        let declared_it = passes-at (is_rule_of meaning.types meaning.attributes meaning.classes) meaning.rules i (named-rule rule) declared (to-mapped named-rule p.resolved.now.rules.items i rule at) in
+        let below_it = passes-at (is_rule_below (length p.resolved.now.names.items)) p.resolved.now.rules.items i rule sound.below at in
+        let declared_it = passes-at (is_rule_of meaning.types meaning.attributes meaning.classes) meaning.rules i (named-rule rule) sound.consistent (to-mapped named-rule p.resolved.now.rules.items i rule at) in
+        let within = slice_get_within p.resolved.now.rules.items i rule at in
+        let permitted_it = sound.permitted rule (i, within, get_or_from_slice_get p.resolved.now.rules.items i rule rule at) in
         elim (cases_Bool (named c)) [
           | inl is_named_it ↦
               covers-named p.resolved.now names p.numbering.now.symbols apart is.numbers
-              (members_of p.members) is.members rule c.key c.target below_it declared_it is_named_it
+              (members_of p.members) is.members rule c.key c.target below_it declared_it permitted_it is_named_it
               ∙ sym (ap (λ b. b && gives meaning (named-rule rule) (atom c)) is_named_it)
           | inr unnamed ↦
               covers-none p.resolved.now names p.numbering.now.symbols apart is.numbers
@@ -129,8 +133,7 @@ module _ (names : List (List ℕ)) (apart : AreApart names) where
 
   -- ---- two policies
 
-  module _ {A : Type 0} (old new : Policy A) (old_is : IsPolicy names old) (new_is : IsPolicy names new) (low : list_all (is_rule_below (length old.resolved.now.names.items)) old.resolved.now.rules.items ≡ true)
-      (beneath : list_all (is_rule_below (length new.resolved.now.names.items)) new.resolved.now.rules.items ≡ true) (old_declared : is_consistent (meaning_in old.resolved.now) ≡ true) (new_declared : is_consistent (meaning_in new.resolved.now) ≡ true)
+  module _ {A : Type 0} (old new : Policy A) (old_is : IsPolicy names old) (new_is : IsPolicy names new) (old_sound : HasSoundRules old) (new_sound : HasSoundRules new)
       (old_apart : spots.AreApart (map rule_spot (meaning_in old.resolved.now).rules)) (new_apart : spots.AreApart (map rule_spot (meaning_in new.resolved.now).rules)) (m : Matched)
       (matched : AreMatched IsSameRule (meaning_in old.resolved.now).rules (meaning_in new.resolved.now).rules m) where
     abbrev was : Meaning
@@ -155,7 +158,7 @@ module _ (names : List (List ℕ)) (apart : AreApart names) where
     gone i c within is =
         let unmatched : (j : ℕ) → slice_get m.ahead i ≡ Some (Some j) → ⊥ = λ j e. true≢false (sym is ∙ ap (nat_lt 0) (alone-some (old_given c) m.ahead i j e)) in
         let both = counted-some (named c && gives was (at-place was.rules i) (atom c))
-        ∙ sym (ap (nat_lt 0) (alone-none (old_given c) m.ahead i unmatched ∙ given-by-names old old_is low old_declared c i (at-place was.rules i) (read-place was.rules i within))) ∙ is in
+        ∙ sym (ap (nat_lt 0) (alone-none (old_given c) m.ahead i unmatched ∙ given-by-names old old_is old_sound c i (at-place was.rules i) (read-place was.rules i within))) ∙ is in
         let parts = and-both (named c) _ both in
         record { unmatched = unmatched; is_named = parts.0; gave = parts.1 }
 
@@ -187,7 +190,7 @@ module _ (names : List (List ℕ)) (apart : AreApart names) where
       here = read-place now.rules j within
 
       new-given : new_given c j ≡ one_if (named c && gives now rule (atom c))
-      new-given = given-by-names new new_is beneath new_declared c j rule here
+      new-given = given-by-names new new_is new_sound c j rule here
 
       gives-now : gives now rule (atom c) ≡ true → HasGiver now rule (atom c)
       gives-now is = (rule, Contains-get_or now.rules j nowhere within, (refl, refl, refl), is)
@@ -218,7 +221,7 @@ module _ (names : List (List ℕ)) (apart : AreApart names) where
           other = (matched.back i j).0 place
 
           old-given : old_given c i ≡ one_if (named c && gives was other.statement (atom c))
-          old-given = given-by-names old old_is low old_declared c i other.statement other.here
+          old-given = given-by-names old old_is old_sound c i other.statement other.here
 
           same : IsSameRule rule other.statement
           same =

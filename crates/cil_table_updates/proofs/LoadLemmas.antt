@@ -1,5 +1,5 @@
 -- The counters that rise where a first policy is counted are those of accesses that its rules give.
-use Rattle.cil_table_updates.proofs.Common.{◌≡◌, ◌≢◌, ℕ, ◌+◌, ◌<◌, ◌&&◌, true, List, get_or, length, map, nat_lt, refl, sym, ap, ◌∙◌, subst, inr, arith, list_all, Contains, lt-ltb, ltb-true, length-map, All-contains, All-map, Contains-get_or, below, RisesBy, sum_below, sum-differs, sum-zero, gives, Meaning, Atom, IsSameRule, Rule, SymbolKey, is_rule_below, is_consistent, rule_of, meaning_in, comes, AdjustsAtLeast, AdjustsAtMost, Counter, given, AreApart, IsPolicy, Policy}
+use Rattle.cil_table_updates.proofs.Common.{◌≡◌, ◌≢◌, ℕ, ◌+◌, ◌<◌, ◌&&◌, true, List, get_or, length, map, nat_lt, refl, sym, ap, ◌∙◌, subst, inr, arith, Contains, lt-ltb, ltb-true, length-map, All-contains, All-map, Contains-get_or, below, RisesBy, sum_below, sum-differs, sum-zero, gives, Meaning, Atom, IsSameRule, Rule, SymbolKey, rule_of, meaning_in, comes, AdjustsAtLeast, AdjustsAtMost, Counter, given, AreApart, HasSoundRules, IsPolicy, Policy}
 use Rattle.cil_sums.proofs.PairLemmas.{at-most-all, mapped, pairs-map}
 use Rattle.cil_delta_specs.specs.Dirty.{HasGiver, OnlyOne}
 use Rattle.cil_matching.specs.Spot as spots
@@ -7,8 +7,7 @@ use Rattle.cil_matching.specs.Spot.{rule_spot}
 use Rattle.cil_table_updates.proofs.AdjustedLemmas.{and-both, counted-some}
 use Rattle.cil_table_updates.proofs.DirtyLemmas.{at-place, atom, given-by-names, named, nowhere, one-pair, read-place}
 
-module _ {A : Type 0} (names : List (List ℕ)) (apart : AreApart names) (p : Policy A) (is : IsPolicy names p) (low : list_all (is_rule_below (length p.resolved.now.names.items)) p.resolved.now.rules.items ≡ true)
-    (declared : is_consistent (meaning_in p.resolved.now) ≡ true) (rules_apart : spots.AreApart (map rule_spot (meaning_in p.resolved.now).rules)) where
+module _ {A : Type 0} (names : List (List ℕ)) (apart : AreApart names) (p : Policy A) (is : IsPolicy names p) (sound : HasSoundRules p) (rules_apart : spots.AreApart (map rule_spot (meaning_in p.resolved.now).rules)) where
   abbrev now : Meaning
   now = meaning_in p.resolved.now
 
@@ -21,7 +20,7 @@ module _ {A : Type 0} (names : List (List ℕ)) (apart : AreApart names) (p : Po
   come : (j : ℕ) (c : Counter) → j < length now.rules → comes p j c ≡ true → IsCome j c
   come j c within it =
       let parts = and-both (named names apart c) _ (counted-some (named names apart c && gives now (at-place now.rules j) (atom names apart c))
-      ∙ sym (ap (nat_lt 0) (given-by-names names apart p is low declared c j (at-place now.rules j) (read-place now.rules j within))) ∙ it) in
+      ∙ sym (ap (nat_lt 0) (given-by-names names apart p is sound c j (at-place now.rules j) (read-place now.rules j within))) ∙ it) in
       record { within = within; is_named = parts.0; gives_it = parts.1 }
 
   abbrev pair : ℕ × Counter → Rule × Atom

@@ -1,13 +1,38 @@
 -- The same rule of two policies, by symbols.
-use Rattle.cil_table_updates.proofs.Common.{◌≡◌, ℕ, ◌<◌, ◌==◌, ◌&&◌, ◌||◌, true, List, [], ◌∷◌, length, map, nat_lt, slice_index, slice_index_or, Some, refl, ap, ◌∙◌, list_all, list_any, eq-eqb, ltb-true, content_of, kind_index, is_kind, SymbolKey, is_element_below, is_rule_below, is_target_below, element_of, resolved_target_of, rule_of, NumberedRule, Resolved, aims_by, covers_by, has_by, is-below, symbol-named, HaveSameHead, AreApart}
+use Rattle.cil_table_updates.proofs.Common.{◌≡◌, ℕ, ◌<◌, ◌==◌, ◌&&◌, ◌||◌, true, List, [], ◌∷◌, length, map, nat_lt, not, slice_index, slice_index_or, Option, None, Some, refl, sym, ap, ◌∙◌, true≢false, list_all, list_any, eq-eqb, ltb-true, content_of, kind_index, is_element_below, is_rule_below, is_target_below, element_of, keeps_no_list, resolved_target_of, rule_of, NumberedRule, Resolved, aims_by, has_by, permits_by, reaches_by, is-below, symbol-named, AreApart}
+use Rattle.std.proofs.Common.{Box, is_none}
+use Rattle.cil_specs.specs.Expr.{leaves, listed, map_leaves}
+use Rattle.cil_specs.proofs.MeansLemmas.{leaves-mapped}
+use Rattle.cil_parse.specs.Forms.{is_plain}
 use Rattle.cil_parse.specs.Lexicon.{AreNumbersOf}
+use Rattle.cil_expression.specs.Expression.{expr_in}
+use Rattle.cil_expression.specs.declared.expression.Expression.{Expression}
+use Rattle.cil_expression.proofs.ListedLemmas.{leaves-listed, plain-mapped}
 use Rattle.cil_expression.specs.declared.expression.Element.{Element}
 use Rattle.cil_expression.specs.declared.expression.Element.TheVariants.{«Type», Attribute}
 use Rattle.cil_keyed_lines.proofs.KeyedLemmas.{one_kind}
+use Rattle.cil_matching.proofs.ContentLemmas.{plain-list}
+use Rattle.cil_resolve.specs.Numbers.{is_no_list, written_in, written_or}
 use Rattle.cil_resolve.specs.Sets.{name_in}
 use Rattle.cil_resolve.specs.declared.numbered.ResolvedTarget.{ResolvedTarget}
 use Rattle.cil_resolve.specs.declared.numbered.ResolvedTarget.TheVariants as targets
 use Rattle.cil_table_updates.proofs.GivenLemmas.{and-first, and-second}
+
+-- a rule that keeps no expression names the same permissions as one that is written the same
+plain-listed-same : {A B : Type 0} (f g : ℕ → List ℕ) (rule : NumberedRule A) (other : NumberedRule B) → keeps_no_list rule ≡ true → is_none other.written ≡ true → map_leaves f (written_in rule) ≡ map_leaves g (written_in other)
+    → map f rule.permissions ≡ map g other.permissions
+plain-listed-same {A = A} {B = B} f g rule other no_list plain same = by rule.written other.written no_list plain same
+  where
+    names_of : (h : ℕ → List ℕ) (ps : List ℕ) → leaves (map_leaves h (listed ps)) ≡ map h ps
+    names_of h ps = leaves-mapped h (listed ps) ∙ ap (map h) (leaves-listed ps)
+
+    by : (w : Option (Box (Expression ℕ A) A)) (v : Option (Box (Expression ℕ B) B)) → is_no_list w ≡ true → is_none v ≡ true → map_leaves f (written_or w rule.permissions) ≡ map_leaves g (written_or v other.permissions)
+        → map f rule.permissions ≡ map g other.permissions
+    by None None no_list plain same = sym (names_of f rule.permissions) ∙ ap leaves same ∙ names_of g other.permissions
+    by (Some e) None no_list plain same =
+        absurd (true≢false (sym no_list ∙ ap not (sym (plain-mapped f (expr_in e.value)) ∙ ap is_plain same ∙ plain-mapped g (listed other.permissions) ∙ plain-list other.permissions)))
+    by None (Some e) no_list plain same = absurd (true≢false (sym plain))
+    by (Some e) (Some d) no_list plain same = absurd (true≢false (sym plain))
 
 module _ {A B : Type 0} (old : Resolved A) (new : Resolved B) (names : List (List ℕ)) (apart : AreApart names) (old_symbols new_symbols : List ℕ)
     (old_numbers : AreNumbersOf names old_symbols old.names.items) (new_numbers : AreNumbersOf names new_symbols new.names.items) where
@@ -35,36 +60,32 @@ module _ {A B : Type 0} (old : Resolved A) (new : Resolved B) (names : List (Lis
 
   same-permissions : (p : ℕ) (ps qs : List ℕ) → list_all (λ q. nat_lt q (length old.names.items)) ps ≡ true → list_all (λ q. nat_lt q (length new.names.items)) qs ≡ true
       → map (λ q. slice_index_or old.names.items q []) ps ≡ map (λ q. slice_index_or new.names.items q []) qs
-      → list_any (λ q. p == slice_index old_symbols q) ps ≡ list_any (λ q. p == slice_index new_symbols q) qs
+      → list_any (λ q. slice_index old_symbols q == p) ps ≡ list_any (λ q. slice_index new_symbols q == p) qs
   same-permissions p [] [] low below same = refl
   same-permissions p [] (q ∷ qs) low below same = absurd (cc same)
   same-permissions p (m ∷ ps) [] low below same = absurd (cc same)
   same-permissions p (m ∷ ps) (n ∷ qs) low below same =
-      ap (λ s. (p == s) || list_any (λ q. p == slice_index old_symbols q) ps)
+      ap (λ s. (s == p) || list_any (λ q. slice_index old_symbols q == p) ps)
       (same-symbol m n (ltb-true m (length old.names.items) (and-first (nat_lt m (length old.names.items)) _ low)) (ltb-true n (length new.names.items) (and-first (nat_lt n (length new.names.items)) _ below)) (cc same))
-      ∙ ap (λ b. (p == slice_index new_symbols n) || b) (same-permissions p ps qs (and-second (nat_lt m (length old.names.items)) _ low) (and-second (nat_lt n (length new.names.items)) _ below) (cc same))
+      ∙ ap (λ b. (slice_index new_symbols n == p) || b) (same-permissions p ps qs (and-second (nat_lt m (length old.names.items)) _ low) (and-second (nat_lt n (length new.names.items)) _ below) (cc same))
 
   module _ (rule : NumberedRule A) (other : NumberedRule B) (low : is_rule_below (length old.names.items) rule ≡ true) (below : is_rule_below (length new.names.items) other ≡ true)
       (same : content_of (rule_of old.modules.items old.names.items rule) ≡ content_of (rule_of new.modules.items new.names.items other)) where
-    pub same-head : HaveSameHead old_symbols rule new_symbols other
-    same-head =
-        let first = is-below old rule low in
-        let second = is-below new other below in
-        record {
-          kind = one_kind rule.kind other.kind (eq-eqb _ _ (ap (λ c. kind_index c.kind) same));
-          class = same-symbol rule.class other.class first.class second.class (ap (λ c. c.the_class) same);
-          permissions = λ p. same-permissions p rule.permissions other.permissions first.permissions second.permissions (ap (λ c. c.permissions) same);
-        }
+    pub same-rule-kind : rule.kind ≡ other.kind
+    same-rule-kind = one_kind rule.kind other.kind (eq-eqb _ _ (ap (λ c. kind_index c.kind) same))
 
-    -- the same members make it cover the same
-    pub same-covers : (members : ℕ → ℕ → ℕ) (key : SymbolKey) (t : ℕ) → covers_by members old_symbols rule key t ≡ covers_by members new_symbols other key t
-    unfolding covers_by
-    same-covers members key t =
+    -- the same members make it reach the same
+    pub same-reach : (members : ℕ → ℕ → ℕ) (s t : ℕ) → reaches_by members old_symbols rule s t ≡ reaches_by members new_symbols other s t
+    same-reach members s t =
         let first = is-below old rule low in
         let second = is-below new other below in
-        λ i. is_kind (same-head.kind i) key.kind
-        && ((same-element members rule.source other.source key.source first.source second.source
-        (λ j. (same j).source) i
-        && same-target members rule.target other.target key.source t first.target second.target
-        (λ j. (same j).target) i)
-        && ((same-head.class i == key.class) && same-head.permissions key.permission i))
+        λ i. same-element members rule.source other.source s first.source second.source (λ j. (same j).source) i && same-target members rule.target other.target s t first.target second.target (λ j. (same j).target) i
+
+    -- a plain list permits the same
+    pub same-permits : keeps_no_list rule ≡ true → is_none other.written ≡ true → (c p : ℕ) → permits_by old_symbols rule c p ≡ permits_by new_symbols other c p
+    same-permits no_list plain c p =
+        let first = is-below old rule low in
+        let second = is-below new other below in
+        let classes = same-symbol rule.class other.class first.class second.class (ap (λ c. c.the_class) same) in
+        let listed = plain-listed-same (λ n. slice_index_or old.names.items n []) (λ n. slice_index_or new.names.items n []) rule other no_list plain (ap (λ c. c.permissions) same) in
+        λ i. (classes i == c) && same-permissions p rule.permissions other.permissions first.permissions second.permissions listed i

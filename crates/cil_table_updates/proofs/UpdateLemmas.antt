@@ -1,12 +1,12 @@
 -- Counters of accesses brought from one policy to another.
-use Rattle.cil_table_updates.proofs.Common.{◌≡◌, ℕ, ◌+◌, ◌≤◌, true, List, length, slice_get, Some, sym, ap, ◌∙◌, subst, arith, list_all, length-map, slice_get_within, across, alone, sum_below, ArePlaces, sum-sides, IsSameRule, count_before, is_rule_below, rule_of, meaning_in, NumberedRule, Resolved, covers_by, members_of, AreReplaced, AreApart, IsPolicy, Policy}
+use Rattle.cil_table_updates.proofs.Common.{◌≡◌, ℕ, ◌+◌, ◌≤◌, true, List, length, slice_get, Some, sym, ap, ◌∙◌, subst, arith, length-map, slice_get_within, across, alone, sum_below, ArePlaces, sum-sides, IsSameRule, count_before, is_rule_below, keeps_no_list, rule_of, meaning_in, NumberedRule, Resolved, members_of, reaches_by, AreReplaced, AreApart, HasSoundRules, IsPolicy, Policy}
 use Rattle.cil_specs.specs.Rule as spec
 use Rattle.cil_matching.specs.Matching.{Matched, AreMatched, AreSameAt}
 use Rattle.cil_matching.proofs.MatchedLemmas.{from-mapped}
 use Rattle.cil_member_rows.specs.Rows.{count_now}
 use Rattle.cil_recorded.specs.Recorded.{State}
 use Rattle.cil_table_updates.proofs.PlaceLemmas.{passes-at}
-use Rattle.cil_table_updates.proofs.SameLemmas.{same-covers, same-head}
+use Rattle.cil_table_updates.proofs.SameLemmas.{same-permits, same-reach, same-rule-kind}
 
 -- statements that are put together have places
 pub places-matched : {S : Type 0} (IsSame : S → S → Type 0) (old new : List S) (m : Matched) → AreMatched IsSame old new m → ArePlaces (length old) (length new) m.ahead m.back
@@ -17,7 +17,7 @@ places-matched IsSame old new m matched = record {
 
 module _ {A : Type 0} (names : List (List ℕ)) (apart : AreApart names) (rows : State) (old new : Policy A) (old_is : IsPolicy names old) (new_is : IsPolicy names new)
     (before : members_of old.members ≡ count_before rows) (now : members_of new.members ≡ count_now rows)
-    (low : list_all (is_rule_below (length old.resolved.now.names.items)) old.resolved.now.rules.items ≡ true) (below : list_all (is_rule_below (length new.resolved.now.names.items)) new.resolved.now.rules.items ≡ true) where
+    (old_sound : HasSoundRules old) (new_sound : HasSoundRules new) where
   -- so rules that are put together are the same by symbols
   pub rules-replaced : (m : Matched) → AreMatched IsSameRule (meaning_in old.resolved.now).rules (meaning_in new.resolved.now).rules m → AreReplaced rows old new m
   rules-replaced m matched i j is = record {
@@ -25,11 +25,12 @@ module _ {A : Type 0} (names : List (List ℕ)) (apart : AreApart names) (rows :
     new_rule = other.0;
     here = one.1;
     there = other.1;
-    head = same-head r s names apart old.numbering.now.symbols new.numbering.now.symbols old_is.numbers new_is.numbers one.0 other.0 one_low other_below same;
-    covers = λ key t.
-        same-covers r s names apart old.numbering.now.symbols new.numbering.now.symbols old_is.numbers new_is.numbers one.0 other.0 one_low other_below same (members_of old.members) key t
-        ∙ ap (λ members. covers_by members new.numbering.now.symbols other.0 key t) before;
-    now = λ key t. ap (λ members. covers_by members new.numbering.now.symbols other.0 key t) now;
+    kind = same-rule-kind r s names apart old.numbering.now.symbols new.numbering.now.symbols old_is.numbers new_is.numbers one.0 other.0 one_low other_below same;
+    reached = λ source t.
+        same-reach r s names apart old.numbering.now.symbols new.numbering.now.symbols old_is.numbers new_is.numbers one.0 other.0 one_low other_below same (members_of old.members) source t
+        ∙ ap (λ members. reaches_by members new.numbering.now.symbols other.0 source t) before;
+    reaches = λ source t. ap (λ members. reaches_by members new.numbering.now.symbols other.0 source t) now;
+    permits = same-permits r s names apart old.numbering.now.symbols new.numbering.now.symbols old_is.numbers new_is.numbers one.0 other.0 one_low other_below same one_no_list;
   }
     where
       r : Resolved A
@@ -48,10 +49,13 @@ module _ {A : Type 0} (names : List (List ℕ)) (apart : AreApart names) (rows :
       other = from-mapped (rule_of s.modules.items s.names.items) s.rules.items j at.other at.there
 
       one_low : is_rule_below (length r.names.items) one.0 ≡ true
-      one_low = passes-at (is_rule_below (length r.names.items)) r.rules.items i one.0 low one.1
+      one_low = passes-at (is_rule_below (length r.names.items)) r.rules.items i one.0 old_sound.below one.1
 
       other_below : is_rule_below (length s.names.items) other.0 ≡ true
-      other_below = passes-at (is_rule_below (length s.names.items)) s.rules.items j other.0 below other.1
+      other_below = passes-at (is_rule_below (length s.names.items)) s.rules.items j other.0 new_sound.below other.1
+
+      one_no_list : keeps_no_list one.0 ≡ true
+      one_no_list = passes-at keeps_no_list r.rules.items i one.0 old_sound.no_lists one.1
 
       same : spec.content_of (rule_of r.modules.items r.names.items one.0) ≡ spec.content_of (rule_of s.modules.items s.names.items other.0)
       same = ap spec.content_of one.2 ∙ at.same.2 ∙ sym (ap spec.content_of other.2)

@@ -12,10 +12,10 @@ use Rattle.cil_matching.specs.Matching.{Matched}
 use Rattle.cil_resolve.specs.Meter.{adjustments_in}
 use Rattle.cil_resolve.specs.declared.meter.Meter.{Meter}
 use Rattle.cil_resolve.specs.declared.numbered.NumberedRule.{NumberedRule}
-use Rattle.cil_rule_shifts.specs.Moves.{differs}
-use Rattle.cil_rule_shifts.specs.declared.reach.Reach.{Reach}
+use Rattle.cil_rule_shifts.specs.Moves.{differs, moves_from}
+use Rattle.cil_rule_shifts.specs.declared.grant.Grant.{Grant}
+use Rattle.cil_text.specs.declared.statement.RuleKind.{RuleKind}
 use Rattle.cil_table_updates.specs.Given.{given, gives_by}
-use Rattle.cil_table_updates.specs.Moves.{gives_as}
 use Rattle.cil_table_updates.specs.declared.policy.Policy.{Policy}
 
 -- what a counter counts the rules of: an access, by its kind and the symbols of its names
@@ -23,9 +23,9 @@ pub record Counter : Type 0 where
   pub key : SymbolKey
   pub target : ℕ
 
--- whether exactly one of what a rule reached and reaches has the counter's access, by the rule's kind, class and permissions
-abbrev pub shifts : {A B : Type 0} → List ℕ → NumberedRule A → Reach B → Reach B → Counter → Bool
-shifts symbols rule was is c = differs (gives_as symbols rule was c.key c.target) (gives_as symbols rule is c.key c.target)
+-- whether exactly one of what a rule of a kind gave and gives has the counter's access
+abbrev pub shifts : {A : Type 0} → RuleKind → Grant A → Grant A → Counter → Bool
+shifts kind was is c = moves_from kind was is (c.key, c.target)
 
 -- whether a rule of a policy gives it
 abbrev pub gives_it : {A : Type 0} → Policy A → NumberedRule A → Counter → Bool

@@ -1,14 +1,12 @@
 -- What the rules of a policy give, by symbols, rule by rule.
-use Rattle.std.specs.Prelude.{ℕ, Bool, false, List, Option, length, slice_get}
+use Rattle.std.specs.Prelude.{ℕ, Bool, false, Option, length, slice_get}
 use Rattle.std.specs.Option.{option_map_or}
 use Rattle.cil_keyed_lines.specs.declared.symbol_key.SymbolKey.{SymbolKey}
 use Rattle.cil_resolve.specs.declared.numbered.NumberedRule.{NumberedRule}
 use Rattle.cil_rule_reach.specs.Reaches.{covers_by, members_of}
 use Rattle.cil_matching.specs.Matching.{Matched}
 use Rattle.cil_rule_shifts.specs.Reach.{one_if}
-use Rattle.cil_rule_shifts.specs.declared.reach.Reach.{Reach}
 use Rattle.cil_sums.specs.Sums.{across, alone, sum_below}
-use Rattle.cil_table_updates.specs.Moves.{gives_as}
 use Rattle.cil_table_updates.specs.declared.policy.Policy.{Policy}
 
 -- whether a rule of a policy gives an access
@@ -26,10 +24,6 @@ given_at p key t place = option_map_or (given p key t) place 0
 -- The amounts by which the counters of accesses move. 1 where a rule of a policy gives the access,
 abbrev pub given_by : {A : Type 0} → Policy A → NumberedRule A → SymbolKey → ℕ → ℕ
 given_by p rule key t = one_if (gives_by p key t rule)
-
--- where a rule's kind, class and permissions give it to what a source reaches,
-abbrev pub given_as : {A B : Type 0} → List ℕ → NumberedRule A → Reach B → SymbolKey → ℕ → ℕ
-given_as symbols rule reach key t = one_if (gives_as symbols rule reach key t)
 
 -- where the rule at a place does,
 abbrev pub given_there : {A : Type 0} → Policy A → ℕ → SymbolKey → ℕ → ℕ

@@ -1,26 +1,13 @@
 -- What lets a rule's counters be moved.
-use Rattle.std.specs.Prelude.{◌≡◌, ◌≤◌, ◌&&◌, ◌==◌, ℕ, Bool, IsTrue, List, length, slice_get, slice_index, Some}
-use Rattle.std.specs.List.{list_all, list_any}
-use Rattle.cil_keyed_lines.specs.Keyed.{is_kind}
-use Rattle.cil_keyed_lines.specs.declared.symbol_key.SymbolKey.{SymbolKey}
+use Rattle.std.specs.Prelude.{◌≡◌, ◌≤◌, ℕ, Bool, true, IsTrue, is_none, length, slice_get, Some}
+use Rattle.std.specs.List.{list_all}
 use Rattle.cil_matching.specs.Matching.{Matched}
 use Rattle.cil_member_rows.specs.Rows.{count_before, count_now}
 use Rattle.cil_recorded.specs.Recorded.{State}
 use Rattle.cil_resolve.specs.Below.{is_rule_below}
 use Rattle.cil_resolve.specs.declared.numbered.NumberedRule.{NumberedRule}
-use Rattle.cil_rule_reach.specs.Reaches.{covers_by, members_of}
-use Rattle.cil_rule_shifts.specs.Reach.{reaches}
-use Rattle.cil_rule_shifts.specs.declared.reach.Reach.{Reach}
+use Rattle.cil_rule_reach.specs.Reaches.{members_of, permits_by, reaches_by}
 use Rattle.cil_table_updates.specs.declared.policy.Policy.{Policy}
-
--- whether a symbol is that of one of a rule's permissions
-abbrev pub lists : {A : Type 0} → List ℕ → NumberedRule A → ℕ → Bool
-lists symbols rule p = list_any (λ q. p == slice_index symbols q) rule.permissions
-
--- whether a rule's kind, class and permissions give an access to what a source reaches
-abbrev pub gives_as : {A B : Type 0} → List ℕ → NumberedRule A → Reach B → SymbolKey → ℕ → Bool
-gives_as symbols rule reach key t = is_kind rule.kind key.kind
-    && (reaches reach key.source t && ((slice_index symbols rule.class == key.class) && lists symbols rule key.permission))
 
 -- the names of a rule of a policy have symbols
 abbrev pub IsRuleOf : {A : Type 0} → Policy A → NumberedRule A → Type 0
@@ -36,26 +23,25 @@ pub record IsReady {A : Type 0} (p : Policy A) : Type 0 where
   pub below : IsTrue (list_all (is_rule_below (length p.numbering.now.symbols)) p.resolved.now.rules.items)
   pub known : IsKnown p
 
--- Two rules have the same kind, class and permissions, by symbols.
-pub record HaveSameHead {A B : Type 0} (old_symbols : List ℕ) (old : NumberedRule A) (new_symbols : List ℕ) (new : NumberedRule B) : Type 0 where
-  pub kind : old.kind ≡ new.kind
-  pub class : slice_index old_symbols old.class ≡ slice_index new_symbols new.class
-  pub permissions : (p : ℕ) → lists old_symbols old p ≡ lists new_symbols new p
+-- whether a rule's permissions are a plain list
+abbrev pub is_plain_list : {A : Type 0} → NumberedRule A → Bool
+is_plain_list rule = is_none rule.written
 
--- rules of two policies have
-abbrev pub HaveHeads : {A : Type 0} → (old : Policy A) → NumberedRule A → (new : Policy A) → NumberedRule A → Type 0
-HaveHeads old old_rule new new_rule = HaveSameHead old.numbering.now.symbols old_rule new.numbering.now.symbols new_rule
+-- rules of two policies permit the same
+abbrev pub PermitTheSame : {A : Type 0} → (old : Policy A) → NumberedRule A → (new : Policy A) → NumberedRule A → Type 0
+PermitTheSame old old_rule new new_rule = (c p : ℕ) → permits_by old.numbering.now.symbols old_rule c p ≡ permits_by new.numbering.now.symbols new_rule c p
 
--- Rules of these numbers have the same head, and cover the same where they are asked by the same members. The members of the one are
--- those before the steps, and those of the other the ones now.
+-- Rules of these numbers are of the same kind, reach the same where they are asked by the same members, and permit the same where that is
+-- a plain list. The members of the one are those before the steps, and those of the other the ones now.
 pub record IsReplaced {A : Type 0} (rows : State) (old : Policy A) (i : ℕ) (new : Policy A) (j : ℕ) : Type 0 where
   pub old_rule : NumberedRule A
   pub new_rule : NumberedRule A
   pub here : slice_get old.resolved.now.rules.items i ≡ Some old_rule
   pub there : slice_get new.resolved.now.rules.items j ≡ Some new_rule
-  pub head : HaveSameHead old.numbering.now.symbols old_rule new.numbering.now.symbols new_rule
-  pub covers : (key : SymbolKey) (t : ℕ) → covers_by (members_of old.members) old.numbering.now.symbols old_rule key t ≡ covers_by (count_before rows) new.numbering.now.symbols new_rule key t
-  pub now : (key : SymbolKey) (t : ℕ) → covers_by (members_of new.members) new.numbering.now.symbols new_rule key t ≡ covers_by (count_now rows) new.numbering.now.symbols new_rule key t
+  pub kind : old_rule.kind ≡ new_rule.kind
+  pub reached : (s t : ℕ) → reaches_by (members_of old.members) old.numbering.now.symbols old_rule s t ≡ reaches_by (count_before rows) new.numbering.now.symbols new_rule s t
+  pub reaches : (s t : ℕ) → reaches_by (members_of new.members) new.numbering.now.symbols new_rule s t ≡ reaches_by (count_now rows) new.numbering.now.symbols new_rule s t
+  pub permits : is_plain_list new_rule ≡ true → PermitTheSame old old_rule new new_rule
 
 -- Rules that are put together are so.
 abbrev pub AreReplaced : {A : Type 0} → State → Policy A → Policy A → Matched → Type 0

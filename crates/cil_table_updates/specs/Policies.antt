@@ -1,9 +1,12 @@
 -- Two policies by symbols, and how many of their rules give an access.
-use Rattle.std.specs.Prelude.{◌≡◌, ◌≤◌, ℕ, IsTrue, List, cond, length, Some, slice_get}
+use Rattle.std.specs.Prelude.{◌≡◌, ◌≤◌, ℕ, IsTrue, List, Contains, cond, length, Some, slice_get}
 use Rattle.std.specs.List.{list_all}
 use Rattle.cil_specs.specs.Meaning.{Meaning, count_of}
 use Rattle.cil_keyed_lines.specs.Keyed.{Keyed, count_now}
 use Rattle.cil_resolve.specs.Below.{is_rule_below}
+use Rattle.cil_resolve.specs.Consistent.{is_consistent}
+use Rattle.cil_resolve.specs.Numbers.{GivesNumbered, keeps_no_list}
+use Rattle.cil_resolve.specs.declared.numbered.NumberedRule.{NumberedRule}
 use Rattle.cil_parse.specs.Lexicon.{AreNumbersOf}
 use Rattle.cil_keyed_lines.specs.declared.symbol_key.SymbolKey.{SymbolKey}
 use Rattle.cil_resolve.specs.Resolved.{meaning_in}
@@ -35,6 +38,10 @@ pub record HasSymbols {A : Type 0} (names : List (List ℕ)) (p : Named A) : Typ
   pub numbers : AreNumbersOf names p.numbering.now.symbols p.resolved.now.names.items
   pub count : p.numbering.now.count ≤ length names
 
--- the rules of a policy have names that it has
-abbrev pub AreRulesBelow : {A : Type 0} → Policy A → Type 0
-AreRulesBelow p = IsTrue (list_all (is_rule_below (length p.resolved.now.names.items)) p.resolved.now.rules.items)
+-- The rules of a policy have names that it has, name what it declares, and give the permissions at their numbers. Those that keep an
+-- expression have no plain list.
+pub record HasSoundRules {A : Type 0} (p : Policy A) : Type 0 where
+  pub below : IsTrue (list_all (is_rule_below (length p.resolved.now.names.items)) p.resolved.now.rules.items)
+  pub no_lists : IsTrue (list_all keeps_no_list p.resolved.now.rules.items)
+  pub consistent : IsTrue (is_consistent (meaning_in p.resolved.now))
+  pub permitted : (rule : NumberedRule A) → Contains p.resolved.now.rules.items rule → GivesNumbered (meaning_in p.resolved.now) p.resolved.now.modules.items p.resolved.now.names.items rule

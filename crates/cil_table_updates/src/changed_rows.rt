@@ -2,7 +2,7 @@
 
 ghost use Rattle.std.specs.Prelude.{◌≡◌, ◌<◌, ◌==◌, ◌||◌, ℕ, IsTrue, true, length, IfOk};
 ghost use Rattle.cil_resolve.specs.Below.{is_element_below, is_rule_below, is_target_below};
-ghost use Rattle.cil_table_updates.specs.Changed.{StaysElement, StaysRow, StaysRule, StaysTarget, is_marked};
+ghost use Rattle.cil_table_updates.specs.Changed.{StaysElement, StaysReach, StaysRow, StaysTarget, is_marked};
 
 use cil_member_rows::MemberRows;
 use cil_resolve::{Element, NumberedRule, ResolvedTarget};
@@ -88,11 +88,11 @@ impl<A: Allocator> ChangedRows<'_, A> {
         }
     }
 
-    /// Whether a rule of a policy covers the same accesses as before the steps. No is the answer
-    /// where it may cover others.
-    pub fn rule_stays(&self, numbering: &Numbering<A>, rule: &NumberedRule<A>) -> bool
+    /// Whether a rule of a policy reaches the same as before the steps. No is the answer where it
+    /// may reach something else.
+    pub fn reach_stays(&self, numbering: &Numbering<A>, rule: &NumberedRule<A>) -> bool
         requires { IsTrue (is_rule_below (length numbering.now.symbols) rule.now) }
-        ensures { result ≡ true → StaysRule self.now numbering.now.symbols rule.now }
+        ensures { result ≡ true → StaysReach self.now numbering.now.symbols rule.now }
     {
         let source = self.element_stays(numbering, rule.source);
         let target = self.target_stays(numbering, rule.target);

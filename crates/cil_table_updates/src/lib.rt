@@ -6,6 +6,7 @@ mod loading;
 mod moves;
 mod passes;
 mod policy;
+mod staying;
 mod updating;
 
 pub use loading::load;

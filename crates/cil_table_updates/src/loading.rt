@@ -8,8 +8,8 @@ ghost use Rattle.cil_specs.specs.Meaning.{Meaning};
 use crate::policy::{Named, Policy, Shared};
 use cil_keyed_lines::{KeyedLines, SymbolKey};
 use cil_resolve::{Meter, NumberedRule, resolved_rules_are_in_order};
-use cil_rule_reach::{When, permission_symbols, rule_reach, symbol_of};
-use cil_rule_shifts::{RuleHead, put_rule};
+use cil_rule_reach::{When, rule_permits, rule_reach};
+use cil_rule_shifts::{Grant, put_rule};
 use std::alloc::{AllocError, Allocator};
 
 /// Adds what a rule of a policy gives, for good. The meter counts each counter that rises.
@@ -29,15 +29,13 @@ fn add_rule<A: Allocator + Copy>(
     ensures adjustments { OnOk result (Adjusts (gives_it policy.now rule.now) meter.old meter.new) }
     ensures evaluations { evaluations_in meter.new ≡ evaluations_in meter.old }
 {
-    let is = rule_reach(alloc, &policy.members, policy.numbering, rule)?;
-    let permissions = permission_symbols(alloc, policy.numbering, rule.permissions.as_slice())?;
-    let class = symbol_of(policy.numbering, rule.class);
-    let head = RuleHead {
-        kind: rule.kind,
-        class,
-        permissions: &permissions,
+    let reach = rule_reach(alloc, &policy.members, policy.numbering, rule)?;
+    let permits = rule_permits(alloc, policy.numbering, rule)?;
+    let is = Grant {
+        reach: &reach,
+        permits: &permits,
     };
-    let given = put_rule(lines, alloc, head, &is)?;
+    let given = put_rule(lines, alloc, rule.kind, is)?;
     meter.adjusted(given);
     Ok(())
 }

@@ -1,13 +1,14 @@
 //! Counters moved from what a rule gave to what it gives.
 
 ghost use Rattle.std.specs.Prelude.{◌≡◌, OnOk};
-ghost use Rattle.cil_table_updates.specs.Common.{evaluations_in, IsShort, AreLowered, AreMoved, AreRaised, CountAtLeast, NoneRises, RiseAtMost, StaysBefore, Adjusts, gives_it, replaces, shifts, given_as, given_by, HaveHeads, IsKnown, IsRuleOf};
+ghost use Rattle.cil_table_updates.specs.Common.{evaluations_in, IsGrant, grants, ones, AreLowered, AreMoved, AreRaised, CountAtLeast, NoneRises, RiseAtMost, StaysBefore, Adjusts, gives_it, replaces, shifts, given_by, IsKnown, IsRuleOf};
 
 use crate::policy::Policy;
 use cil_keyed_lines::KeyedLines;
 use cil_resolve::{Meter, NumberedRule};
-use cil_rule_reach::{permission_symbols, rule_reach, symbol_of};
-use cil_rule_shifts::{Reach, RuleHead, shift_rule};
+use cil_rule_reach::{rule_permits, rule_reach};
+use cil_rule_shifts::{Grant, Reach, shift_rule};
+use cil_text::RuleKind;
 use std::alloc::{AllocError, Allocator, Global};
 
 /// A rule of a policy.
@@ -17,48 +18,35 @@ pub struct PolicyRule<'p, A: Allocator = Global> {
     pub rule: &'p NumberedRule<A>,
 }
 
-/// What a rule reached, and reaches.
+/// What a rule gave, and gives.
 #[derive(Clone, Copy)]
 struct Turn<'r, A: Allocator = Global> {
-    was: &'r Reach<A>,
-    is: &'r Reach<A>,
+    was: Grant<'r, A>,
+    is: Grant<'r, A>,
 }
 
-/// Moves the counters of what a rule gave to those of what it gives, by the kind, the class and the
-/// permissions of a policy's rule. The meter counts each counter that moves. But for
-/// `loading::add_rule` no other function moves counters of accesses, so that none moves uncounted.
+/// Moves the counters of what a rule of a kind gave to those of what it gives. The meter counts
+/// each counter that moves. But for `loading::add_rule` no other function moves counters of
+/// accesses, so that none moves uncounted.
 fn shift_as<A: Allocator + Copy>(
     lines: &mut KeyedLines<A>,
     alloc: A,
-    of: &PolicyRule<'_, A>,
+    kind: RuleKind,
     turn: &Turn<'_, A>,
     meter: &mut Meter,
 ) -> Result<(), AllocError>
-    requires below { IsRuleOf of.now.policy.now of.now.rule.now }
-    requires was { IsShort turn.now.was.now }
-    requires is { IsShort turn.now.is.now }
-    requires counted { CountAtLeast lines.old
-        (given_as of.now.policy.now.numbering.now.symbols of.now.rule.now turn.now.was.now) }
+    requires was { IsGrant turn.now.was }
+    requires is { IsGrant turn.now.is }
+    requires counted { CountAtLeast lines.old (ones (grants kind turn.now.was)) }
     ensures now { OnOk result (AreMoved lines.old lines.new
-        (given_as of.now.policy.now.numbering.now.symbols of.now.rule.now turn.now.was.now)
-        (given_as of.now.policy.now.numbering.now.symbols of.now.rule.now turn.now.is.now)) }
+        (ones (grants kind turn.now.was)) (ones (grants kind turn.now.is))) }
     ensures before { StaysBefore lines.old lines.new }
-    ensures bounded { RiseAtMost lines.old lines.new
-        (given_as of.now.policy.now.numbering.now.symbols of.now.rule.now turn.now.is.now) }
-    ensures adjustments { OnOk result (Adjusts (shifts of.now.policy.now.numbering.now.symbols
-        of.now.rule.now turn.now.was.now turn.now.is.now) meter.old meter.new) }
+    ensures bounded { RiseAtMost lines.old lines.new (ones (grants kind turn.now.is)) }
+    ensures adjustments { OnOk result
+        (Adjusts (shifts kind turn.now.was turn.now.is) meter.old meter.new) }
     ensures evaluations { evaluations_in meter.new ≡ evaluations_in meter.old }
 {
-    let rule = of.rule;
-    let numbering = of.policy.numbering;
-    let permissions = permission_symbols(alloc, numbering, rule.permissions.as_slice())?;
-    let class = symbol_of(numbering, rule.class);
-    let head = RuleHead {
-        kind: rule.kind,
-        class,
-        permissions: &permissions,
-    };
-    let moved = shift_rule(lines, alloc, head, turn.was, turn.is)?;
+    let moved = shift_rule(lines, alloc, kind, turn.was, turn.is)?;
     meter.adjusted(moved);
     Ok(())
 }
@@ -80,10 +68,18 @@ pub fn take_rule<A: Allocator + Copy>(
     ensures adjustments { OnOk result (Adjusts (gives_it policy.now rule.now) meter.old meter.new) }
     ensures evaluations { evaluations_in meter.new ≡ evaluations_in meter.old }
 {
-    let was = rule_reach(alloc, &policy.members, policy.numbering, rule)?;
-    let is = Reach::none(alloc);
-    let turn = Turn { was: &was, is: &is };
-    shift_as(lines, alloc, &PolicyRule { policy, rule }, &turn, meter)
+    let reach = rule_reach(alloc, &policy.members, policy.numbering, rule)?;
+    let permits = rule_permits(alloc, policy.numbering, rule)?;
+    let none = Reach::none(alloc);
+    let was = Grant {
+        reach: &reach,
+        permits: &permits,
+    };
+    let is = Grant {
+        reach: &none,
+        permits: &permits,
+    };
+    shift_as(lines, alloc, rule.kind, &Turn { was, is }, meter)
 }
 
 /// Puts a rule of a policy in.
@@ -102,13 +98,21 @@ pub fn put_rule<A: Allocator + Copy>(
     ensures adjustments { OnOk result (Adjusts (gives_it policy.now rule.now) meter.old meter.new) }
     ensures evaluations { evaluations_in meter.new ≡ evaluations_in meter.old }
 {
-    let is = rule_reach(alloc, &policy.members, policy.numbering, rule)?;
-    let was = Reach::none(alloc);
-    let turn = Turn { was: &was, is: &is };
-    shift_as(lines, alloc, &PolicyRule { policy, rule }, &turn, meter)
+    let reach = rule_reach(alloc, &policy.members, policy.numbering, rule)?;
+    let permits = rule_permits(alloc, policy.numbering, rule)?;
+    let none = Reach::none(alloc);
+    let was = Grant {
+        reach: &none,
+        permits: &permits,
+    };
+    let is = Grant {
+        reach: &reach,
+        permits: &permits,
+    };
+    shift_as(lines, alloc, rule.kind, &Turn { was, is }, meter)
 }
 
-/// Puts a rule of the new policy in place of the old one's.
+/// Puts a rule of the new policy in place of the old one's, of the same kind.
 pub fn replace_rule<A: Allocator + Copy>(
     lines: &mut KeyedLines<A>,
     alloc: A,
@@ -120,8 +124,7 @@ pub fn replace_rule<A: Allocator + Copy>(
     requires new_known { IsKnown new.now.policy.now }
     requires old_below { IsRuleOf old.now.policy.now old.now.rule.now }
     requires new_below { IsRuleOf new.now.policy.now new.now.rule.now }
-    requires head { HaveHeads
-        old.now.policy.now old.now.rule.now new.now.policy.now new.now.rule.now }
+    requires kind { old.now.rule.now.kind ≡ new.now.rule.now.kind }
     requires counted { CountAtLeast lines.old (given_by old.now.policy.now old.now.rule.now) }
     ensures now { OnOk result (AreMoved lines.old lines.new
         (given_by old.now.policy.now old.now.rule.now)
@@ -133,8 +136,17 @@ pub fn replace_rule<A: Allocator + Copy>(
         new.now.policy.now new.now.rule.now) meter.old meter.new) }
     ensures evaluations { evaluations_in meter.new ≡ evaluations_in meter.old }
 {
-    let was = rule_reach(alloc, &old.policy.members, old.policy.numbering, old.rule)?;
-    let is = rule_reach(alloc, &new.policy.members, new.policy.numbering, new.rule)?;
-    let turn = Turn { was: &was, is: &is };
-    shift_as(lines, alloc, new, &turn, meter)
+    let reached = rule_reach(alloc, &old.policy.members, old.policy.numbering, old.rule)?;
+    let reaches = rule_reach(alloc, &new.policy.members, new.policy.numbering, new.rule)?;
+    let had = rule_permits(alloc, old.policy.numbering, old.rule)?;
+    let has = rule_permits(alloc, new.policy.numbering, new.rule)?;
+    let was = Grant {
+        reach: &reached,
+        permits: &had,
+    };
+    let is = Grant {
+        reach: &reaches,
+        permits: &has,
+    };
+    shift_as(lines, alloc, new.rule.kind, &Turn { was, is }, meter)
 }

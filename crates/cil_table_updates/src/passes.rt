@@ -6,6 +6,7 @@ ghost use Rattle.cil_table_updates.specs.Common.{evaluations_in, below, AreLower
 use crate::changed_rows::ChangedRows;
 use crate::moves::{PolicyRule, put_rule, replace_rule, take_rule};
 use crate::policy::Policy;
+use crate::staying::rule_stays;
 use cil_keyed_lines::KeyedLines;
 use cil_matching::RuleMatching;
 use cil_resolve::Meter;
@@ -86,7 +87,7 @@ pub fn take_gone<A: Allocator + Copy>(
 }
 
 /// Puts the rule of a place of the new policy in place of the same one of the old policy, unless it
-/// covers what that did.
+/// gives what that did.
 fn replace_changed<A: Allocator + Copy>(
     lines: &mut KeyedLines<A>,
     alloc: A,
@@ -113,15 +114,18 @@ fn replace_changed<A: Allocator + Copy>(
     let new = stayed.update.new;
     let i = stayed.i;
     let j = stayed.j;
-    let rule = &new.resolved.rules()[j];
-    if stayed.update.changed.rule_stays(new.numbering, rule) {
-        return Ok(());
-    }
     let was = PolicyRule {
         policy: old,
         rule: &old.resolved.rules()[i],
     };
-    let is = PolicyRule { policy: new, rule };
+    let is = PolicyRule {
+        policy: new,
+        rule: &new.resolved.rules()[j],
+    };
+    let stays = rule_stays(alloc, stayed.update.changed, &was, &is)?;
+    if stays {
+        return Ok(());
+    }
     replace_rule(lines, alloc, &was, &is, meter)
 }
 

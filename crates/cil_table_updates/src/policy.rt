@@ -1,11 +1,10 @@
 //! One of two policies, by symbols.
 
-ghost use Rattle.std.specs.Prelude.{◌≡◌, IsTrue};
-ghost use Rattle.cil_table_updates.specs.Common.{meaning_in, AreMembersOf, members_at, members_of, IsReady, AreApart, AreRulesBelow, HasSymbols, IsPolicy};
-ghost use Rattle.cil_resolve.specs.Consistent.{is_consistent};
+ghost use Rattle.std.specs.Prelude.{◌≡◌};
+ghost use Rattle.cil_table_updates.specs.Common.{meaning_in, AreMembersOf, members_at, members_of, IsReady, AreApart, HasSoundRules, HasSymbols, IsPolicy};
 
 use cil_member_rows::MemberRows;
-use cil_resolve::{Resolved, resolved_is_consistent};
+use cil_resolve::{Resolved, resolved_is_consistent, resolved_rules_permit};
 use cil_rule_reach::{SymbolMembers, When};
 use cil_symbols::{Numbering, Symbols};
 use std::alloc::{Allocator, Global};
@@ -50,11 +49,11 @@ impl<'p, A: Allocator> Policy<'p, A> {
         ensures members { members_of result.members ≡ members_at when shared.entry.rows.now }
         ensures policy { IsPolicy shared.entry.names.now result }
         ensures ready { IsReady result }
-        ensures below { AreRulesBelow result }
-        ensures consistent { IsTrue (is_consistent (meaning_in result.resolved.now)) }
+        ensures sound { HasSoundRules result }
         ensures apart { AreApart shared.entry.names.now }
     {
         resolved_is_consistent(named.resolved);
+        resolved_rules_permit(named.resolved);
         named.resolved.rules();
         Policy {
             resolved: named.resolved,

@@ -16,9 +16,9 @@ use std::alloc::{AllocError, Allocator};
 /// Brings the counters of an old policy's accesses to a new one in steps, which `undo` takes back,
 /// also after an out of memory. The rows hold the members of the old policy before their steps, and
 /// those of the new one now. Rules that both policies have, of the same module, offset and content,
-/// are passed over where the members of their source and target stayed. The meter counts each
-/// counter that moves. No counter is ever above the number of rules of both policies that give its
-/// access.
+/// are passed over where the members of their source and target stayed and they permit the same.
+/// The meter counts each counter that moves. No counter is ever above the number of rules of both
+/// policies that give its access.
 pub fn update<A: Allocator + Copy>(
     lines: &mut KeyedLines<A>,
     alloc: A,

@@ -8,23 +8,23 @@ pub use Rattle.cil_specs.proofs.Runs.{StopsBefore, all-at, both_true, ends-closi
 pub use Rattle.cil_specs.proofs.ShapeLemmas.{fits_keyword, fits_lists, inner_fault_is, inner_of_list, list_no_fault, outside_keyword, shapes_apart, shapes_no_fault, shapes_rise}
 pub use Rattle.cil_specs.proofs.Stuck.{no-fault}
 pub use Rattle.cil_specs.specs.Bytes.{is_comment_byte, is_string_byte, is_word_byte}
-pub use Rattle.cil_specs.specs.Expr.{Expresses, HasNoOperator, IsListThen, Lists, both, either, elements, every, leaves, nothing, one_of, operators, opposite}
+pub use Rattle.cil_specs.specs.Expr.{Expresses, HasNoOperator, IsListThen, Lists, WordExpr, both, either, elements, every, leaves, nothing, one_of, operators, opposite}
 pub use Rattle.cil_specs.specs.Names.{Role, begins_name, components, declared, is_name, is_name_byte, is_reserved, is_spelt, name_fault, referred}
 pub use Rattle.cil_specs.specs.Parts.{EndsBefore, IsClean, IsPart, Moves, Part, closing, comment, opening, spelling, string, word}
 pub use Rattle.cil_specs.specs.Place.{is_line_feed, place_at}
 pub use Rattle.cil_specs.specs.Reading.{IsReadingFault, IsUnclosed, Stops}
-pub use Rattle.cil_specs.specs.Shape.{Fits, IsAllowed, IsAtWord, IsClassAndPermissions, IsFirstShapeFault, IsInnerFault, IsShapeFault, IsTargetThen, IsWordFault, IsWordList, Shapes, all_words, in_optional, is_among, keywords, no_fit, no_keyword, no_name, outside_optionals, put_word}
+pub use Rattle.cil_specs.specs.Shape.{Fits, IsAllowed, IsAtWord, IsClassAndPermissions, IsExpressionList, IsFirstShapeFault, IsInnerFault, IsShapeFault, IsTargetThen, IsWordFault, IsWordList, Shapes, all_words, in_optional, is_among, keywords, no_fit, no_keyword, no_name, outside_optionals, put_word}
 pub use Rattle.cil_specs.specs.Statements.{Form, RuleKind, Statements, Target, as_declared, as_referred, block, is_optional, itself, no_more, optional, rule, rule_word, statement, statement_offsets, target_words, the_named, words_of}
 pub use Rattle.cil_specs.specs.TextFault.{IsNoLater, TextFault, TextFaultKind, bad_name, bare_word, code_of, misshapen, not_in_optional, reserved, unclosed, unsupported}
 pub use Rattle.cil_specs.specs.Trees.{Mark, Reads, Trees, a_list, a_string, a_word, are_lists, closing_before, in_order, marks, none, opening_at, string_at, told, word_at}
-pub use Rattle.cil_text.specs.Expr.{BeginsOperation, SpellsElements, SpellsExpr, SpellsOne, SpellsOperation, SpellsTwo, exprs_of, operator_word}
+pub use Rattle.cil_text.specs.Expr.{AreExpressionList, BeginsOperation, SpellsElements, SpellsExpr, SpellsOne, SpellsOperation, SpellsTwo, exprs_of, operator_word}
 pub use Rattle.cil_text.specs.Form.{AreClassAndPermissions, AreClasses, FitsAs, HasBody, at_of, behind, body_of, form_of, has_body, inner_of}
 pub use Rattle.cil_text.specs.Image.{FaultIs, IsMemory, expr_of, kind_of, place_of, row_expr, row_statements, rule_kind_of, shown, statement_then, statements_of, target_of, tree_then, trees_in, trees_of, trees_upto, word_of}
 pub use Rattle.cil_text.specs.Name.{role_of, without_dot}
 pub use Rattle.cil_text.specs.Reader.{AreWhole, GoesOver, HasRead, HaveMarks, IsPlaced, IsRead, IsStopped, open_lists}
 pub use Rattle.cil_text.specs.Split.{AreWordAndList, AreWordList}
 pub use Rattle.cil_text.specs.Tree.{is_nothing, is_one, tree_count}
-pub use Rattle.cil_text.specs.Walk.{AreGood, Checks, IsFaultOf, IsFirstAmong, IsFirstBad, IsFirstOf, IsFoundAs, IsHeading, IsHeadingFault, IsStatement}
+pub use Rattle.cil_text.specs.Walk.{AreGood, Checks, IsFaultOf, IsFirstAmong, IsFirstBad, IsFirstOf, IsFoundAs, IsHeading, IsHeadingFault, IsStatement, in_role}
 pub use Rattle.cil_text.specs.declared.node.Node.{Node}
 pub use Rattle.cil_text.specs.declared.place.Place.{Place}
 pub use Rattle.cil_text.specs.declared.reader.Open.{Open}

@@ -1,4 +1,4 @@
--- The elements of a set expression, one after the other.
+-- The elements of an expression, one after the other.
 use Rattle.cil_text.proofs.Common.{◌≡◌, true, List, [], ◌∷◌, ◌++◌, Some, None, refl, sym, ap, subst, Trees, none, a_word, a_string, a_list, nothing, elements, Expresses, Lists, string_spells, place_of, tree_then, trees_of, expr_of, is_nothing, is_one, exprs_of, SpellsExpr, Tree, Expr}
 use Rattle.cil_specs.specs.Expr as spec
 use Rattle.cil_specs.proofs.ExprSame.{expresses_same, word_is, list_rest, none_expresses}

@@ -1,5 +1,6 @@
 -- Operands that fit a form.
-use Rattle.cil_text.proofs.Common.{◌≡◌, List, Option, Some, None, Vec, IsTrue, sym, ◌∙◌, ap, subst, codes, Trees, none, are_lists, IsListThen, RuleKind, Target, itself, the_named, rule, put_word, IsTargetThen, IsClassAndPermissions, put_same, list_same, OperandsFit, behind, AreClassAndPermissions, AreWordAndList, Word}
+use Rattle.cil_text.proofs.Common.{◌≡◌, ℕ, Option, Some, None, IsTrue, sym, ◌∙◌, ap, subst, codes, Trees, none, a_list, are_lists, IsListThen, WordExpr, Expresses, RuleKind, Target, itself, the_named, rule, put_word, IsTargetThen, IsExpressionList, IsClassAndPermissions, put_same, list_same, OperandsFit, behind, expr_of, SpellsExpr, AreExpressionList, Expr}
+use Rattle.cil_specs.specs.Place.{Place}
 use Rattle.cil_specs.specs.Names as spec
 
 -- the trees behind a word
@@ -8,10 +9,15 @@ scope_operands operands inner id is lists =
     let same : inner ≡ behind operands = ap behind (sym is) in
     (is ∙ ap (put_word id) same, subst (λ trees. IsTrue (are_lists trees)) same lists)
 
--- a word and a list in a list
-pub in_a_list : {A : Type 0} → (trees items : Trees) → IsListThen trees items none → (found : Option (Word × Vec Word A)) → AreWordAndList items found → AreClassAndPermissions trees found
-in_a_list trees items list None h = λ the_class permissions k. h the_class k.1 permissions ((list_same trees items k.0 none none list k.2).0 ∙ k.3) k.4
-in_a_list trees items list (Some found) h = (items, h.0, list, h.1, h.2)
+-- what the one list in trees spells, they spell
+pub in_a_list : {A : Type 0} → (trees items : Trees) → IsListThen trees items none → (found : Option (Expr A)) → ((at : Place) (end : ℕ) → SpellsExpr (a_list at end items) found) → AreExpressionList trees found
+in_a_list trees items list None spells = λ expr h. spells list.0 list.1 expr none none (subst (λ trees. Expresses trees expr none) list.2 h.2)
+in_a_list trees items list (Some x) spells = (items, list, subst (λ trees. Expresses trees (expr_of x) none) (sym list.2) (spells list.0 list.1 none))
+
+-- trees that are one list alone are those of the class and the permissions in it
+pub class_behind : (trees items : Trees) (the_class : spec.Word) (permissions : WordExpr) → IsListThen trees items none → IsClassAndPermissions trees the_class permissions
+    → (list : Trees) × (items ≡ put_word the_class list) × IsExpressionList list permissions
+class_behind trees items the_class permissions list h = (h.1, (list_same trees items h.0 none none list h.2).0 ∙ h.3, h.4)
 
 -- a target is a word
 target-word : (trees last : Trees) (target : Target) → IsTargetThen trees target last → (word : spec.Word) × (trees ≡ put_word word last)
@@ -19,7 +25,7 @@ target-word trees last itself h = (record { at = h.0; text = codes "self" }, h.1
 target-word trees last (the_named w) h = (w, h.0)
 
 -- the operands of a rule behind its source and its target
-pub rule_last : (operands rest : Trees) (source : spec.Word) (given : spec.Word) (target : Target) (the_class : spec.Word) (permissions : List spec.Word) (kind : RuleKind)
+pub rule_last : (operands rest : Trees) (source : spec.Word) (given : spec.Word) (target : Target) (the_class : spec.Word) (permissions : WordExpr) (kind : RuleKind)
     → operands ≡ put_word source rest → OperandsFit operands (rule kind given target the_class permissions) none
     → (word : spec.Word) × (last : Trees) × (rest ≡ put_word word last) × IsClassAndPermissions last the_class permissions
 rule_last operands rest source given target the_class permissions kind is h =

@@ -1,9 +1,10 @@
--- What the code finds of set expressions, where it says so by an option.
+-- What the code finds of expressions of types and of permissions, where it says so by an option.
 use Rattle.std.specs.Prelude.{◌≡◌, ℕ, List, [], ◌∷◌, Option, Some, None, Vec, Box, codes}
 use Rattle.cil_specs.specs.Place.{Place}
 use Rattle.cil_specs.specs.Trees.{Trees, none, a_word, a_list}
 use Rattle.cil_specs.specs.Expr as spec
 use Rattle.cil_specs.specs.Expr.{nothing, elements, Expresses, Lists}
+use Rattle.cil_specs.specs.Shape.{IsExpressionList}
 use Rattle.cil_text.specs.Image.{expr_of}
 use Rattle.cil_text.specs.declared.statement.Expr.{Expr}
 use Rattle.cil_text.specs.declared.expr.Operator.{Operator}
@@ -24,6 +25,11 @@ exprs_of (x ∷ xs) = elements (expr_of x) (exprs_of xs)
 abbrev pub SpellsExpr : {A : Type 0} → (Trees → Trees) → Option (Expr A) → Type 0
 SpellsExpr front None = (expr : spec.WordExpr) (rest after : Trees) → Expresses (front rest) expr after → ⊥
 SpellsExpr front (Some x) = (rest : Trees) → Expresses (front rest) (expr_of x) rest
+
+-- the trees are one list, which spells the expression, or not
+abbrev pub AreExpressionList : {A : Type 0} → Trees → Option (Expr A) → Type 0
+AreExpressionList trees None = (expr : spec.WordExpr) → IsExpressionList trees expr → ⊥
+AreExpressionList trees (Some x) = IsExpressionList trees (expr_of x)
 
 -- the trees spell the elements, or none
 abbrev pub SpellsElements : {A : Type 0} → Trees → Option (Vec (Expr A) A) → Type 0

@@ -27,7 +27,7 @@ form_of (Common at id permissions) = common (word_of id) (map word_of permission
 form_of (Class at id permissions) = class (word_of id) (map word_of permissions.items)
 form_of (ClassCommon at the_class the_common) = class_common (word_of the_class) (word_of the_common)
 form_of (ClassOrder at the_classes) = class_order (map word_of the_classes.items)
-form_of (Rule at kind source target the_class permissions) = rule (rule_kind_of kind) (word_of source) (target_of target) (word_of the_class) (map word_of permissions.items)
+form_of (Rule at kind source target the_class permissions) = rule (rule_kind_of kind) (word_of source) (target_of target) (word_of the_class) (expr_of permissions)
 
 -- the place of a statement's (
 abbrev pub at_of : {A : Type 0} → Statement A → spec_place.Place
@@ -90,10 +90,10 @@ abbrev pub AreClasses : {A : Type 0} → Trees → Option (Vec Word A) → Type 
 AreClasses trees None = (classes : List spec_names.Word) → IsClassList trees classes → ⊥
 AreClasses trees (Some v) = IsClassList trees (map word_of v.items)
 
--- the trees are one list of this class and of a list of these permissions, or not
-abbrev pub AreClassAndPermissions : {A : Type 0} → Trees → Option (Word × Vec Word A) → Type 0
-AreClassAndPermissions trees None = (the_class : spec_names.Word) (permissions : List spec_names.Word) → IsClassAndPermissions trees the_class permissions → ⊥
-AreClassAndPermissions trees (Some (the_class, v)) = IsClassAndPermissions trees (word_of the_class) (map word_of v.items)
+-- the trees are one list of this class and of a list that spells this expression of permissions, or not
+abbrev pub AreClassAndPermissions : {A : Type 0} → Trees → Option (Word × Expr A) → Type 0
+AreClassAndPermissions trees None = (the_class : spec_names.Word) (permissions : spec_exprs.WordExpr) → IsClassAndPermissions trees the_class permissions → ⊥
+AreClassAndPermissions trees (Some (the_class, permissions)) = IsClassAndPermissions trees (word_of the_class) (expr_of permissions)
 
 -- the inner statements of a form that may have some
 abbrev pub body_of : Form → Statements → Statements

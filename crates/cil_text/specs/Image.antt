@@ -124,7 +124,7 @@ abbrev mutual
   statement_then (ClassCommon at the_class the_common) rest = statement (place_of at) (class_common (word_of the_class) (word_of the_common)) no_more rest
   statement_then (ClassOrder at the_classes) rest = statement (place_of at) (class_order (map word_of the_classes.items)) no_more rest
   statement_then (Rule at kind source target the_class permissions) rest =
-      statement (place_of at) (rule (rule_kind_of kind) (word_of source) (target_of target) (word_of the_class) (map word_of permissions.items)) no_more rest
+      statement (place_of at) (rule (rule_kind_of kind) (word_of source) (target_of target) (word_of the_class) (expr_of permissions)) no_more rest
 
   pub row_statements : {A : Type 0} {n : _} → Row_of-Statement A n → Statements
   row_statements end_of-Statement = no_more

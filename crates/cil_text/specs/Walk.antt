@@ -1,5 +1,5 @@
 -- What the walk over trees finds.
-use Rattle.std.specs.Prelude.{◌≡◌, ℕ, ◌⊎◌, Bool, true, false, ◌||◌, List, [], ◌∷◌, IsTrue, Option, MatchOption, Result, MatchResult}
+use Rattle.std.specs.Prelude.{◌≡◌, ℕ, ◌⊎◌, Bool, true, false, ◌||◌, List, [], ◌∷◌, map, IsTrue, Option, MatchOption, Result, MatchResult}
 use Rattle.std.specs.List.{AllByRecursion}
 use Rattle.cil_specs.specs.Place.{Place}
 use Rattle.cil_specs.specs.TextFault as spec
@@ -20,6 +20,10 @@ use Rattle.cil_text.specs.declared.fault.TextFault.{TextFault}
 use Rattle.cil_text.specs.declared.fault.TextFault.TheVariants.{Memory, Found}
 use Rattle.cil_text.specs.declared.statement.Statement.{Statement}
 use Rattle.cil_text.specs.declared.tree.TreeSlice.{TreeSlice}
+
+-- words that stand in places of one role
+abbrev pub in_role : Role → List Word → List (Role × Word)
+in_role role words = map (λ word. (role, word)) words
 
 -- each word is spelt and free as its place asks
 abbrev pub AreGood : List (Role × Word) → Type 0

@@ -1,7 +1,7 @@
 //! Whether the words of a statement are spelt and free as their places ask.
 
 ghost use Rattle.std.specs.Prelude.{◌≡◌, [], ◌∷◌, ◌++◌, map};
-ghost use Rattle.cil_text.specs.Common.{leaves, as_declared, as_referred, target_words, words_of, word_of, expr_of, target_of, role_of, exprs_of, form_of, Checks};
+ghost use Rattle.cil_text.specs.Common.{leaves, as_declared, as_referred, target_words, words_of, word_of, expr_of, target_of, role_of, exprs_of, form_of, in_role, Checks};
 
 use crate::fault::{ShownWord, TextFault, TextFaultKind};
 use crate::name::{Role, name_fault};
@@ -31,7 +31,7 @@ fn check_word(role: Role, word: Word) -> Result<(), TextFault>
 }
 
 fn check_words<'a>(role: Role, words: &[Word<'a>]) -> Result<(), TextFault<'a>>
-    ensures { Checks (map (λ word. (role_of role, word)) (map word_of words.now)) result }
+    ensures { Checks (in_role (role_of role) (map word_of words.now)) result }
 {
     for word in words {
         check_word(role, *word)?;
@@ -40,36 +40,44 @@ fn check_words<'a>(role: Role, words: &[Word<'a>]) -> Result<(), TextFault<'a>>
 }
 
 #[cycle(check)]
-fn check_elements<'a, A: Allocator>(elements: &[Expr<'a, A>]) -> Result<(), TextFault<'a>>
-    ensures { Checks (map as_referred (leaves (exprs_of elements.now))) result }
+fn check_elements<'a, A: Allocator>(
+    role: Role,
+    elements: &[Expr<'a, A>],
+) -> Result<(), TextFault<'a>>
+    ensures { Checks (in_role (role_of role) (leaves (exprs_of elements.now))) result }
 {
     for element in elements {
-        check_expr(element)?;
+        check_expr(role, element)?;
     }
     Ok(())
 }
 
 #[cycle(check)]
-fn check_operands<'a, A: Allocator>(x: &Expr<'a, A>, y: &Expr<'a, A>) -> Result<(), TextFault<'a>>
-    ensures { Checks (map as_referred (leaves (expr_of x.now) ++ leaves (expr_of y.now)))
+fn check_operands<'a, A: Allocator>(
+    role: Role,
+    x: &Expr<'a, A>,
+    y: &Expr<'a, A>,
+) -> Result<(), TextFault<'a>>
+    ensures { Checks (in_role (role_of role) (leaves (expr_of x.now) ++ leaves (expr_of y.now)))
         result }
 {
-    check_expr(x)?;
-    check_expr(y)
+    check_expr(role, x)?;
+    check_expr(role, y)
 }
 
+/// Finds the first of an expression's words that is not as this role asks.
 #[cycle(check)]
-fn check_expr<'a, A: Allocator>(expr: &Expr<'a, A>) -> Result<(), TextFault<'a>>
-    ensures { Checks (map as_referred (leaves (expr_of expr.now))) result }
+fn check_expr<'a, A: Allocator>(role: Role, expr: &Expr<'a, A>) -> Result<(), TextFault<'a>>
+    ensures { Checks (in_role (role_of role) (leaves (expr_of expr.now))) result }
 {
     match expr {
         Expr::All => Ok(()),
-        Expr::Name(word) => check_word(Role::Referred, *word),
-        Expr::Not(x) => check_expr(x),
-        Expr::And(x, y) => check_operands(x, y),
-        Expr::Or(x, y) => check_operands(x, y),
-        Expr::Xor(x, y) => check_operands(x, y),
-        Expr::Union(elements) => check_elements(elements),
+        Expr::Name(word) => check_word(role, *word),
+        Expr::Not(x) => check_expr(role, x),
+        Expr::And(x, y) => check_operands(role, x, y),
+        Expr::Or(x, y) => check_operands(role, x, y),
+        Expr::Xor(x, y) => check_operands(role, x, y),
+        Expr::Union(elements) => check_elements(role, elements),
     }
 }
 
@@ -95,7 +103,7 @@ fn check_set<'a, A: Allocator>(attribute: Word<'a>, expr: &Expr<'a, A>) -> Resul
         ∷ map as_referred (leaves (expr_of expr.now))) result }
 {
     check_word(Role::Referred, attribute)?;
-    check_expr(expr)
+    check_expr(Role::Referred, expr)
 }
 
 fn check_permissions<'a>(id: Word<'a>, permissions: &[Word<'a>]) -> Result<(), TextFault<'a>>
@@ -106,21 +114,21 @@ fn check_permissions<'a>(id: Word<'a>, permissions: &[Word<'a>]) -> Result<(), T
     check_words(Role::Declared, permissions)
 }
 
-fn check_rule<'a>(
+fn check_rule<'a, A: Allocator>(
     source: Word<'a>,
     target: Target<'a>,
     class: Word<'a>,
-    permissions: &[Word<'a>],
+    permissions: &Expr<'a, A>,
 ) -> Result<(), TextFault<'a>>
     ensures { Checks (as_referred (word_of source.entry)
         ∷ (map as_referred (target_words (target_of target.entry))
         ++ (as_referred (word_of class.entry)
-        ∷ map as_declared (map word_of permissions.now)))) result }
+        ∷ map as_declared (leaves (expr_of permissions.now))))) result }
 {
     check_word(Role::Referred, source)?;
     check_target(target)?;
     check_word(Role::Referred, class)?;
-    check_words(Role::Declared, permissions)
+    check_expr(Role::Declared, permissions)
 }
 
 /// Finds the first word of a statement that is not as its place asks, but for those of the

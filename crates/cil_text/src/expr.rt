@@ -1,10 +1,10 @@
-//! Recognising set expressions.
+//! Recognising expressions of types and of permissions.
 
 ghost use Rattle.std.specs.Prelude.{◌≡◌, ℕ, IfOk, MatchOption};
-ghost use Rattle.cil_text.specs.Common.{a_list, HasNoOperator, trees_of, tree_then, operator_word, SpellsExpr, SpellsElements, SpellsOperation, SpellsOne, SpellsTwo, BeginsOperation};
+ghost use Rattle.cil_text.specs.Common.{a_list, HasNoOperator, trees_of, tree_then, operator_word, AreExpressionList, SpellsExpr, SpellsElements, SpellsOperation, SpellsOne, SpellsTwo, BeginsOperation};
 ghost use Rattle.cil_specs.specs.Place.{Place as SpecPlace};
 
-use crate::split::{only_tree, split_word};
+use crate::split::{only_list, only_tree, split_word};
 use crate::statement::Expr;
 use crate::tree::{Tree, TreeSlice};
 use crate::words::look_up;
@@ -88,6 +88,19 @@ fn list_expression<'a, A: Allocator + Copy>(
     }
     match elements(alloc, items)? {
         Some(elements) => Ok(Some(Expr::Union(elements))),
+        None => Ok(None),
+    }
+}
+
+/// The expression that one list and nothing else spells.
+pub fn expression_list<'a, A: Allocator + Copy>(
+    alloc: A,
+    trees: TreeSlice<'_, 'a>,
+) -> Result<Option<Expr<'a, A>>, AllocError>
+    ensures { IfOk result (AreExpressionList (trees_of trees.entry)) }
+{
+    match only_list(trees) {
+        Some(items) => list_expression(alloc, items),
         None => Ok(None),
     }
 }

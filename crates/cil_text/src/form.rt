@@ -4,7 +4,7 @@
 ghost use Rattle.std.specs.Prelude.{◌≡◌, ◌≢◌, IfOk};
 ghost use Rattle.cil_text.specs.Common.{Trees, put_word, IsTargetThen, place_of, word_of, trees_of, target_of, FitsAs, IsWithoutUnordered, AreClasses, AreClassAndPermissions, IsAttributeAndSet};
 
-use crate::expr::expression;
+use crate::expr::{expression, expression_list};
 use crate::keyword::Keyword;
 use crate::place::Place;
 use crate::split::{
@@ -85,7 +85,7 @@ fn type_attribute<'a, A: Allocator>(
     Some(Statement::TypeAttribute { at, id })
 }
 
-/// An attribute and a set expression.
+/// An attribute and an expression of types.
 fn attribute_and_set<'a, A: Allocator + Copy>(
     alloc: A,
     operands: TreeSlice<'_, 'a>,
@@ -216,15 +216,21 @@ fn target_at(word: Word) -> Target
     }
 }
 
-/// The class and the permissions of a rule.
+/// The class of a rule and the expression of its permissions, which is a list.
 fn class_and_permissions<'a, A: Allocator + Copy>(
     alloc: A,
     trees: TreeSlice<'_, 'a>,
-) -> Result<Option<(Word<'a>, Vec<Word<'a>, A>)>, AllocError>
+) -> Result<Option<(Word<'a>, Expr<'a, A>)>, AllocError>
     ensures { IfOk result (AreClassAndPermissions (trees_of trees.entry)) }
 {
-    match only_list(trees) {
-        Some(items) => word_and_list(alloc, items),
+    let Some(items) = only_list(trees) else {
+        return Ok(None);
+    };
+    let Some((class, rest)) = split_word(items) else {
+        return Ok(None);
+    };
+    match expression_list(alloc, rest)? {
+        Some(permissions) => Ok(Some((class, permissions))),
         None => Ok(None),
     }
 }

@@ -20,10 +20,11 @@ pub enum Target<'a> {
     Named(Word<'a>),
 }
 
-/// A set expression (CIL Reference Guide, "typeattributeset").
+/// An expression of types (CIL Reference Guide, "typeattributeset") or of permissions ("Access
+/// Vector Rules", "Expressions").
 #[derive(Debug, Drop)]
 pub enum Expr<'a, A: Allocator = Global> {
-    /// Every type.
+    /// Every type, or every permission of the class.
     All,
     Name(Word<'a>),
     Not(Box<Expr<'a, A>, A>),
@@ -95,6 +96,6 @@ pub enum Statement<'a, A: Allocator = Global> {
         source: Word<'a>,
         target: Target<'a>,
         class: Word<'a>,
-        permissions: Vec<Word<'a>, A>,
+        permissions: Expr<'a, A>,
     },
 }

@@ -1,9 +1,10 @@
 -- What passes the tests by numbers violates by names, and the other way round.
-use Rattle.cil_violations.proofs.Common.{◌≡◌, ◌∙◌, ℕ, ◌==◌, ◌<◌, true, List, length, map, Some, slice_get, Contains, bytes_eq, sym, ap, subst, list_all, list_any, nat_lt, ltb-true, and_parts, and_from, slice_get-map, holds, aims, covers, AnyByRecursion, any_from, any-map, any_from_map, any-filter, any_from_filter, any_from_test, test_from_any, contains_to, contains_from, any_weaker, is_element_below, is_target_below, is_rule_below, rule_of, element_of, resolved_target_of, meaning_in, name_in, NumberedRule, ResolvedTarget, Resolved, is_held_in, symbols_in, aim_of, is_among, share, shared}
+use Rattle.cil_violations.proofs.Common.{◌≡◌, ◌∙◌, ℕ, ◌==◌, ◌<◌, true, List, length, map, Some, slice_get, Contains, bytes_eq, sym, ap, subst, list_all, list_any, nat_lt, ltb-true, and_parts, and_from, slice_get-map, slice_get_within, get_or_from_slice_get, holds, aims, covers, AnyByRecursion, any_from, any-map, any_from_map, any-filter, any_from_filter, any_from_test, test_from_any, contains_to, contains_from, any_weaker, is_element_below, is_target_below, is_rule_below, rule_of, element_of, resolved_target_of, meaning_in, name_in, NumberedRule, ResolvedTarget, Resolved, is_held_in, symbols_in, aim_of, is_among, share, shared}
 use Rattle.std.specs.Bool.{IsTrue}
 use Rattle.std.proofs.Common.{eqb-true, eq-eqb}
 use Rattle.std.specs.Option.{option_map}
 use Rattle.std.proofs.lemmas.Slice.Eq.{bytes_eq-Decides}
+use Rattle.cil_resolve.specs.Numbers.{GivesNumbered}
 use Rattle.cil_resolve.specs.Consistent.{is_rule_of, is_element_of, is_aim_of}
 use Rattle.cil_resolve.specs.declared.numbered.ResolvedTarget.TheVariants as targets
 use Rattle.cil_rule_reach.specs.Named.{AreMembersBy}
@@ -62,7 +63,7 @@ pub share-to : (first second : List ℕ) (q : ℕ) → Contains first q → Cont
 share-to first second q here there =
     test_from_any (is_among second) first (any_weaker (λ k. k ≡ q) (λ k. IsTrue (is_among second k)) (λ k e. among-to second k (subst (Contains second) (sym e) there)) first (contains_to first q here))
 
--- A rule's numbers are below that of the names, and what it names is declared.
+-- A rule's numbers are below that of the names, what it names is declared, and it gives the permissions at its numbers.
 pub record IsSound {A : Type 0} (r : Resolved A) (rule : NumberedRule A) : Type 0 where
   pub source_below : is_element_below (length r.names.items) rule.source ≡ true
   pub target_below : is_target_below (length r.names.items) rule.target ≡ true
@@ -70,6 +71,7 @@ pub record IsSound {A : Type 0} (r : Resolved A) (rule : NumberedRule A) : Type 
   pub permissions_below : list_all (λ p. nat_lt p (length r.names.items)) rule.permissions ≡ true
   pub source_kept : is_element_of (meaning_in r).types (meaning_in r).attributes (element_of r.names.items rule.source) ≡ true
   pub target_kept : is_aim_of (meaning_in r).types (meaning_in r).attributes (resolved_target_of r.names.items rule.target) ≡ true
+  pub gives : GivesNumbered (meaning_in r) r.modules.items r.names.items rule
 
 pub rule-sound : {A : Type 0} (r : Resolved A) (i : ℕ) (rule : NumberedRule A) → slice_get r.rules.items i ≡ Some rule → IsSound r rule
 rule-sound r i rule at =
@@ -90,6 +92,7 @@ rule-sound r i rule at =
       permissions_below = third.1;
       source_kept = source.0;
       target_kept = target.0;
+      gives = r.permitted rule (i, slice_get_within r.rules.items i rule at, get_or_from_slice_get r.rules.items i rule rule at);
     }
 
 module _ {A : Type 0} (r : Resolved A) (members : Members A) (are : AreMembersBy r (symbols_in members) (count_now members.rows.now)) where
@@ -106,7 +109,7 @@ module _ {A : Type 0} (r : Resolved A) (members : Members A) (are : AreMembersBy
         let m = meaning_in r in
         and_from (holds m (element_of r.names.items rule.source) (name_in r source)) _ (sym (held-named r members are rule.source sound.source_below sound.source_kept source source_low) ∙ held)
         (and_from (aims m (resolved_target_of r.names.items rule.target) (name_in r source) (name_in r target)) _ (sym (held-aim rule.target sound.target_below sound.target_kept source target source_low target_low) ∙ aimed)
-        (and_from (bytes_eq (name_in r rule.class) c) (list_any (bytes_eq p) (map (name_in r) rule.permissions)) (same-bytes (name_in r rule.class) c the_class) listed))
+        (sound.gives c p ∙ and_from (bytes_eq (name_in r rule.class) c) (list_any (bytes_eq p) (map (name_in r) rule.permissions)) (same-bytes (name_in r rule.class) c the_class) listed))
 
     pub covers-from : (c p : List ℕ) → covers (meaning_in r) (rule_of r.modules.items r.names.items rule) (name_in r source) (name_in r target) c p ≡ true
         → (is_held_in members rule.source source ≡ true) × (is_held_in members (aim_of rule.target source) target ≡ true) × (name_in r rule.class ≡ c) × (list_any (bytes_eq p) (map (name_in r) rule.permissions) ≡ true)
@@ -114,7 +117,7 @@ module _ {A : Type 0} (r : Resolved A) (members : Members A) (are : AreMembersBy
         let m = meaning_in r in
         let first = and_parts (holds m (element_of r.names.items rule.source) (name_in r source)) _ covered in
         let second = and_parts (aims m (resolved_target_of r.names.items rule.target) (name_in r source) (name_in r target)) _ first.1 in
-        let third = and_parts (bytes_eq (name_in r rule.class) c) (list_any (bytes_eq p) (map (name_in r) rule.permissions)) second.1 in (
+        let third = and_parts (bytes_eq (name_in r rule.class) c) (list_any (bytes_eq p) (map (name_in r) rule.permissions)) (sym (sound.gives c p) ∙ second.1) in (
           held-named r members are rule.source sound.source_below sound.source_kept source source_low ∙ first.0,
           held-aim rule.target sound.target_below sound.target_kept source target source_low target_low ∙ second.0,
           bytes-same (name_in r rule.class) c third.0,

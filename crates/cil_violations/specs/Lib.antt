@@ -1,3 +1,4 @@
+pub mod Codes
 pub mod Common
 pub mod Search
 pub mod Held

@@ -1,6 +1,7 @@
 -- Violations by their numbers, and the parts of their lines.
 use Rattle.std.specs.Prelude.{◌≡◌, ◌<◌, ℕ, List, [], ◌++◌, codes, decimal, length, map, slice_index_or, if◌then◌else◌}
 use Rattle.std.specs.List.{All}
+use Rattle.cil_specs.specs.Expr.{nothing}
 use Rattle.cil_specs.specs.Place.{Place}
 use Rattle.cil_specs.specs.Statements.{allow, rule_word}
 use Rattle.cil_specs.specs.Rule.{Rule, a_type, at_itself}
@@ -21,7 +22,7 @@ no_rule = record {
   source = a_type [];
   target = at_itself;
   the_class = [];
-  permissions = [];
+  permissions = nothing;
 }
 
 -- the rule at a place

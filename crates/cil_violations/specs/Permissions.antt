@@ -1,4 +1,4 @@
--- The permissions of rules, in order and each once.
+-- The permissions that rules give, in order and each once.
 use Rattle.std.specs.Prelude.{◌≡◌, ◌↔◌, ◌==◌, ℕ, Bool, List, [], Contains, length, slice_get, slice_index_or, Some}
 use Rattle.std.specs.List.{list_any, filter}
 use Rattle.std.specs.List.Sorted.{IsStrictlySortedBy}
@@ -10,7 +10,7 @@ pub record IsOrdered (numbers ordered : List ℕ) : Type 0 where
   pub rising : IsStrictlySortedBy nat_cmp ordered
   pub same : (n : ℕ) → Contains ordered n ↔ Contains numbers n
 
--- for each rule its permissions, ordered so
+-- for each rule those that it gives, ordered so
 pub record AreOrdered {A : Type 0} (rules : List (NumberedRule A)) (lists : List (List ℕ)) : Type 0 where
   pub len : length lists ≡ length rules
   pub each : (i : ℕ) (r : NumberedRule A) → slice_get rules i ≡ Some r → IsOrdered r.permissions (slice_index_or lists i [])

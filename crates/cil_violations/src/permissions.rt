@@ -1,4 +1,4 @@
-//! The permissions of rules.
+//! The permissions that rules give.
 
 ghost use Rattle.std.specs.Prelude.{◌≡◌, ◌++◌, ◌∷◌, [], ◌<◌, ◌↔◌, ℕ, Contains, IfOk, length};
 ghost use Rattle.cil_violations.specs.Common.{AreOrdered, IsOrdered, is_among, share};
@@ -26,7 +26,7 @@ fn ordered<A: Allocator + Copy>(alloc: A, numbers: &[usize]) -> Result<Vec<usize
     Ok(ordered)
 }
 
-/// The permissions of each rule in order, each once.
+/// The permissions that each rule gives, in order and each once.
 pub fn ordered_permissions<A: Allocator + Copy>(
     alloc: A,
     rules: &[NumberedRule<A>],

@@ -34,8 +34,12 @@ pub struct Violations<A: Allocator = Global> {
 impl<A: Allocator> Model for Violations<A> {
     ghost use Rattle.std.specs.Prelude.{List, map};
     ghost use Rattle.cil_specs.specs.Violations.{Violation};
+    ghost use Rattle.std.specs.Coded.{codes};
+    ghost use Rattle.cil_violations.specs.Codes.{coded_expr};
 
     ghost Value = { List Violation };
+
+    ghost coded = { Prim.hlevel (codes, coded_expr) };
 
     ghost use Rattle.std.specs.Rc.{rc_value};
     ghost use Rattle.cil_violations.specs.Lines.{violation_by, AreRows};

@@ -2,4 +2,4 @@ use Rattle.cil_expression.proofs.HoldsLemmas.{holds-bound}
 use Rattle.cil_expression.proofs.laws.names_bound.Goals as goal
 
 pub returns : goal.returns
-returns c = holds-bound
+returns g c = holds-bound

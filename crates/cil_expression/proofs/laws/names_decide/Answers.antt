@@ -2,4 +2,4 @@ use Rattle.cil_expression.proofs.HoldsLemmas.{holds-agree}
 use Rattle.cil_expression.proofs.laws.names_decide.Goals as goal
 
 pub returns : goal.returns
-returns c = holds-agree
+returns g c = holds-agree

@@ -2,4 +2,4 @@ use Rattle.cil_expression.proofs.SameExprLemmas.{same-holds}
 use Rattle.cil_expression.proofs.laws.same_hold_the_same.Goals as goal
 
 pub returns : goal.returns
-returns c one other same value others lead = same-holds same value others lead one other
+returns g c one other same value others lead = same-holds same value others lead one other

@@ -1,4 +1,4 @@
-use Rattle.cil_resolve.proofs.Common.{◌≤◌, ◌+◌, ◌++◌, length, map, take, flat_map, sym, ap, ◌∙◌, arith, take_all, rows-length, there-at, dropped_if}
+use Rattle.cil_resolve.proofs.Common.{◌≤◌, ◌++◌, length, flat_map, sym, ap, ◌∙◌, arith, take_all, rows-length, there-at, dropped_if}
 use Rattle.cil_resolve.proofs.StatementLemmas.{flat-one}
 use Rattle.cil_resolve.proofs.dropped.dropped_optionals.Goals as goal
 

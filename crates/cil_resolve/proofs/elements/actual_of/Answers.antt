@@ -1,4 +1,4 @@
-use Rattle.cil_resolve.proofs.Common.{◌≡◌, ◌∙◌, Some, sym, ap, subst, none-some, same_Some, types, IsLead}
+use Rattle.cil_resolve.proofs.Common.{◌≡◌, ◌∙◌, sym, ap, subst, none-some, same_Some, types, IsLead}
 use Rattle.std.proofs.Common.{slice_get}
 use Rattle.cil_resolve.proofs.ElementLemmas.{actual-here}
 use Rattle.cil_resolve.proofs.elements.actual_of.Goals as goal

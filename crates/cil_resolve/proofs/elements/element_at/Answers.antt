@@ -1,4 +1,4 @@
-use Rattle.cil_resolve.proofs.Common.{◌∙◌, sym, ap, subst, types, element_at, IsElement}
+use Rattle.cil_resolve.proofs.Common.{◌∙◌, sym, subst, types, element_at, IsElement}
 use Rattle.cil_expression.specs.declared.expression.Element.TheVariants as elements
 use Rattle.cil_resolve.proofs.ElementLemmas.{first-declares, element-type, element-attribute, element-alias, actual-here, set-given, alias-kind}
 use Rattle.cil_resolve.proofs.elements.element_at.Goals as goal

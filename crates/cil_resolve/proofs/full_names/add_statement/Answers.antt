@@ -1,4 +1,4 @@
-use Rattle.cil_resolve.proofs.Common.{◌≡◌, ◌<◌, ◌++◌, ◌∷◌, [], length, map, rules, arith, sym, ap, ◌∙◌, length-map, full_name, reads-word, is-long, there-at, name_in, numbered_id, full_name_or, is_numbered_kind}
+use Rattle.cil_resolve.proofs.Common.{◌≡◌, ◌<◌, ◌++◌, ◌∷◌, [], length, rules, arith, sym, ap, ◌∙◌, length-map, full_name, reads-word, is-long, there-at, name_in, numbered_id, full_name_or, is_numbered_kind}
 use Rattle.cil_resolve.proofs.FullNamesLemmas.{space_name_of, kind-absent, name-here, reads-absent}
 use Rattle.cil_resolve.proofs.StatementLemmas.{row-of}
 use Rattle.cil_resolve.proofs.full_names.add_statement.Goals as goal

@@ -1,4 +1,4 @@
-use Rattle.cil_resolve.proofs.Common.{◌<◌, ◌++◌, ◌∷◌, length, [], map, arith, sym, ap, ◌∙◌, there-at, full_name_of}
+use Rattle.cil_resolve.proofs.Common.{◌<◌, ◌++◌, ◌∷◌, length, [], arith, sym, ap, ◌∙◌, there-at, full_name_of}
 use Rattle.cil_resolve.proofs.StatementLemmas.{map-one}
 use Rattle.cil_resolve.proofs.full_names.full_names.Goals as goal
 

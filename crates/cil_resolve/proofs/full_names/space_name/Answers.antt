@@ -1,4 +1,3 @@
-use Rattle.std.proofs.Common.{ap}
 use Rattle.cil_resolve.proofs.FullNamesLemmas.{word-within, space-named, word-some, word-is}
 use Rattle.cil_resolve.proofs.full_names.space_name.Goals as goal
 

@@ -1,5 +1,5 @@
 use Rattle.cil_resolve.proofs.Common.{rules, ◌≡◌, ◌∙◌, [], ◌<◌, ◌^◌, length, map, IsTrue, sym, ap, subst, list_all, AllPairs, IsStrictlySortedBy, length-map, HasSoundSets, meaning_of, are_rules_of, are_placed_in, HaveElements, modules_of, HavePlaces, declared_of, class_of, set_of, dropped_with, HasNoCircle, is_set_below}
-use Rattle.cil_resolve.specs.Numbers.{rule_of}
+use Rattle.cil_resolve.specs.Numbers.{GivesNumbered, rule_of}
 use Rattle.cil_resolve.proofs.ConsistentLemmas.{rules-declared}
 use Rattle.cil_resolve.proofs.PlacedLemmas.{from-named, all-placed}
 use Rattle.cil_specs.specs.Violations.{rule_cmp}
@@ -92,6 +92,9 @@ invariant_of-result g c =
       classes_within = parts.classes_below;
       sets_within = subst (λ l. IsTrue (list_all (is_set_below (length names)) l)) (sym c.in_ok-sets.ensures) parts.sets_are.below;
       rules_within = parts.rules_are.below;
+      written_within = parts.rules_are.written_below;
+      no_lists = parts.rules_are.no_lists;
+      permitted = λ r there. subst (λ m. GivesNumbered m (modules_of c.args.checker.now.bound.joined.now) names r) (sym means) (parts.rules_are.give r there);
     }
 
 pub returns : goal.returns

@@ -1,4 +1,4 @@
-use Rattle.cil_resolve.proofs.Common.{◌≡◌, ◌∙◌, ◌∷◌, [], fold, sym, ap, true, false, if◌then◌else◌, fold-append, with_name, texts, own_permissions, permissions_in, texts_of, lists_own, own-listed, seen-kind, is_numbered, is_numbered_kind, full_name_of}
+use Rattle.cil_resolve.proofs.Common.{◌≡◌, ◌∙◌, ◌∷◌, [], fold, sym, ap, if◌then◌else◌, fold-append, with_name, texts, own_permissions, permissions_in, texts_of, lists_own, own-listed, seen-kind, is_numbered, is_numbered_kind, full_name_of}
 use Rattle.cil_resolve.proofs.FullNamesLemmas.{kind-numbered}
 use Rattle.cil_resolve.proofs.numbering.insert_names.Goals as goal
 use Rattle.cil_resolve.proofs.numbering.insert_names.Goals.{then-is_numbered+in_ok-insert, else-is_numbered}

@@ -1,4 +1,4 @@
-use Rattle.cil_resolve.proofs.Common.{◌∙◌, sym, ap, fold, take, arith, take_all, with_name, texts, texts_of, no_word, word-read, as-many}
+use Rattle.cil_resolve.proofs.Common.{◌∙◌, sym, ap, fold, arith, take_all, with_name, texts, texts_of, no_word, word-read, as-many}
 use Rattle.cil_resolve.proofs.NumberLemmas.{words-fold}
 use Rattle.cil_resolve.proofs.numbering.insert_words.Goals as goal
 

@@ -1,4 +1,4 @@
-use Rattle.cil_resolve.proofs.Common.{◌≡◌, ◌<◌, ◌++◌, ◌∙◌, true, subst, length, sym, ap, arith, rules, take, take_all, length-set, slice_get_within, all-get, has_name, texts, texts_of, no_word, word-read, as-many, one-name-at, number_in, HavePermissionsOf}
+use Rattle.cil_resolve.proofs.Common.{◌≡◌, ◌<◌, ◌++◌, ◌∙◌, true, subst, length, sym, ap, arith, rules, take_all, length-set, slice_get_within, all-get, has_name, texts, texts_of, no_word, word-read, as-many, one-name-at, number_in, HavePermissionsOf}
 use Rattle.cil_resolve.proofs.NumberLemmas.{note-next}
 use Rattle.cil_resolve.proofs.numbering.note_words.Goals as goal
 

@@ -1,4 +1,4 @@
-use Rattle.cil_resolve.proofs.Common.{◌+◌, ◌∙◌, [], length, get_or, sym, ap, subst, arith, true≢false, true, length_push, slice_get_within, has_name, there-at, is_numbered, is_numbered_kind, full_name_of, names_with, number_in}
+use Rattle.cil_resolve.proofs.Common.{◌+◌, ◌∙◌, [], length, get_or, sym, ap, subst, arith, true≢false, length_push, slice_get_within, has_name, there-at, is_numbered_kind, full_name_of, names_with, number_in}
 use Rattle.cil_resolve.proofs.FullNamesLemmas.{kind-numbered}
 use Rattle.cil_resolve.proofs.NumberLemmas.{HavePlacesBelow, place-next, full-named, named-in}
 use Rattle.cil_resolve.proofs.StatementLemmas.{mapped-at, at-place}

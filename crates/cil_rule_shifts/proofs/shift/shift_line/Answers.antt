@@ -1,4 +1,4 @@
-use Rattle.cil_rule_shifts.proofs.Common.{◌<◌, ◌^◌, ◌∙◌, ◌/◌, arith, refl, slice_index_or, true, w64, ap, subst, [], bit_not, count_now, is_key, takes, one_if, turns, rises-none, RisesBy}
+use Rattle.cil_rule_shifts.proofs.Common.{◌<◌, ◌^◌, ◌∙◌, ◌/◌, arith, refl, slice_index_or, w64, ap, subst, [], bit_not, count_now, is_key, takes, one_if, turns, rises-none, RisesBy}
 use Rattle.cil_rule_shifts.proofs.MoveLemmas.{line-step, line-done, moves_in_words}
 use Rattle.cil_rule_shifts.proofs.ShiftLemmas.{above-word, hit-keyed, hit-line, line-more, no-word}
 use Rattle.std.proofs.lemmas.List.{take_all}
@@ -21,8 +21,8 @@ loop-word-preserved g c = (
       let word = slice_index_or words i 0 in
       let was = takes c.args.turned.was.now key.source t in
       let is = takes c.args.turned.is.now key.source t in
-      let was_more = line-more words c.requires.words.rising i word c.loop-word-test.true refl (is_key key k) true was (t / 64) in
-      let is_more = line-more words c.requires.words.rising i word c.loop-word-test.true refl (is_key key k) true is (t / 64) in
+      let was_more = line-more words c.requires.words.rising i word c.loop-word-test.true refl (is_key key k) was (t / 64) in
+      let is_more = line-more words c.requires.words.rising i word c.loop-word-test.true refl (is_key key k) is (t / 64) in
       let gone = hit-keyed key word c.word-gone.result k t ∙ hit-line (is_key key k) word c.word-gone.result t was (c.word-gone.ensures t) in
       let come = hit-keyed key word c.word-come.result k t ∙ hit-line (is_key key k) word c.word-come.result t is (c.word-come.ensures t) in
       let step = c.in_ok-here.ensures.now k t in

@@ -12,7 +12,7 @@ returns-clause-now g c =
     let added = put key t in
     let none = c.requires.none key t in
     let named =
-    given-named c.args.shared.names.now c.of-new.ensures.apart c.of-new.result c.of-new.ensures.policy key t c.of-new.ensures.below c.of-new.ensures.consistent
+    given-named c.args.shared.names.now c.of-new.ensures.apart c.of-new.result c.of-new.ensures.policy key t c.of-new.ensures.sound
     ∙ ap (λ r. count_named c.args.shared.names.now (meaning_in r) key t) c.of-new.ensures.resolved in
     omega (arith, added, none, named))
     c.add_rules.ensures.now
@@ -22,7 +22,7 @@ returns-clause-bounded g c key t =
     let added = c.add_rules.ensures.bounded key t in
     let none = c.requires.none key t in
     let named =
-    given-named c.args.shared.names.now c.of-new.ensures.apart c.of-new.result c.of-new.ensures.policy key t c.of-new.ensures.below c.of-new.ensures.consistent
+    given-named c.args.shared.names.now c.of-new.ensures.apart c.of-new.result c.of-new.ensures.policy key t c.of-new.ensures.sound
     ∙ ap (λ r. count_named c.args.shared.names.now (meaning_in r) key t) c.of-new.ensures.resolved in
     omega (arith, added, none, named)
 
@@ -34,7 +34,7 @@ returns-clause-at_most g c =
     on_ok_weaker c.add_rules.result
     (λ rises old none.
     subst (λ r. AdjustsAtMost old (meaning_in r) before after) c.of-new.ensures.resolved
-    (load-at-most c.args.shared.names.now c.of-new.ensures.apart new c.of-new.ensures.policy c.of-new.ensures.below c.of-new.ensures.consistent
+    (load-at-most c.args.shared.names.now c.of-new.ensures.apart new c.of-new.ensures.policy c.of-new.ensures.sound
     (apart-rules (meaning_in new.resolved.now).rules c.resolved_rules_are_in_order.ensures) before after rises old none))
     c.add_rules.ensures.adjustments
 

@@ -1,27 +1,38 @@
-use Rattle.cil_table_updates.proofs.Common.{ap, arith, on_ok_weaker, adjustments_in, covers_by, members_of, one_if}
+use Rattle.cil_table_updates.proofs.Common.{◌∙◌, ap, arith, refl, on_ok_weaker, adjustments_in, covers_by, has_permit, members_of, one_if, subst, sym, AreInOrder}
 use Rattle.cil_table_updates.proofs.AdjustedLemmas.{put-rises}
 use Rattle.cil_table_updates.proofs.MoveLemmas.{gives-covered, gives-nothing}
 use Rattle.cil_table_updates.proofs.moves.put_rule.Goals as goal
 
 pub shift_as-requires-clause-counted : goal.shift_as-requires-clause-counted
 shift_as-requires-clause-counted g c key t =
-    let none = gives-nothing c.args.policy.now.numbering.now.symbols c.args.rule.now c.none-was.result c.none-was.ensures.none in
-    omega (arith, ap one_if (none key t))
+    omega (arith, ap one_if (gives-nothing c.args.rule.now.kind c.none-none.result c.deref.result.now c.none-none.ensures.none key t))
 
 pub returns : goal.returns
 returns g c =
     let symbols = c.args.policy.now.numbering.now.symbols in
     let members = members_of c.args.policy.now.members in
     let rule = c.args.rule.now in
-    let none = gives-nothing symbols rule c.none-was.result c.none-was.ensures.none in
-    let is = gives-covered symbols rule c.in_ok-is.is' members c.in_ok-is.ensures.sources c.in_ok-is.ensures.targets in
+    let none = gives-nothing rule.kind c.none-none.result c.deref.result.now c.none-none.ensures.none in
+    let is =
+    gives-covered rule.kind c.in_ok-reach.reach c.deref-2.result.now members symbols rule refl c.in_ok-reach.ensures.sources c.in_ok-reach.ensures.targets
+    (λ d p. ap (λ l. has_permit l d p) c.deref-2.ensures.value ∙ c.in_ok-permits.ensures.same d p) in
     record {
       now = on_ok_weaker c.shift_as.result (λ moved key t. omega (arith, moved key t, ap one_if (none key t), ap one_if (is key t))) c.shift_as.ensures.now;
       before = c.shift_as.ensures.before;
       bounded = λ key t. omega (arith, c.shift_as.ensures.bounded key t, ap one_if (is key t));
       adjustments =
           on_ok_weaker c.shift_as.result
-          (λ rises. put-rises symbols rule c.none-was.result c.in_ok-is.is' (adjustments_in c.args.meter.now) (adjustments_in c.shift_as.new.meter) rises (covers_by members symbols rule) none is)
+          (λ rises.
+          put-rises rule.kind c.none-none.result c.in_ok-reach.reach c.deref.result.now c.deref-2.result.now
+          (adjustments_in c.args.meter.now) (adjustments_in c.shift_as.new.meter) rises (covers_by members symbols rule) none is)
           c.shift_as.ensures.adjustments;
       evaluations = c.shift_as.ensures.evaluations;
     }
+
+pub shift_as-requires-clause-was : goal.shift_as-requires-clause-was
+shift_as-requires-clause-was g c =
+    record { reach = c.none-none.ensures.short; permits = subst AreInOrder (sym c.deref.ensures.value) c.in_ok-permits.ensures.order }
+
+pub shift_as-requires-clause-is : goal.shift_as-requires-clause-is
+shift_as-requires-clause-is g c =
+    record { reach = c.in_ok-reach.ensures.short; permits = subst AreInOrder (sym c.deref-2.ensures.value) c.in_ok-permits.ensures.order }

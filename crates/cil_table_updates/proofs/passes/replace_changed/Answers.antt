@@ -1,65 +1,84 @@
-use Rattle.cil_table_updates.proofs.Common.{◌≡◌, ℕ, ◌+◌, ◌≤◌, ◌<◌, ◌==◌, ◌∙◌, sym, ap, arith, length, not, subst, same_Some, slice_get_within, on_ok_weaker, is_rule_below, adjustments_in, one_if, rises-none, rises-same, SymbolKey, count_now, gives_by, gives_it, replaces, swaps, given, HaveHeads}
+use Rattle.cil_table_updates.proofs.Common.{◌≡◌, ℕ, ◌+◌, ◌≤◌, ◌<◌, ◌==◌, ◌∙◌, sym, ap, arith, length, not, subst, same_Some, slice_get_within, on_ok_weaker, is_rule_below, adjustments_in, one_if, rises-none, rises-same, SymbolKey, NumberedRule, count_now, gives_by, gives_it, replaces, swaps, given, is_plain_list, PermitTheSame}
 use Rattle.cil_table_updates.proofs.AdjustedLemmas.{counted-other, no-other}
 use Rattle.cil_table_updates.proofs.GivenLemmas.{given-rule}
 use Rattle.cil_table_updates.proofs.MoveLemmas.{stays-given}
 use Rattle.cil_table_updates.proofs.PlaceLemmas.{passes-at, read-there}
 use Rattle.cil_table_updates.proofs.passes.replace_changed.Goals as goal
 
-pub rule_stays-requires : goal.rule_stays-requires
-rule_stays-requires g c =
-    let rules = c.args.stayed.now.update.now.new.now.resolved.now.rules.items in
-    passes-at (is_rule_below (length c.args.stayed.now.update.now.new.now.numbering.now.symbols)) rules c.args.stayed.now.j c.index-rules-j.result c.requires.new_ready.below
-    (read-there c.rules.result.now rules c.args.stayed.now.j c.index-rules-j.result _ c.rules.ensures.rules c.requires.replaced.there c.index-rules-j.is)
-
-pub returns-then-rule_stays-clause-now : goal.returns-then-rule_stays-clause-now
-returns-then-rule_stays-clause-now g c key t =
-    let read = read-there c.rules.result.now c.args.stayed.now.update.now.new.now.resolved.now.rules.items c.args.stayed.now.j c.index-rules-j.result _ c.rules.ensures.rules c.requires.replaced.there c.index-rules-j.is in
-    ap (λ n. count_now c.args.lines.now key t + n)
-    (stays-given c.args.stayed.now.update.now.changed.now c.args.stayed.now.update.now.old.now c.args.stayed.now.i c.args.stayed.now.update.now.new.now c.args.stayed.now.j c.requires.replaced c.index-rules-j.result read (c.rule_stays.ensures c.if-rule_stays.true) key t)
-
-pub returns-then-rule_stays-clause-adjustments : goal.returns-then-rule_stays-clause-adjustments
-returns-then-rule_stays-clause-adjustments g c =
-    let read = read-there c.rules.result.now c.args.stayed.now.update.now.new.now.resolved.now.rules.items c.args.stayed.now.j c.index-rules-j.result _ c.rules.ensures.rules c.requires.replaced.there c.index-rules-j.is in
-    rises-none (swaps c.args.stayed.now.update.now.old.now c.args.stayed.now.i c.args.stayed.now.update.now.new.now c.args.stayed.now.j) (adjustments_in c.args.meter.now)
-    (λ x. no-other (given c.args.stayed.now.update.now.old.now x.key x.target c.args.stayed.now.i) (given c.args.stayed.now.update.now.new.now x.key x.target c.args.stayed.now.j)
-    (stays-given c.args.stayed.now.update.now.changed.now c.args.stayed.now.update.now.old.now c.args.stayed.now.i c.args.stayed.now.update.now.new.now c.args.stayed.now.j c.requires.replaced c.index-rules-j.result read (c.rule_stays.ensures c.if-rule_stays.true) x.key x.target))
-
 pub bounds-rules-i : goal.bounds-rules-i
 bounds-rules-i g c =
-    let rules = c.args.stayed.now.update.now.old.now.resolved.now.rules.items in
-    subst (λ l. c.args.stayed.now.i < length l) (sym c.rules-2.ensures.rules) (slice_get_within rules c.args.stayed.now.i c.requires.replaced.old_rule c.requires.replaced.here)
+    subst (λ l. c.args.stayed.now.i < length l) (sym c.rules.ensures.rules) (slice_get_within c.args.stayed.now.update.now.old.now.resolved.now.rules.items c.args.stayed.now.i c.requires.replaced.old_rule c.requires.replaced.here)
 
 pub offset_bounds-rules-i : goal.offset_bounds-rules-i
 offset_bounds-rules-i g c =
-    let rules = c.args.stayed.now.update.now.old.now.resolved.now.rules.items in
-    let within = subst (λ l. c.args.stayed.now.i < length l) (sym c.rules-2.ensures.rules) (slice_get_within rules c.args.stayed.now.i c.requires.replaced.old_rule c.requires.replaced.here) in
+    let within =
+    subst (λ l. c.args.stayed.now.i < length l) (sym c.rules.ensures.rules) (slice_get_within c.args.stayed.now.update.now.old.now.resolved.now.rules.items c.args.stayed.now.i c.requires.replaced.old_rule c.requires.replaced.here) in
     omega (arith, within)
+
+pub bounds-rules-j : goal.bounds-rules-j
+bounds-rules-j g c =
+    subst (λ l. c.args.stayed.now.j < length l) (sym c.rules-2.ensures.rules) (slice_get_within c.args.stayed.now.update.now.new.now.resolved.now.rules.items c.args.stayed.now.j c.requires.replaced.new_rule c.requires.replaced.there)
+
+pub offset_bounds-rules-j : goal.offset_bounds-rules-j
+offset_bounds-rules-j g c =
+    let within =
+    subst (λ l. c.args.stayed.now.j < length l) (sym c.rules-2.ensures.rules) (slice_get_within c.args.stayed.now.update.now.new.now.resolved.now.rules.items c.args.stayed.now.j c.requires.replaced.new_rule c.requires.replaced.there) in
+    omega (arith, within)
+
+pub rule_stays-requires-clause-old_below : goal.rule_stays-requires-clause-old_below
+rule_stays-requires-clause-old_below g c =
+    passes-at (is_rule_below (length c.args.stayed.now.update.now.old.now.numbering.now.symbols)) c.args.stayed.now.update.now.old.now.resolved.now.rules.items c.args.stayed.now.i c.index-rules-i.result c.requires.old_ready.below
+    (read-there c.rules.result.now c.args.stayed.now.update.now.old.now.resolved.now.rules.items c.args.stayed.now.i c.index-rules-i.result _ c.rules.ensures.rules c.requires.replaced.here c.index-rules-i.is)
+
+pub rule_stays-requires-clause-new_below : goal.rule_stays-requires-clause-new_below
+rule_stays-requires-clause-new_below g c =
+    passes-at (is_rule_below (length c.args.stayed.now.update.now.new.now.numbering.now.symbols)) c.args.stayed.now.update.now.new.now.resolved.now.rules.items c.args.stayed.now.j c.index-rules-j.result c.requires.new_ready.below
+    (read-there c.rules-2.result.now c.args.stayed.now.update.now.new.now.resolved.now.rules.items c.args.stayed.now.j c.index-rules-j.result _ c.rules-2.ensures.rules c.requires.replaced.there c.index-rules-j.is)
+
+pub rule_stays-requires-clause-plain : goal.rule_stays-requires-clause-plain
+rule_stays-requires-clause-plain g c plain =
+    let first = same_Some c.requires.replaced.old_rule c.index-rules-i.result (sym c.requires.replaced.here ∙ read-there c.rules.result.now c.args.stayed.now.update.now.old.now.resolved.now.rules.items c.args.stayed.now.i c.index-rules-i.result _ c.rules.ensures.rules c.requires.replaced.here c.index-rules-i.is) in
+    let second = same_Some c.requires.replaced.new_rule c.index-rules-j.result (sym c.requires.replaced.there ∙ read-there c.rules-2.result.now c.args.stayed.now.update.now.new.now.resolved.now.rules.items c.args.stayed.now.j c.index-rules-j.result _ c.rules-2.ensures.rules c.requires.replaced.there c.index-rules-j.is) in
+    subst (λ (r : NumberedRule g.row.A.Denot). PermitTheSame c.args.stayed.now.update.now.old.now r c.args.stayed.now.update.now.new.now c.index-rules-j.result) first
+    (subst (λ (r : NumberedRule g.row.A.Denot). PermitTheSame c.args.stayed.now.update.now.old.now c.requires.replaced.old_rule c.args.stayed.now.update.now.new.now r) second
+    (c.requires.replaced.permits (ap is_plain_list second ∙ plain)))
+
+pub returns-then-stays-clause-now : goal.returns-then-stays-clause-now
+returns-then-stays-clause-now g c key t =
+    ap (λ n. count_now c.args.lines.now key t + n)
+    (stays-given c.args.stayed.now.update.now.changed.now c.args.stayed.now.update.now.old.now c.args.stayed.now.i c.args.stayed.now.update.now.new.now c.args.stayed.now.j c.requires.replaced c.index-rules-i.result c.index-rules-j.result
+    (read-there c.rules.result.now c.args.stayed.now.update.now.old.now.resolved.now.rules.items c.args.stayed.now.i c.index-rules-i.result _ c.rules.ensures.rules c.requires.replaced.here c.index-rules-i.is)
+    (read-there c.rules-2.result.now c.args.stayed.now.update.now.new.now.resolved.now.rules.items c.args.stayed.now.j c.index-rules-j.result _ c.rules-2.ensures.rules c.requires.replaced.there c.index-rules-j.is)
+    (c.in_ok-stays.ensures.reach c.if-stays.true) (c.in_ok-stays.ensures.permits c.if-stays.true) key t)
+
+pub returns-then-stays-clause-adjustments : goal.returns-then-stays-clause-adjustments
+returns-then-stays-clause-adjustments g c =
+    rises-none (swaps c.args.stayed.now.update.now.old.now c.args.stayed.now.i c.args.stayed.now.update.now.new.now c.args.stayed.now.j) (adjustments_in c.args.meter.now)
+    (λ x. no-other (given c.args.stayed.now.update.now.old.now x.key x.target c.args.stayed.now.i) (given c.args.stayed.now.update.now.new.now x.key x.target c.args.stayed.now.j)
+    (stays-given c.args.stayed.now.update.now.changed.now c.args.stayed.now.update.now.old.now c.args.stayed.now.i c.args.stayed.now.update.now.new.now c.args.stayed.now.j c.requires.replaced c.index-rules-i.result c.index-rules-j.result
+    (read-there c.rules.result.now c.args.stayed.now.update.now.old.now.resolved.now.rules.items c.args.stayed.now.i c.index-rules-i.result _ c.rules.ensures.rules c.requires.replaced.here c.index-rules-i.is)
+    (read-there c.rules-2.result.now c.args.stayed.now.update.now.new.now.resolved.now.rules.items c.args.stayed.now.j c.index-rules-j.result _ c.rules-2.ensures.rules c.requires.replaced.there c.index-rules-j.is)
+    (c.in_ok-stays.ensures.reach c.if-stays.true) (c.in_ok-stays.ensures.permits c.if-stays.true) x.key x.target))
 
 pub replace_rule-requires-clause-old_below : goal.replace_rule-requires-clause-old_below
 replace_rule-requires-clause-old_below g c =
-    let rules = c.args.stayed.now.update.now.old.now.resolved.now.rules.items in
-    passes-at (is_rule_below (length c.args.stayed.now.update.now.old.now.numbering.now.symbols)) rules c.args.stayed.now.i c.index-rules-i.result c.requires.old_ready.below
-    (read-there c.rules-2.result.now rules c.args.stayed.now.i c.index-rules-i.result _ c.rules-2.ensures.rules c.requires.replaced.here c.index-rules-i.is)
+    passes-at (is_rule_below (length c.args.stayed.now.update.now.old.now.numbering.now.symbols)) c.args.stayed.now.update.now.old.now.resolved.now.rules.items c.args.stayed.now.i c.index-rules-i.result c.requires.old_ready.below
+    (read-there c.rules.result.now c.args.stayed.now.update.now.old.now.resolved.now.rules.items c.args.stayed.now.i c.index-rules-i.result _ c.rules.ensures.rules c.requires.replaced.here c.index-rules-i.is)
 
 pub replace_rule-requires-clause-new_below : goal.replace_rule-requires-clause-new_below
 replace_rule-requires-clause-new_below g c =
-    let rules = c.args.stayed.now.update.now.new.now.resolved.now.rules.items in
-    passes-at (is_rule_below (length c.args.stayed.now.update.now.new.now.numbering.now.symbols)) rules c.args.stayed.now.j c.index-rules-j.result c.requires.new_ready.below
-    (read-there c.rules.result.now rules c.args.stayed.now.j c.index-rules-j.result _ c.rules.ensures.rules c.requires.replaced.there c.index-rules-j.is)
+    passes-at (is_rule_below (length c.args.stayed.now.update.now.new.now.numbering.now.symbols)) c.args.stayed.now.update.now.new.now.resolved.now.rules.items c.args.stayed.now.j c.index-rules-j.result c.requires.new_ready.below
+    (read-there c.rules-2.result.now c.args.stayed.now.update.now.new.now.resolved.now.rules.items c.args.stayed.now.j c.index-rules-j.result _ c.rules-2.ensures.rules c.requires.replaced.there c.index-rules-j.is)
 
-pub replace_rule-requires-clause-head : goal.replace_rule-requires-clause-head
-replace_rule-requires-clause-head g c =
-    let old = c.args.stayed.now.update.now.old.now in
-    let new = c.args.stayed.now.update.now.new.now in
-    let read = read-there c.rules-2.result.now old.resolved.now.rules.items c.args.stayed.now.i c.index-rules-i.result _ c.rules-2.ensures.rules c.requires.replaced.here c.index-rules-i.is in
-    let other = read-there c.rules.result.now new.resolved.now.rules.items c.args.stayed.now.j c.index-rules-j.result _ c.rules.ensures.rules c.requires.replaced.there c.index-rules-j.is in
-    subst (λ rule. HaveHeads old rule new c.index-rules-j.result) (same_Some c.requires.replaced.old_rule c.index-rules-i.result (sym c.requires.replaced.here ∙ read))
-    (subst (λ rule. HaveHeads old c.requires.replaced.old_rule new rule) (same_Some c.requires.replaced.new_rule c.index-rules-j.result (sym c.requires.replaced.there ∙ other))
-    c.requires.replaced.head)
+pub replace_rule-requires-clause-kind : goal.replace_rule-requires-clause-kind
+replace_rule-requires-clause-kind g c =
+    sym (ap (λ (r : NumberedRule g.row.A.Denot). r.kind) (same_Some c.requires.replaced.old_rule c.index-rules-i.result (sym c.requires.replaced.here ∙ read-there c.rules.result.now c.args.stayed.now.update.now.old.now.resolved.now.rules.items c.args.stayed.now.i c.index-rules-i.result _ c.rules.ensures.rules c.requires.replaced.here c.index-rules-i.is)))
+    ∙ c.requires.replaced.kind
+    ∙ ap (λ (r : NumberedRule g.row.A.Denot). r.kind) (same_Some c.requires.replaced.new_rule c.index-rules-j.result (sym c.requires.replaced.there ∙ read-there c.rules-2.result.now c.args.stayed.now.update.now.new.now.resolved.now.rules.items c.args.stayed.now.j c.index-rules-j.result _ c.rules-2.ensures.rules c.requires.replaced.there c.index-rules-j.is))
 
 pub replace_rule-requires-clause-counted : goal.replace_rule-requires-clause-counted
 replace_rule-requires-clause-counted g c key t =
-    let read = read-there c.rules-2.result.now c.args.stayed.now.update.now.old.now.resolved.now.rules.items c.args.stayed.now.i c.index-rules-i.result _ c.rules-2.ensures.rules c.requires.replaced.here c.index-rules-i.is in
+    let read = read-there c.rules.result.now c.args.stayed.now.update.now.old.now.resolved.now.rules.items c.args.stayed.now.i c.index-rules-i.result _ c.rules.ensures.rules c.requires.replaced.here c.index-rules-i.is in
     subst (λ n. n ≤ count_now c.args.lines.now key t) (given-rule c.args.stayed.now.update.now.old.now key t c.args.stayed.now.i c.index-rules-i.result read) (c.requires.counted key t)
 
 pub returns : goal.returns
@@ -71,9 +90,9 @@ returns g c =
     let rule = c.index-rules-i.result in
     let other = c.index-rules-j.result in
     let gave : (key : SymbolKey) (t : ℕ) → given old key t i ≡ one_if (gives_by old key t rule) =
-    λ key t. given-rule old key t i rule (read-there c.rules-2.result.now old.resolved.now.rules.items i rule _ c.rules-2.ensures.rules c.requires.replaced.here c.index-rules-i.is) in
+    λ key t. given-rule old key t i rule (read-there c.rules.result.now old.resolved.now.rules.items i rule _ c.rules.ensures.rules c.requires.replaced.here c.index-rules-i.is) in
     let gives : (key : SymbolKey) (t : ℕ) → given new key t j ≡ one_if (gives_by new key t other) =
-    λ key t. given-rule new key t j other (read-there c.rules.result.now new.resolved.now.rules.items j other _ c.rules.ensures.rules c.requires.replaced.there c.index-rules-j.is) in
+    λ key t. given-rule new key t j other (read-there c.rules-2.result.now new.resolved.now.rules.items j other _ c.rules-2.ensures.rules c.requires.replaced.there c.index-rules-j.is) in
     record {
       now =
           on_ok_weaker c.replace_rule.result

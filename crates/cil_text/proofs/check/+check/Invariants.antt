@@ -1,6 +1,7 @@
-use Rattle.cil_text.proofs.Common.{◌+◌, ◌*◌, max, map, drop, leaves, as_referred, exprs_of}
+use Rattle.cil_text.proofs.Common.{◌+◌, ◌*◌, max, drop, role_of}
 use Rattle.cil_text.specs.declared.statement.Expr.TheViews.{size-Expr}
 use Rattle.cil_text.proofs.FirstBad.{GoesOn}
+use Rattle.cil_text.proofs.CheckLemmas.{of_exprs}
 use Rattle.cil_text.proofs.check.+check.Given as goal
 
 abbrev pub decreases-check_expr : goal.decreases-check_expr
@@ -13,4 +14,4 @@ abbrev pub decreases-check_operands : goal.decreases-check_operands
 decreases-check_operands g l = 2 * max (size-Expr g.row.A.Denot l.x.now) (size-Expr g.row.A.Denot l.y.now) + 1
 
 abbrev pub invariant-check_elements-loop-element : goal.invariant-check_elements-loop-element
-invariant-check_elements-loop-element g l = GoesOn (map as_referred (leaves (exprs_of l.elements))) (map as_referred (leaves (exprs_of (drop l.element-index l.elements))))
+invariant-check_elements-loop-element g l = GoesOn (of_exprs (role_of l.role) l.elements) (of_exprs (role_of l.role) (drop l.element-index l.elements))

@@ -1,4 +1,4 @@
-use Rattle.cil_text.proofs.Common.{◌∙◌, sym, subst, refl, map, none, rule_word, rule, IsTargetThen, IsClassAndPermissions, fits_parts, fits_from, put_same, no_rule, trees_of, word_of, rule_kind_of, target_of, AreClassAndPermissions}
+use Rattle.cil_text.proofs.Common.{◌∙◌, sym, subst, refl, none, rule_word, rule, IsTargetThen, IsClassAndPermissions, fits_parts, fits_from, put_same, no_rule, trees_of, word_of, expr_of, rule_kind_of, target_of, AreClassAndPermissions}
 use Rattle.cil_text.proofs.Fitting.{rule_last}
 use Rattle.cil_text.proofs.form.rule.Goals as goal
 
@@ -21,7 +21,7 @@ returns-in-Some-2 g c =
     let found = c.in-Some-2 in (
       refl,
       λ place. fits_from place operands
-          (rule (rule_kind_of c.args.kind) (word_of c.in-Some.source) (target_of c.target_at.result) (word_of found.class) (map word_of found.permissions.items)) none (
+          (rule (rule_kind_of c.args.kind) (word_of c.in-Some.source) (target_of c.target_at.result) (word_of found.class) (expr_of found.permissions)) none (
             (
               targets,
               last,

@@ -14,7 +14,7 @@ returns-clause-now g c =
     let symbols = c.requires.before.symbols in
     counted-by-kept names others r policy (numbers-kept names others policy.numbering.symbols r.names.items symbols.numbers c.beside-numbering.ensures.kept) c.beside-numbering.ensures.grown c.len.ensures.distinct
     c.len-2.ensures.distinct c.resolved_is_sound.ensures c.resolved_sets_are_in_order.ensures.the_same c.resolved_names_are_kept.ensures.types c.resolved_names_are_kept.ensures.attributes
-    (subst (λ l. list_all (is_rule_below (length r.names.items)) l ≡ true) c.rules.ensures.rules c.rules.ensures.within) c.resolved_is_consistent.ensures symbols (member_rows.count_now c.args.self.now.rows)
+    (subst (λ l. list_all (is_rule_below (length r.names.items)) l ≡ true) c.rules.ensures.rules c.rules.ensures.within) c.resolved_is_consistent.ensures c.resolved_rules_permit.ensures symbols (member_rows.count_now c.args.self.now.rows)
     (access_tables.count_now c.args.self.now.tables) c.requires.now.counted
 
 pub returns-clause-before : goal.returns-clause-before
@@ -26,7 +26,7 @@ returns-clause-before g c =
     let symbols = c.requires.before.symbols in
     counted-by-kept names others r policy (numbers-kept names others policy.numbering.symbols r.names.items symbols.numbers c.beside-numbering.ensures.kept) c.beside-numbering.ensures.grown c.len.ensures.distinct
     c.len-2.ensures.distinct c.resolved_is_sound.ensures c.resolved_sets_are_in_order.ensures.the_same c.resolved_names_are_kept.ensures.types c.resolved_names_are_kept.ensures.attributes
-    (subst (λ l. list_all (is_rule_below (length r.names.items)) l ≡ true) c.rules.ensures.rules c.rules.ensures.within) c.resolved_is_consistent.ensures symbols (member_rows.count_before c.args.self.now.rows)
+    (subst (λ l. list_all (is_rule_below (length r.names.items)) l ≡ true) c.rules.ensures.rules c.rules.ensures.within) c.resolved_is_consistent.ensures c.resolved_rules_permit.ensures symbols (member_rows.count_before c.args.self.now.rows)
     (access_tables.count_before c.args.self.now.tables) c.requires.before.counted
 
 pub returns-clause-few : goal.returns-clause-few

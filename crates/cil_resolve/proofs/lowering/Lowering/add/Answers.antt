@@ -1,8 +1,7 @@
-use Rattle.cil_resolve.proofs.Common.{◌∙◌, ◌∷◌, [], length, true, refl, sym, ap, subst, if◌then◌else◌, option_to_list, types, declared_in, declared_as, class_as, first_true, seen-kind, there-at, form-set, is_name_below, is_class_below, is_set_below, is_rule_below, numbered_id, is_numbered, AreRules, IsIn, modules_of, type_if, attribute_if, class_if, set_if, rule_if, declared_of, class_of, set_of}
+use Rattle.cil_resolve.proofs.Common.{◌∙◌, ◌∷◌, [], length, true, refl, sym, ap, subst, if◌then◌else◌, option_to_list, types, declared_in, declared_as, class_as, first_true, seen-kind, there-at, form-set, is_name_below, is_class_below, is_set_below, numbered_id, is_numbered, AreRules, IsIn, modules_of, type_if, attribute_if, class_if, set_if, rule_if, declared_of, class_of, set_of}
 use Rattle.cil_parse.specs.declared.row.StatementKind.TheVariants as kinds
-use Rattle.cil_resolve.specs.Numbers.{rule_of}
 use Rattle.cil_resolve.proofs.ElementLemmas.{type-form}
-use Rattle.cil_resolve.proofs.PartLemmas.{attribute-form, declared-made, of-kind, no-type-kind, no-attribute-kind, no-class-kind, no-set-kind, no-type, no-attribute, no-class, grow, stay, below-more}
+use Rattle.cil_resolve.proofs.PartLemmas.{attribute-form, declared-made, of-kind, no-type-kind, no-attribute-kind, no-class-kind, no-set-kind, no-type, no-attribute, no-class, grow, stay, below-more, rules-stay, rules-grow}
 use Rattle.cil_resolve.proofs.StatementLemmas.{contained}
 use Rattle.cil_resolve.proofs.lowering.Lowering.add.Goals as goal
 
@@ -43,7 +42,7 @@ returns-in_ok-push-in-TypeName-clause-parts g c policy statements s is at knows 
       classes_are = stay (class_of modules names) (class_if policy) parts.classes.items parts.classes.items statements s so_far.classes_are refl (no-class policy s (kind.a_class));
       classes_below = so_far.classes_below;
       sets_are = record { is = stay (set_of modules names) (set_if policy) parts.sets.items parts.sets.items statements s so_far.sets_are.is refl (kind.no_set refl); below = so_far.sets_are.below };
-      rules_are = record { is = stay (rule_of modules names) (rule_if policy) parts.rules.items parts.rules.items statements s so_far.rules_are.is refl (kind.no_rule refl); below = so_far.rules_are.below };
+      rules_are = rules-stay modules names policy parts.rules.items statements s so_far.rules_are (kind.no_rule refl);
     }
 
 pub returns-in_ok-push-in-TypeAttribute-clause-parts : goal.returns-in_ok-push-in-TypeAttribute-clause-parts
@@ -65,7 +64,7 @@ returns-in_ok-push-in-TypeAttribute-clause-parts g c policy statements s is at k
       classes_are = stay (class_of modules names) (class_if policy) parts.classes.items parts.classes.items statements s so_far.classes_are refl (no-class policy s (kind.a_class));
       classes_below = so_far.classes_below;
       sets_are = record { is = stay (set_of modules names) (set_if policy) parts.sets.items parts.sets.items statements s so_far.sets_are.is refl (kind.no_set refl); below = so_far.sets_are.below };
-      rules_are = record { is = stay (rule_of modules names) (rule_if policy) parts.rules.items parts.rules.items statements s so_far.rules_are.is refl (kind.no_rule refl); below = so_far.rules_are.below };
+      rules_are = rules-stay modules names policy parts.rules.items statements s so_far.rules_are (kind.no_rule refl);
     }
 
 pub returns-in_ok-push-in-Class-clause-parts : goal.returns-in_ok-push-in-Class-clause-parts
@@ -86,7 +85,7 @@ returns-in_ok-push-in-Class-clause-parts g c policy statements s is at knows so_
       classes_are = grow (class_of modules names) (class_if policy) parts.classes.items _ (x ∷ []) statements s so_far.classes_are c.in_ok-push-in-Class.ensures.items (ap (λ y. y ∷ []) made.is ∙ sym (ap (λ b. if b then class_as policy s ∷ [] else []) kind.a_class));
       classes_below = below-more (is_class_below (length names)) parts.classes.items _ x so_far.classes_below c.in_ok-push-in-Class.ensures.items made.below;
       sets_are = record { is = stay (set_of modules names) (set_if policy) parts.sets.items parts.sets.items statements s so_far.sets_are.is refl (kind.no_set refl); below = so_far.sets_are.below };
-      rules_are = record { is = stay (rule_of modules names) (rule_if policy) parts.rules.items parts.rules.items statements s so_far.rules_are.is refl (kind.no_rule refl); below = so_far.rules_are.below };
+      rules_are = rules-stay modules names policy parts.rules.items statements s so_far.rules_are (kind.no_rule refl);
     }
 
 pub returns-in_ok-push-in-TypeAttributeSet-clause-parts : goal.returns-in_ok-push-in-TypeAttributeSet-clause-parts
@@ -109,7 +108,7 @@ returns-in_ok-push-in-TypeAttributeSet-clause-parts g c policy statements s is a
       classes_are = stay (class_of modules names) (class_if policy) parts.classes.items parts.classes.items statements s so_far.classes_are refl (no-class policy s (kind.a_class));
       classes_below = so_far.classes_below;
       sets_are = record { is = grow (set_of modules names) (set_if policy) parts.sets.items _ (x ∷ []) statements s so_far.sets_are.is c.in_ok-push-in-TypeAttributeSet.ensures.items made.is; below = below-more (is_set_below (length names)) parts.sets.items _ x so_far.sets_are.below c.in_ok-push-in-TypeAttributeSet.ensures.items (first_true (is_set_below (length names) x) true made.below) };
-      rules_are = record { is = stay (rule_of modules names) (rule_if policy) parts.rules.items parts.rules.items statements s so_far.rules_are.is refl (kind.no_rule refl); below = so_far.rules_are.below };
+      rules_are = rules-stay modules names policy parts.rules.items statements s so_far.rules_are (kind.no_rule refl);
     }
 
 pub returns-in_ok-push-in_default-clause-parts : goal.returns-in_ok-push-in_default-clause-parts
@@ -121,7 +120,7 @@ returns-in_ok-push-in_default-clause-parts g c policy statements s is at knows s
     let is_in : IsIn c.args.self.now c.seen-seen.result policy s = record { lowering = is; there = contained policy c.args.i s at; seen_is = seen; worded = c.seen-seen.ensures.worded policy is.noted.is } in
     let kind = of-kind policy s c.seen-seen.result.view.kind (sym (seen-kind c.seen-seen.result policy s seen)) in
     let r = c.in-Some.rule in
-    let made : AreRules modules names (r ∷ []) (rule_if policy s) = subst (λ o. AreRules modules names (option_to_list o) (rule_if policy s)) c.in-Some.is (c.in_ok-rule-in_default.ensures.rule policy s is_in at knows) in
+    let made : AreRules modules names policy (r ∷ []) (rule_if policy s) = subst (λ o. AreRules modules names policy (option_to_list o) (rule_if policy s)) c.in-Some.is (c.in_ok-rule-in_default.ensures.rule policy s is_in at knows) in
     record {
       types_are = stay (declared_of modules names) type_if parts.types.items parts.types.items statements s so_far.types_are refl (no-type s (kind.type ∙ no-type-kind c.seen-seen.result.view.kind c.in_default.not-TypeName));
       types_below = so_far.types_below;
@@ -130,7 +129,7 @@ returns-in_ok-push-in_default-clause-parts g c policy statements s is at knows s
       classes_are = stay (class_of modules names) (class_if policy) parts.classes.items parts.classes.items statements s so_far.classes_are refl (no-class policy s (kind.a_class ∙ no-class-kind c.seen-seen.result.view.kind c.in_default.not-Class));
       classes_below = so_far.classes_below;
       sets_are = record { is = stay (set_of modules names) (set_if policy) parts.sets.items parts.sets.items statements s so_far.sets_are.is refl (kind.no_set (no-set-kind c.seen-seen.result.view.kind c.in_default.not-TypeAttributeSet)); below = so_far.sets_are.below };
-      rules_are = record { is = grow (rule_of modules names) (rule_if policy) parts.rules.items _ (r ∷ []) statements s so_far.rules_are.is c.in_ok-push-in_default.ensures.items made.is; below = below-more (is_rule_below (length names)) parts.rules.items _ r so_far.rules_are.below c.in_ok-push-in_default.ensures.items (first_true (is_rule_below (length names) r) true made.below) };
+      rules_are = rules-grow modules names policy parts.rules.items _ r statements s so_far.rules_are c.in_ok-push-in_default.ensures.items made;
     }
 
 pub returns-in_default-2-clause-parts : goal.returns-in_default-2-clause-parts
@@ -141,7 +140,7 @@ returns-in_default-2-clause-parts g c policy statements s is at knows so_far =
     let seen = c.seen-seen.ensures.seen policy s is.noted.is at in
     let is_in : IsIn c.args.self.now c.seen-seen.result policy s = record { lowering = is; there = contained policy c.args.i s at; seen_is = seen; worded = c.seen-seen.ensures.worded policy is.noted.is } in
     let kind = of-kind policy s c.seen-seen.result.view.kind (sym (seen-kind c.seen-seen.result policy s seen)) in
-    let made : AreRules modules names [] (rule_if policy s) = subst (λ o. AreRules modules names (option_to_list o) (rule_if policy s)) c.in_default-2.is (c.in_ok-rule-in_default.ensures.rule policy s is_in at knows) in
+    let made : AreRules modules names policy [] (rule_if policy s) = subst (λ o. AreRules modules names policy (option_to_list o) (rule_if policy s)) c.in_default-2.is (c.in_ok-rule-in_default.ensures.rule policy s is_in at knows) in
     record {
       types_are = stay (declared_of modules names) type_if parts.types.items parts.types.items statements s so_far.types_are refl (no-type s (kind.type ∙ no-type-kind c.seen-seen.result.view.kind c.in_default.not-TypeName));
       types_below = so_far.types_below;
@@ -150,7 +149,7 @@ returns-in_default-2-clause-parts g c policy statements s is at knows so_far =
       classes_are = stay (class_of modules names) (class_if policy) parts.classes.items parts.classes.items statements s so_far.classes_are refl (no-class policy s (kind.a_class ∙ no-class-kind c.seen-seen.result.view.kind c.in_default.not-Class));
       classes_below = so_far.classes_below;
       sets_are = record { is = stay (set_of modules names) (set_if policy) parts.sets.items parts.sets.items statements s so_far.sets_are.is refl (kind.no_set (no-set-kind c.seen-seen.result.view.kind c.in_default.not-TypeAttributeSet)); below = so_far.sets_are.below };
-      rules_are = record { is = stay (rule_of modules names) (rule_if policy) parts.rules.items parts.rules.items statements s so_far.rules_are.is refl (sym made.is); below = so_far.rules_are.below };
+      rules_are = rules-stay modules names policy parts.rules.items statements s so_far.rules_are (sym made.is);
     }
 
 pub returns-in_ok-push-in_default-clause-known : goal.returns-in_ok-push-in_default-clause-known

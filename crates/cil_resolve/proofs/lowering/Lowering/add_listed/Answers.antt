@@ -1,4 +1,4 @@
-use Rattle.cil_resolve.proofs.Common.{◌≡◌, ◌+◌, ◌++◌, ◌∷◌, ◌==◌, [], ◌∙◌, map, take, fold, Some, true, false, sym, ap, subst, arith, not, if◌then◌else◌, list_any, take_all, with_name, texts, own_permissions, read, permissions_in, texts_of, IsOneName, AllByRecursion, no_word, word-read, as-many, one-name-at, own-listed, there-at, AreNumbersIn, number_in}
+use Rattle.cil_resolve.proofs.Common.{◌≡◌, ◌+◌, ◌++◌, ◌∷◌, ◌==◌, [], ◌∙◌, map, take, fold, Some, sym, ap, subst, arith, if◌then◌else◌, list_any, take_all, with_name, texts, own_permissions, read, permissions_in, texts_of, IsOneName, AllByRecursion, no_word, word-read, as-many, one-name-at, own-listed, there-at, AreNumbersIn, number_in}
 use Rattle.cil_resolve.proofs.NumberLemmas.{numbers-with, words-fold, word-listed}
 use Rattle.cil_resolve.proofs.StatementLemmas.{contained}
 use Rattle.cil_resolve.proofs.lowering.Lowering.add_listed.Goals as goal

@@ -1,4 +1,4 @@
-use Rattle.cil_resolve.proofs.Common.{◌∙◌, Some, get_or, sym, ap, subst, unwrap_or, classes, leads, references, seen-lead, IsLead}
+use Rattle.cil_resolve.proofs.Common.{◌∙◌, Some, get_or, sym, ap, subst, classes, leads, references, seen-lead, IsLead}
 use Rattle.cil_resolve.proofs.LoweringLemmas.{class-led}
 use Rattle.cil_resolve.proofs.StatementLemmas.{contained}
 use Rattle.cil_resolve.proofs.lowering.Lowering.class.Goals as goal

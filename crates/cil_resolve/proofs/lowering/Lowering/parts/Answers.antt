@@ -1,4 +1,5 @@
-use Rattle.cil_resolve.proofs.Common.{◌≤◌, ◌∙◌, rules, length, take, sym, subst, arith, take_all, none-some, there-at, ArePartsOf, modules_of}
+use Rattle.cil_resolve.proofs.Common.{◌≡◌, ◌≤◌, ◌∙◌, [], rules, length, take, sym, subst, arith, take_all, none-some, there-at, ArePartsOf, modules_of}
+use Rattle.cil_resolve.proofs.RuleLemmas.{no-rules}
 use Rattle.cil_resolve.proofs.StatementLemmas.{take-one}
 use Rattle.cil_resolve.proofs.lowering.Lowering.parts.Goals as goal
 
@@ -9,7 +10,20 @@ add-requires g c =
     (policy, is, omega (arith, count))
 
 pub loop-i-init : goal.loop-i-init
-loop-i-init g c policy is = (search rules, λ m n numbers found. absurd (none-some numbers (sym (c.new-known.ensures m n) ∙ found)))
+loop-i-init g c policy is =
+    let none : c.in_ok-with_capacity-2.field-0.items ≡ [] = search rules in (
+      record {
+        types_are = search rules;
+        types_below = search rules;
+        attributes_are = search rules;
+        attributes_below = search rules;
+        classes_are = search rules;
+        classes_below = search rules;
+        sets_are = search rules;
+        rules_are = no-rules (modules_of c.args.self.now.checker.now.bound.joined.now) c.args.self.now.numbering.now.names.items policy c.in_ok-with_capacity-2.field-0.items none;
+      },
+      λ m n numbers found. absurd (none-some numbers (sym (c.new-known.ensures m n) ∙ found)),
+    )
 
 pub loop-i-preserved : goal.loop-i-preserved
 loop-i-preserved g c policy is =

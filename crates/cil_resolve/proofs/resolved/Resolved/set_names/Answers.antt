@@ -1,4 +1,4 @@
-use Rattle.cil_resolve.proofs.Common.{◌∙◌, length, map, None, Some, option_map, ap, sym, list_all, leaves, leaves-mapped, expr_in, is_element_below, element_of}
+use Rattle.cil_resolve.proofs.Common.{◌∙◌, length, map, None, Some, option_map, ap, sym, list_all, leaves, leaves-mapped, set_expr_in, is_element_below, element_of}
 use Rattle.cil_resolve.proofs.EvaluateLemmas.{set-at, set-there, no-set-at, names-below}
 use Rattle.cil_resolve.proofs.resolved.Resolved.set_names.Goals as goal
 
@@ -7,7 +7,7 @@ returns-in-Some-clause-names g c s at =
     let r = c.args.self.now in
     let x = c.in-Some.set.now in
     let one = set-at r c.args.i s _ x c.at.ensures (ap (option_map (λ y. y.now)) c.in-Some.is) at in
-    ap (map (element_of r.names.items)) c.names.ensures ∙ sym (leaves-mapped (element_of r.names.items) (expr_in x.expression)) ∙ ap (λ y. leaves y.expr) one.named
+    ap (map (element_of r.names.items)) c.names.ensures ∙ sym (leaves-mapped (element_of r.names.items) (set_expr_in x.expression)) ∙ ap (λ y. leaves y.expr) one.named
 
 pub returns-in-Some-clause-below : goal.returns-in-Some-clause-below
 returns-in-Some-clause-below g c =

@@ -1,4 +1,4 @@
-use Rattle.cil_table_updates.proofs.Common.{◌≡◌, arith, length, sym, subst, true, list_all, is_rule_below, as-many}
+use Rattle.cil_table_updates.proofs.Common.{◌≡◌, arith, length, sym, subst, true, list_all, is_rule_below, keeps_no_list, as-many}
 use Rattle.cil_table_updates.proofs.PlaceLemmas.{names-apart}
 use Rattle.cil_table_updates.proofs.policy.Policy.of.Goals as goal
 
@@ -17,11 +17,13 @@ returns-clause-ready g c = record {
   };
 }
 
-pub returns-clause-below : goal.returns-clause-below
-returns-clause-below g c = subst (λ l. list_all (is_rule_below (length c.args.named.resolved.now.names.items)) l ≡ true) c.rules.ensures.rules c.rules.ensures.within
-
-pub returns-clause-consistent : goal.returns-clause-consistent
-returns-clause-consistent g c = c.resolved_is_consistent.ensures
+pub returns-clause-sound : goal.returns-clause-sound
+returns-clause-sound g c = record {
+  below = subst (λ l. list_all (is_rule_below (length c.args.named.resolved.now.names.items)) l ≡ true) c.rules.ensures.rules c.rules.ensures.within;
+  no_lists = subst (λ l. list_all keeps_no_list l ≡ true) c.rules.ensures.rules c.rules.ensures.no_lists;
+  consistent = c.resolved_is_consistent.ensures;
+  permitted = c.resolved_rules_permit.ensures;
+}
 
 pub returns-clause-apart : goal.returns-clause-apart
 returns-clause-apart g c = names-apart c.args.shared.names.now c.len.ensures.distinct

@@ -1,0 +1,116 @@
+//! A set expression: its nodes, and the types and attributes that its names lead to.
+
+use crate::evaluation::{Rest, next_value};
+use crate::expression::{Element, Expression};
+use crate::same::are_same_names;
+use cil_parse::SetNode;
+use std::alloc::{Allocator, Global};
+use std::slice::from_ref;
+
+/// How an expression is kept. Most are one name, alone or as the only element of a list: that takes no memory of its own.
+#[derive(Drop)]
+pub(crate) enum Form<A: Allocator = Global> {
+    Named(Element),
+    Listed(Element),
+    Tree(Expression<Element, A>),
+}
+
+/// A set expression whose names lead to types and attributes.
+#[derive(Drop)]
+pub struct SetExpression<A: Allocator = Global> {
+    form: Form<A>,
+}
+
+impl<A: Allocator> SetExpression<A> {
+    ghost use Rattle.std.specs.Prelude.{◌≡◌, Bool, false, Contains};
+    ghost use Rattle.cil_specs.specs.Expr.{Expr, leaves, named, nothing, elements};
+    ghost use Rattle.cil_expression.specs.Expression.{set_expr_in};
+    ghost use Rattle.cil_expression.specs.Holds.{holds_by, Answers};
+    ghost use Rattle.cil_expression.specs.Same.{are_same, AnswersPairs};
+    ghost use Rattle.cil_expression.specs.Spelling.{IsSpelt, nodes_of};
+
+    /// The expression of these nodes and of what its names lead to.
+    pub fn new(nodes: Vec<SetNode, A>, names: Vec<Element, A>) -> Self
+        requires spelt { IsSpelt nodes.items names.items }
+        ensures { (expr : Expr Element) → nodes.items ≡ nodes_of expr → names.items ≡ leaves expr
+            → set_expr_in result ≡ expr }
+    {
+        SetExpression {
+            form: Form::Tree(Expression::new(nodes, names)),
+        }
+    }
+
+    /// The expression of one name. It takes no memory.
+    pub fn named(element: Element) -> Self
+        ensures { set_expr_in result ≡ named element }
+    {
+        SetExpression {
+            form: Form::Named(element),
+        }
+    }
+
+    /// The expression of a list whose only element is one name. It takes no memory.
+    pub fn listed(element: Element) -> Self
+        ensures { set_expr_in result ≡ elements (named element) nothing }
+    {
+        SetExpression {
+            form: Form::Listed(element),
+        }
+    }
+
+    /// Its nodes, each in front of those of its operands.
+    fn nodes(&self) -> &[SetNode]
+        ensures { result.now ≡ nodes_of (set_expr_in self.now) }
+    {
+        match &self.form {
+            Form::Named(_) => &[SetNode::Name],
+            Form::Listed(_) => &[SetNode::Element, SetNode::Name, SetNode::Nothing],
+            Form::Tree(tree) => tree.nodes(),
+        }
+    }
+
+    /// What its names lead to, in their order.
+    pub fn names(&self) -> &[Element]
+        ensures { result.now ≡ leaves (set_expr_in self.now) }
+    {
+        match &self.form {
+            Form::Named(element) | Form::Listed(element) => from_ref(element),
+            Form::Tree(tree) => tree.names(),
+        }
+    }
+
+    /// Whether it holds something, where known answers whether each of its names does. It takes no memory.
+    pub fn holds<F: Fn(Element) -> bool>(&self, known: F) -> bool
+        requires callable { F.IsAlwaysCallable known }
+        ensures { (value : Element → Bool)
+            → Answers (F.post known) (λ e. Contains (leaves (set_expr_in self.now)) e) value
+            → result ≡ holds_by value (set_expr_in self.now) }
+    {
+        let nodes = self.nodes();
+        let names = self.names();
+        let (holds, _) = next_value(Rest { nodes, names }, &known);
+        holds
+    }
+
+    /// Whether it holds what none of its names does. Where it does not, it holds only what one of them holds.
+    pub fn may_hold_any(&self) -> bool
+        ensures { result ≡ holds_by (λ e. false) (set_expr_in self.now) }
+    {
+        self.holds(|_| false)
+    }
+
+    /// Whether another expression has the same nodes, and names that are the same as its own in pairs, as same answers.
+    pub fn is_same<F: Fn(Element, Element) -> bool>(
+        &self,
+        other: &SetExpression<A>,
+        same: F,
+    ) -> bool
+        requires callable { F.IsAlwaysCallable same }
+        ensures { (pairs : Element → Element → Bool)
+            → AnswersPairs (F.post same) (leaves (set_expr_in self.now)) (leaves (set_expr_in other.now)) pairs
+            → result ≡ are_same pairs (set_expr_in self.now) (set_expr_in other.now) }
+    {
+        let nodes = self.nodes() == other.nodes();
+        nodes && are_same_names(self.names(), other.names(), &same)
+    }
+}
