@@ -44,6 +44,14 @@ sets() {
     }'
 }
 
+# one class that lists one permission many times, and many rules whose permissions are an expression
+repeats() {
+    awk -v k="$1" 'BEGIN {
+        printf "(type a)(class f ("; for (i = 0; i < 50000 * k; i++) printf "r "; print "))"
+        for (i = 0; i < 5000 * k; i++) print "(allow a a (f (all)))"
+    }'
+}
+
 # nothing but brackets
 brackets() {
     awk -v k="$1" 'BEGIN {
@@ -72,7 +80,7 @@ chain() {
     }'
 }
 
-for shape in common commons blocks sets brackets dotted chain; do
+for shape in common commons blocks sets repeats brackets dotted chain; do
     for k in 1 4; do
         "$shape" "$k" > "$folder/text"
         script_of_text

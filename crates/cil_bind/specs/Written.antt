@@ -27,8 +27,8 @@ IsOneName word = components word.text ≡ word.text ∷ []
 abbrev pub IsName : List ℕ → Type 0
 IsName text = IsTrue (is_name text)
 
--- What a statement declares as a type, an alias or an attribute has a name without dots, and so have the blocks around it and the
--- permissions that it names.
+-- What a statement declares as a type, an alias, an attribute or a class has a name without dots, and so have the blocks around it and
+-- the permissions that it names.
 pub record HasOneNames (s : Placed) : Type 0 where
   pub declared : IfSome (declared_in types s.form) (λ word. IsName word.text)
   pub declared_class : IfSome (declared_in classes s.form) (λ word. IsName word.text)

@@ -69,7 +69,7 @@ expression_needs operand trees = cond (has_no_string trees) (Some (operands_in o
 abbrev pub expression_names : Table → Trees → Option (List Piece)
 expression_names table trees = expression_needs (operands.Name table) trees
 
--- the permissions in an expression
+-- the permissions among some trees and in lists among them
 abbrev pub permissions_in : Trees → Option (List Piece)
 permissions_in trees = expression_needs operands.Permission trees
 
@@ -91,11 +91,11 @@ classes_in (a_word at name rest) = joined (Some (a_class name ∷ [])) (classes_
 classes_in (a_string at text rest) = None
 classes_in (a_list at end items rest) = None
 
--- a class with the permissions in an expression, which is a list of these trees
+-- a class with the permissions among these trees and in lists among them
 abbrev pub listed : List ℕ → Trees → Option (List Piece)
 listed name items = joined (joined (Some (opened name ∷ [])) (permissions_in items)) (Some (closed ∷ []))
 
--- a class and a list that is an expression of its permissions
+-- a class and a list of its permissions, with lists among them
 abbrev pub class_permissions : Trees → Option (List Piece)
 class_permissions (a_word at name (a_list from end items none)) = listed name items
 class_permissions trees = None

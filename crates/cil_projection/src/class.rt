@@ -30,7 +30,7 @@ pub fn add_classes<'a, A: Allocator>(
     Ok(true)
 }
 
-/// Adds a class with the permissions in an expression, which is a list of these trees, where there is no string in it.
+/// Adds a class with the permissions among these trees and in lists among them, where there is no string.
 fn add_listed<'a, A: Allocator>(
     pieces: &mut Vec<Piece<'a>, A>,
     class: Word<'a>,
@@ -47,7 +47,7 @@ fn add_listed<'a, A: Allocator>(
     Ok(true)
 }
 
-/// Adds a class and its permissions, where trees are a class and a list that is an expression of permissions.
+/// Adds a class and its permissions, where trees are a class and a list of permissions, with lists among them.
 pub fn add_class_permissions<'a, A: Allocator>(
     pieces: &mut Vec<Piece<'a>, A>,
     trees: TreeSlice<'_, 'a>,

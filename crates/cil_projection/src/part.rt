@@ -21,7 +21,7 @@ pub enum Part {
     Class,
     /// A class, or a list of classes.
     Classes,
-    /// A class and a list that is an expression of its permissions (CIL Reference Guide, "Expressions").
+    /// A class and a list of its permissions, with lists among them (CIL Reference Guide, "Expressions").
     ClassPermissions,
     /// A name of a context, or its user, role, type and range (CIL Reference Guide, "context").
     Context,

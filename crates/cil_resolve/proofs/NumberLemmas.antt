@@ -1,6 +1,7 @@
 -- Names, and their numbers.
-use Rattle.cil_resolve.proofs.Common.{◌≡◌, ◌⊎◌, inl, inr, set, append_assoc, ℕ, ◌+◌, ◌<◌, ◌==◌, zero, suc, Bool, true, false, ◌||◌, nat_lt, List, [], ◌∷◌, ◌++◌, length, get_or, take, map, flat_map, fold, Contains, Option, Some, bytes_eq, refl, sym, ap, ◌∙◌, subst, true≢false, arith, eq-eqb, if◌then◌else◌, list_all, list_any, AllByRecursion, IsDistinct, or-false, or-true, cases_order, get_or_append_left, get_or_push, get_or-set_same, get_or-set_other, bytes_eq-refl, bytes_eq-true, distinct-place, lt-ltb, none-some, same_Some, slice_get_within, get_or_from_slice_get, list_any-append, fold-append, bytes_eq-Decides, Word, Placed, has_name, with_name, distinct, texts, own_permissions, both_true, first_true, second_true, kind_of, lists_own, none-listed, has-distinct, is_numbered, is_numbered_kind, full_name_of, names_with, names_of, AreNamesOf, listed_names, number_in, AreNumbersIn, HavePermissionsOf}
-use Rattle.std.proofs.Common.{slice_get, eqb-true}
+use Rattle.cil_resolve.proofs.Common.{◌≡◌, ◌⊎◌, inl, inr, set, append_assoc, ℕ, ◌+◌, ◌<◌, ◌==◌, zero, suc, Bool, true, false, ◌||◌, nat_lt, List, [], ◌∷◌, ◌++◌, length, get_or, take, map, flat_map, fold, Contains, Option, Some, bytes_eq, refl, sym, ap, ◌∙◌, subst, true≢false, arith, eq-eqb, if◌then◌else◌, list_all, list_any, AllByRecursion, IsDistinct, or-false, or-true, cases_order, get_or_append_left, get_or_push, get_or-set_same, get_or-set_other, bytes_eq-refl, bytes_eq-true, distinct-place, lt-ltb, none-some, same_Some, slice_get_within, get_or_from_slice_get, list_any-append, fold-append, bytes_eq-Decides, Word, Placed, has_name, with_name, distinct, texts, own_permissions, both_true, first_true, second_true, kind_of, lists_own, none-listed, has-distinct, has-fold, is_numbered, is_numbered_kind, full_name_of, names_with, names_of, AreNamesOf, listed_names, number_in, AreNumbersIn, HavePermissionsOf}
+use Rattle.std.proofs.Common.{add-one, slice_get, eqb-true}
+use Rattle.cil_bind.proofs.PositionLemmas.{take-next}
 use Rattle.std.proofs.lemmas.List.Quantifiers.{position-Some}
 use Rattle.cil_resolve.proofs.FullNamesLemmas.{kind-numbered}
 use Rattle.cil_resolve.proofs.ListLemmas.{any-of-flat}
@@ -68,6 +69,47 @@ numbers-with names some numbers x n are is = by (list_any (λ k. k == n) numbers
 -- one word more of some
 pub words-fold : (old : List (List ℕ)) (list : List Word) (i : ℕ) (w : Word) → slice_get list i ≡ Some w → fold with_name old (texts (take (i + 1) list)) ≡ with_name (fold with_name old (texts (take i list))) w.text
 words-fold old list i w at = ap (fold with_name old) (map-one (λ v. v.text) list i w at) ∙ fold-append with_name old (texts (take i list)) (w.text ∷ [])
+
+-- one name more of some
+pub names-fold : (old list : List (List ℕ)) (i : ℕ) (x : List ℕ) → slice_get list i ≡ Some x → fold with_name old (take (i + 1) list) ≡ with_name (fold with_name old (take i list)) x
+names-fold old list i x at = ap (λ n. fold with_name old (take n list)) (add-one i) ∙ ap (fold with_name old) (take-next list i x at) ∙ fold-append with_name old (take i list) (x ∷ [])
+
+-- a name that is put in behind others, which may have it
+with-behind : (old more : List (List ℕ)) (x : List ℕ) → fold with_name old (with_name more x) ≡ with_name (fold with_name old more) x
+with-behind old more x = by (has_name more x) refl
+  where
+    by : (b : Bool) → has_name more x ≡ b → fold with_name old (with_name more x) ≡ with_name (fold with_name old more) x
+    by true e =
+        let all = fold with_name old more in
+        let there : has_name all x ≡ true = has-fold old more x ∙ ap (λ b. has_name old x || b) e ∙ or-true (has_name old x) in
+        ap (λ b. fold with_name old (if b then more else more ++ x ∷ [])) e ∙ sym (ap (λ b. if b then all else all ++ x ∷ []) there)
+    by false e = ap (λ b. fold with_name old (if b then more else more ++ x ∷ [])) e ∙ fold-append with_name old more (x ∷ [])
+
+-- The numbers at some places stand for names: the one at a place.
+pub name-there : (words : List (List ℕ)) (numbers : List ℕ) (names : List (List ℕ)) (i : ℕ) → map (slice_get words) numbers ≡ map Some names → i < length numbers
+    → (x : List ℕ) × (slice_get names i ≡ Some x) × (slice_get words (get_or numbers i 0) ≡ Some x)
+name-there words [] names i same within = absurd (omega (arith, within))
+name-there words (n ∷ numbers) [] i same within = cc
+name-there words (n ∷ numbers) (x ∷ names) zero same within =
+    let head : slice_get words n ≡ Some x = cc in
+    (x, refl, head)
+name-there words (n ∷ numbers) (x ∷ names) (suc i) same within =
+    let rest : map (slice_get words) numbers ≡ map {B = Option (List ℕ)} Some names = cc in
+    name-there words numbers names i rest (omega (arith, within))
+
+-- a name at a place is among them
+pub name-among : (names : List (List ℕ)) (i : ℕ) (x : List ℕ) → slice_get names i ≡ Some x → has_name names x ≡ true
+name-among [] i x at = absurd (none-some x at)
+name-among (y ∷ names) zero x at = ap (λ b. b || has_name names x) (ap (bytes_eq x) (same_Some y x at) ∙ bytes_eq-refl x)
+name-among (y ∷ names) (suc i) x at = ap (λ b. bytes_eq x y || b) (name-among names i x at) ∙ or-true (bytes_eq x y)
+
+-- Names that are put in each once, or all: it is the same.
+pub fold-distinct : (old list : List (List ℕ)) → fold with_name old (distinct list) ≡ fold with_name old list
+fold-distinct old list = from [] list
+  where
+    from : (so_far list : List (List ℕ)) → fold with_name old (fold with_name so_far list) ≡ fold with_name (fold with_name old so_far) list
+    from so_far [] = refl
+    from so_far (x ∷ list) = from (with_name so_far x) list ∙ ap (λ names. fold with_name names list) (with-behind old so_far x)
 
 -- names that are put in one after the other, and then in order
 pub names-sorted : (policy : List Placed) (names sorted : List (List ℕ)) → names ≡ distinct (names_of policy) → ((name : List ℕ) → has_name sorted name ≡ has_name names name) → AreNamesOf policy sorted
@@ -151,15 +193,6 @@ pub text-passes : (p : List ℕ → Bool) (list : List Word) (i : ℕ) (w : Word
 text-passes p [] i w all at = absurd (none-some w at)
 text-passes p (v ∷ list) zero w all at = ap (λ u. p u.text) (sym (same_Some v w at)) ∙ first_true (p v.text) (list_all p (texts list)) all
 text-passes p (v ∷ list) (suc i) w all at = text-passes p list i w (second_true (p v.text) (list_all p (texts list)) all) at
-
--- a permission that a statement lists is one of the policy
-pub word-listed : (policy : List Placed) (s : Placed) (i : ℕ) (w : Word) → Contains policy s → slice_get (own_permissions s.form) i ≡ Some w → has_name (listed_names policy) w.text ≡ true
-word-listed policy s i w there at = named-in (λ t. texts (own_permissions t.form)) policy s w.text there (among (own_permissions s.form) i at)
-  where
-    among : (list : List Word) (i : ℕ) → slice_get list i ≡ Some w → has_name (texts list) w.text ≡ true
-    among [] i at = absurd (none-some w at)
-    among (v ∷ list) zero at = ap (λ b. b || has_name (texts list) w.text) (ap (λ u. bytes_eq w.text u.text) (same_Some v w at) ∙ bytes_eq-refl w.text)
-    among (v ∷ list) (suc i) at = ap (λ b. bytes_eq w.text v.text || b) (among list i at) ∙ or-true (bytes_eq w.text v.text)
 
 -- a statement of another kind brings no name
 pub none-brought : (s : Placed) → (is_numbered_kind (kind_of s.form) || lists_own (kind_of s.form)) ≡ false → names_with s ≡ []

@@ -135,13 +135,12 @@ impl<'l, 'p, 'm, A: Allocator + Copy> Lowering<'l, 'p, 'm, A> {
             → AreNumbersIn self.now.numbering.now.names.items before permissions.old.items
             → AreNumbersIn self.now.numbering.now.names.items (fold with_name before (texts (own_permissions s.form))) permissions.new.items) }
     {
-        let bound = &self.checker.bound;
-        if place as usize >= bound.len() {
+        let listed = &self.checker.permissions.words;
+        if place as usize >= listed.len() {
             return Ok(());
         }
-        let seen = bound.seen(place as usize);
-        for word in seen.view.permissions() {
-            let number = self.permission(&seen, *word);
+        for word in listed.get(place as usize) {
+            let number = number_at(&self.numbering.permissions, *word as usize);
             if !permissions.contains(&number) {
                 permissions.push(number)?;
             }

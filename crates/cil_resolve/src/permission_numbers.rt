@@ -6,7 +6,7 @@ use std::alloc::{AllocError, Allocator, Global};
 use std::marker::Model;
 use std::rc::Rc;
 
-/// The numbers of the permissions that a rule names. Rules of a module that name the same permissions share one list of them.
+/// The numbers of the permissions that a rule gives. Rules of a module with the same plain list of permissions share one list of them.
 /// Contracts see it as the numbers.
 #[derive(Drop)]
 pub struct PermissionNumbers<A: Allocator = Global> {
@@ -43,7 +43,7 @@ impl<A: Allocator> PermissionNumbers<A> {
         })
     }
 
-    /// The numbers, in the order of the text.
+    /// The numbers: of a plain list in the order of the text, and of another expression in that of the class.
     pub fn as_slice(&self) -> &[usize]
         ensures { result.now ≡ self.now }
     {
