@@ -10,9 +10,9 @@ import random
 import subprocess
 import sys
 
-TABLES = {"type": "types", "attribute": "types", "alias": "types", "class": "classes", "common": "commons", "block": "scopes"}
-LETTERS = {"type": "t", "attribute": "s", "alias": "l", "class": "p", "common": "c", "block": "b"}
-POOLS = {"type": 12, "attribute": 6, "alias": 4, "class": 3, "common": 2, "block": 3}
+TABLES = {"type": "types", "attribute": "types", "alias": "types", "class": "classes", "common": "commons", "set": "sets", "block": "scopes"}
+LETTERS = {"type": "t", "attribute": "s", "alias": "l", "class": "p", "common": "c", "set": "n", "block": "b"}
+POOLS = {"type": 12, "attribute": 6, "alias": 4, "class": 3, "common": 2, "set": 3, "block": 3}
 PERMISSIONS = ["use", "read", "write", "open", "map", "see"]
 MODULES = ["m", "base", "x", "y", "z", "a.b", "A", "0m"]
 PRIORITIES = [400, 400, 400, 400, 100, 300, 999, 1]
@@ -113,21 +113,52 @@ class Writer:
             text = "(all)" + text[3:]
         return "(" + text + ")", [found for _, needs in parts for found in needs]
 
+    def permission_operand(self, has, depth):
+        """The text of an operand of an expression of permissions."""
+        if depth == 0 or self.chance(0.3):
+            return self.rng.choice(has + ["all", "(all)", "()"])
+        return self.permission_expression(has, depth - 1)
+
+    def permission_expression(self, has, depth):
+        """The text of an expression of permissions."""
+        head = self.rng.choice(["not", "not", "and", "or", "xor", "", "all"])
+        if head == "all":
+            return "(all)"
+        count = 1 if head == "not" else 2 if head else self.rng.randrange(3)
+        parts = [self.permission_operand(has, depth) for _ in range(count)]
+        if not head and parts[:1] == ["all"]:
+            parts[0] = "(all)"
+        return f"({' '.join(([head] if head else []) + parts)})"
+
     def class_and_permissions(self, scope, optional):
         found = self.refer(["class"], scope, optional)
         if found is None:
             return None
         text, needs = found
         has = self.permissions.get(needs[0][1] if needs else text, ["use"]) or ["use"]
-        picked = [self.rng.choice(has) for _ in range(self.rng.choice((1, 1, 2, 3)))]
         if self.chance(0.05 if optional else 0.003):
-            picked.append(self.rng.choice(PERMISSIONS))
+            has = has + [self.rng.choice(PERMISSIONS)]
+        if self.chance(0.25):
+            return f"({text} {self.permission_expression(has, 2)})", needs
+        picked = [self.rng.choice(has) for _ in range(self.rng.choice((1, 1, 2, 3)))]
         return f"({text} ({' '.join(picked)}))", needs
+
+    def permissions_of_rule(self, scope, optional):
+        """The last part of a rule: a class with permissions, or a permission set."""
+        found = self.refer(["set"], scope, optional) if self.chance(0.2) else None
+        return found or self.class_and_permissions(scope, optional)
+
+    def permission_set_statement(self, scope, optional):
+        found = self.refer(["set"], scope, optional)
+        last = self.class_and_permissions(scope, optional)
+        if found is None or last is None:
+            return self.declaration(scope, optional)
+        return Statement(f"(classpermissionset {found[0]} {last[0]})", [], [], {}, found[1] + last[1])
 
     def rule(self, scope, optional):
         source = self.refer(OPERANDS, scope, optional)
         target = ("self", []) if self.chance(0.25) else self.refer(OPERANDS, scope, optional)
-        last = self.class_and_permissions(scope, optional)
+        last = self.permissions_of_rule(scope, optional)
         if source is None or target is None or last is None:
             return self.declaration(scope, optional)
         text = f"({self.rng.choice(KINDS)} {source[0]} {target[0]} {last[0]})"
@@ -154,13 +185,14 @@ class Writer:
         return Statement(text, [(form, name)], [], {name: has}, needs)
 
     def declaration(self, scope, optional):
-        forms = ["type"] * 6 + ["attribute"] * 3 + ["alias"] + ([] if optional else ["class", "common"])
+        forms = ["type"] * 6 + ["attribute"] * 3 + ["set"] * 2 + ["alias"] + ([] if optional else ["class", "common"])
         form = self.rng.choice(forms)
         if form in ("class", "common"):
             return self.class_declaration(scope, form)
         name = self.fresh(form, scope)
         short = name[len(scope):]
-        text, needs = f"({'type' + form if form != 'type' else form} {short})", []
+        word = {"type": "type", "set": "classpermission"}.get(form, "type" + form)
+        text, needs = f"({word} {short})", []
         actual = self.refer(["type"], scope, optional) if form == "alias" else None
         if actual is not None:
             text += f"(typealiasactual {short} {actual[0]})"
@@ -187,8 +219,10 @@ class Writer:
         roll = self.rng.random()
         if roll < 0.32:
             return self.rule(scope, optional)
-        if roll < 0.52:
+        if roll < 0.48:
             return self.set_statement(scope, optional)
+        if roll < 0.56:
+            return self.permission_set_statement(scope, optional)
         if roll < 0.8 or more == 0:
             return self.declaration(scope, optional)
         if roll < 0.93 or optional:
@@ -220,7 +254,10 @@ def faulty_statement(rng, writer):
         f"(typeattributeset {taken} ({taken}))", f"(typealias lc)(typeattribute sa)(typealiasactual lc sa)",
         "(common ca (use))(class pa (see))(classcommon pa ca)(classcommon pa ca)", f"(class pb ({permissions}))",
         "(typeattribute sb)(typeattributeset sb (not sb))", "(block o0x)(optional o0x)", "(classorder (nowhere))",
-        "(typeattribute sc)(typeattribute sd)(typeattributeset sc (sd))(typeattributeset sd (xor sc all))"])
+        "(typeattribute sc)(typeattribute sd)(typeattributeset sc (sd))(typeattributeset sd (xor sc all))", "(classpermission all)",
+        "(classpermission na)(classpermission na)", "(classpermissionset nowhere (p0 (use)))", f"(allow {taken} {taken} nowhere)",
+        "(class pc (use))(classpermission nb)(classpermissionset nb (pc (not see)))", "(classpermissionset n0 (p0 all))",
+        f"(class pd (use))(allow {taken} {taken} (pd (xor use)))"])
 
 
 def text_of(rng, statements):

@@ -80,14 +80,64 @@ chain() {
     }'
 }
 
-for shape in common commons blocks sets repeats brackets dotted chain; do
+# one permission set of many statements over 200 classes, and a rule that names it
+statements() {
+    awk -v k="$1" 'BEGIN {
+        print "(type t)(classpermission s)(allow t t s)"
+        for (i = 0; i < 200; i++) printf "(class c%d (p q r w))\n", i
+        for (i = 0; i < 12500 * k; i++) printf "(classpermissionset s (c%d (xor (p q) (q r))))\n", i % 200
+    }'
+}
+
+# expressions of permissions nested as deep as the text may, in rules and in a permission set
+nots() {
+    awk -v k="$1" 'BEGIN {
+        print "(type t)(class c (p q))(classpermission s)(allow t t s)"
+        for (i = 0; i < 250; i++) { open = open "(not "; close_all = close_all ")" }
+        for (i = 0; i < 250 * k; i++) {
+            printf "(allow t t (c %s(p)%s))\n", open, close_all
+            printf "(classpermissionset s (c %s(q)%s))\n", open, close_all
+        }
+    }'
+}
+
+# many rules that name one permission set, each of a type of its own
+named() {
+    awk -v k="$1" 'BEGIN {
+        print "(type t)(class c (p q))(class d (p))(classpermission s)(classpermissionset s (c (not (q))))(classpermissionset s (d (all)))"
+        for (i = 0; i < 12500 * k; i++) printf "(type t%d)(allow t%d t s)\n", i, i
+    }'
+}
+
+# many permission sets, each with a statement and a rule
+many() {
+    awk -v k="$1" 'BEGIN {
+        print "(type t)(class c (p q))"
+        for (i = 0; i < 12500 * k; i++) printf "(classpermission s%d)(classpermissionset s%d (c (p)))(allow t t s%d)\n", i, i, i
+    }'
+}
+
+# many rules without an access, and a rule with accesses, that name one permission set of all permissions of many classes
+idle() {
+    awk -v k="$1" 'BEGIN {
+        print "(type t)(typeattribute e)(classpermission s)(allow t t s)"
+        for (i = 0; i < 100 * k; i++) {
+            printf "(class c%d (", i
+            for (j = 0; j < 32; j++) printf "p%d ", j
+            printf "))(classpermissionset s (c%d (all)))\n", i
+        }
+        for (i = 0; i < 2500 * k; i++) printf "(allow e e s)\n"
+    }'
+}
+
+for shape in common commons blocks sets repeats brackets dotted chain statements nots named many idle; do
     for k in 1 4; do
         "$shape" "$k" > "$folder/text"
         script_of_text
         best=$(best_time)
         peak=$(peak_memory)
         awk -v shape="$shape" -v size="$size" -v ns="$best" -v peak="$peak" -v answer="$(cut -c1-40 "$folder/answer")" 'BEGIN {
-            printf "%-9s %9d bytes %8.3f s %8.1f MiB   %s\n", shape, size, ns / 1e9, peak / 1024, answer
+            printf "%-10s %9d bytes %8.3f s %8.1f MiB   %s\n", shape, size, ns / 1e9, peak / 1024, answer
         }'
     done
 done

@@ -410,7 +410,7 @@ def distribution(parts):
 # ---- small cases -----------------------------------------------------------
 
 # A name that isn't there, and one of each table of front.cil.
-OTHERS = "nix ty ta ro ra us bo tu ca cs se le lr cx sd ad px cl com".split()
+OTHERS = "nix ty ta ro ra us bo tu ca cs se le lr cx sd ad px ps cl com".split()
 
 # Words that are no names everywhere, and a name in quotes. A statement with one of them may be refused where secilc looks it up.
 ODD = "and all range unordered self".split() + ['"nix"']

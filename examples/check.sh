@@ -26,6 +26,7 @@ session() {
 expect first.answers session cat first.session
 expect store.answers session cat store.session
 expect pair.answers session cat pair.session
+expect set.answers session cat set.session
 expect site.answers session ./site.sh
 expect compile.answers "$program" compile site/base.cil site/web.cil site/database.cil site/local.cil
 expect violations.answers "$program" compile --violations site/base.cil site/web.cil site/leak.cil

@@ -1,8 +1,8 @@
 """Random edits in one session over a fixed set of names: a session that holds its policy and not its history has the same peak of memory
 early and late. And the load of a policy: a log of all its steps would take much more memory than its counters.
 
-A module has types, attributes and classes. Others, each with types, set statements and rules of its own over these, are installed, each in
-four texts in turn; then they are installed in one of these, removed, disabled and enabled at random.
+A module has types, attributes, classes and permission sets. Others, each with types, statements of sets and rules of its own over
+these, are installed, each in four texts in turn; then they are installed in one of these, removed, disabled and enabled at random.
 """
 import random
 import subprocess
@@ -12,7 +12,8 @@ def base():
     types = "".join(f"(type b{n})" for n in range(200))
     attributes = "".join(f"(typeattribute s{n})" for n in range(20))
     classes = "".join(f"(class c{n} (read write use))" for n in range(5))
-    return types + attributes + classes
+    permission_sets = "".join(f"(classpermission p{n})" for n in range(5))
+    return types + attributes + classes + permission_sets
 
 
 def text(rng, name):
@@ -26,6 +27,10 @@ def text(rng, name):
         source = rng.choice(names + [f"s{rng.randrange(20)}"])
         target = rng.choice(names + [f"s{rng.randrange(20)}", "self"])
         lines.append(f"(allow {source} {target} (c{rng.randrange(5)} ({rng.choice(['read', 'write', 'use'])})))")
+    for _ in range(3):
+        lines.append(f"(classpermissionset p{rng.randrange(5)} (c{rng.randrange(5)} (not ({rng.choice(['read', 'write', 'use'])}))))")
+    for _ in range(5):
+        lines.append(f"(allow {rng.choice(names)} {rng.choice(names)} p{rng.randrange(5)})")
     return "".join(lines)
 
 

@@ -1,5 +1,5 @@
 -- References that are bound.
-use Rattle.cil_bind.proofs.Common.{◌≡◌, ℕ, zero, suc, ◌+◌, ◌≤◌, List, [], ◌∷◌, ◌++◌, map, length, get_or, take, Option, Some, None, refl, sym, ap, ◌∙◌, subst, add-one, arith, length-map, map-append, take_all, none-some, same_Some, Word, Form, block, optional, type_name, type_alias, alias_actual, type_attribute, attribute_set, common, class, class_common, class_order, rule, itself, the_named, Placed, Table, types, classes, leads, references, read, FlatStatement, words_in, AreRows, Row, IsShown, NumberedWord, StatementView, IsLead, kind_of, StatementKind, AreLeads, AreBound, Binds, kinds_of, most_references, AreFrom, NamedModule}
+use Rattle.cil_bind.proofs.Common.{◌≡◌, ℕ, zero, suc, ◌+◌, ◌≤◌, List, [], ◌∷◌, ◌++◌, map, length, get_or, take, Option, Some, None, refl, sym, ap, ◌∙◌, subst, add-one, arith, length-map, map-append, take_all, none-some, same_Some, Word, Form, block, optional, type_name, type_alias, alias_actual, type_attribute, attribute_set, common, class, class_common, class_order, class_permission, class_permission_set, rule, anonymous, by_name, itself, the_named, Placed, Table, types, classes, leads, references, read, FlatStatement, words_in, AreRows, Row, IsShown, NumberedWord, StatementView, IsLead, kind_of, StatementKind, AreLeads, AreBound, Binds, kinds_of, most_references, AreFrom, NamedModule}
 use Rattle.std.proofs.Common.{slice_get}
 use Rattle.cil_specs.specs.Expr.{leaves}
 use Rattle.cil_bind.proofs.DeclareLemmas.{rows-length}
@@ -49,13 +49,20 @@ references-few (common id permissions) = omega arith
 references-few (class id permissions) = omega arith
 references-few (class_common the_class the_common) = omega arith
 references-few (class_order the_classes) = omega (arith, length-tagged classes the_classes)
-references-few (rule kind source itself the_class permissions) = omega arith
-references-few (rule kind source (the_named target) the_class permissions) = omega arith
+references-few (class_permission id) = omega arith
+references-few (class_permission_set set the_class permissions) = omega arith
+references-few (rule kind source itself (anonymous the_class permissions)) = omega arith
+references-few (rule kind source itself (by_name set)) = omega arith
+references-few (rule kind source (the_named target) (anonymous the_class permissions)) = omega arith
+references-few (rule kind source (the_named target) (by_name set)) = omega arith
 
 -- so are they among those that a kind can have
 references-most : (form : Form) → length (references form) ≤ most_references (kind_of form) (length (words_in form))
-references-most (rule kind source itself the_class permissions) = omega arith
-references-most (rule kind source (the_named target) the_class permissions) = omega arith
+references-most (class_permission_set set the_class permissions) = omega arith
+references-most (rule kind source itself (anonymous the_class permissions)) = omega arith
+references-most (rule kind source itself (by_name set)) = omega arith
+references-most (rule kind source (the_named target) (anonymous the_class permissions)) = omega arith
+references-most (rule kind source (the_named target) (by_name set)) = omega arith
 references-most (block id) = references-few (block id)
 references-most (optional id) = references-few (optional id)
 references-most (type_name id) = references-few (type_name id)
@@ -67,6 +74,7 @@ references-most (common id permissions) = references-few (common id permissions)
 references-most (class id permissions) = references-few (class id permissions)
 references-most (class_common the_class the_common) = references-few (class_common the_class the_common)
 references-most (class_order the_classes) = references-few (class_order the_classes)
+references-most (class_permission id) = references-few (class_permission id)
 
 -- all references
 pub leads-all : (policy : List Placed) (namespace : List (List ℕ)) (texts : List (List ℕ)) (v : StatementView) (f : FlatStatement) (k : ℕ) (bound : List (Option ℕ)) → IsShown texts v f → most_references v.kind (length v.words.now) ≤ k

@@ -29,10 +29,10 @@ pub use Rattle.cil_specs.proofs.OnceLemmas.{PassesAmong, any-middle, once-filter
 pub use Rattle.cil_specs.proofs.Runs.{both_true, first_true, second_true}
 pub use Rattle.cil_specs.specs.Joined.{Module, Placed, joined, namespace_inside, optionals_inside, placed}
 pub use Rattle.cil_specs.specs.Kept.{AreApart, IsFirst, IsFirstFault, Optionals, is_within, judged, restricted}
-pub use Rattle.cil_specs.specs.Lookup.{Table, block_name, classes, commons, declaration, declared_in, declares, from_namespace, has_block, has_name, inside, is_block, is_global, is_same, is_word, leads, nearest_block, outward, own_permissions, references, same_namespace, scopes, texts, types, word_text}
+pub use Rattle.cil_specs.specs.Lookup.{Table, block_name, classes, commons, permission_reference, permission_sets, declaration, declared_in, declares, from_namespace, has_block, has_name, inside, is_block, is_global, is_same, is_word, leads, nearest_block, outward, own_permissions, references, same_namespace, scopes, texts, types, word_text}
 pub use Rattle.cil_specs.specs.Names.{Word, components, declared, is_name, is_reserved}
 pub use Rattle.cil_specs.specs.Report.{name_cmp, names_rise}
-pub use Rattle.cil_specs.specs.Statements.{Form, Statements, alias_actual, are_apart, as_declared, as_referred, attribute_set, block, class, class_common, class_order, common, is_optional, itself, no_more, optional, rise_from, rule, stands_apart, statement, statement_offsets, target_words, the_named, type_alias, type_attribute, type_name, words_of}
+pub use Rattle.cil_specs.specs.Statements.{ClassPermissions, anonymous, by_name, class_permission, class_permission_set, Form, Statements, alias_actual, are_apart, as_declared, as_referred, attribute_set, block, class, class_common, class_order, common, is_optional, itself, no_more, optional, rise_from, rule, stands_apart, statement, statement_offsets, target_words, the_named, type_alias, type_attribute, type_name, words_of}
 pub use Rattle.std.proofs.Common.{All, Bool, Contains, IfNone, IsTrue, List, None, Option, Some, Vec, [], add-one, ap, append-nil, append_assoc, arith, bytes_eq, cond, drop, drop-cons, false, filter, fold, get_or, if◌then◌else◌, inl, inr, is_some, length, length-append, map, nat_eq, nat_lt, not, of_calls, position, refl, rules, slice_index_or, slice_set, subst, suc, sym, take, true, true≢false, zero, ℕ, ◌&&◌, ◌++◌, ◌+◌, ◌-◌, ◌<◌, ◌==◌, ◌^◌, ◌||◌, ◌∙◌, ◌∷◌, ◌≡◌, ◌≤◌, ◌⊎◌}
 pub use Rattle.std.proofs.lemmas.Bool.{cases_lt, cases_order, eq-eqb, eqb-true, le-ltb, lt-ltb}
 pub use Rattle.std.proofs.lemmas.Cmp.{nat_list_cmp_total, nat_list_eq_equiv}

@@ -1,10 +1,10 @@
 -- What statements declare, and the entries that have it.
-use Rattle.cil_bind.proofs.Common.{◌≡◌, ℕ, zero, suc, ◌+◌, ◌<◌, ◌≤◌, Bool, true, false, not, ◌&&◌, ◌==◌, cond, List, [], ◌∷◌, ◌++◌, length, get_or, take, drop, Contains, Option, Some, None, is_some, bytes_eq, position, if◌then◌else◌, refl, sym, ap, ◌∙◌, subst, add-one, append_assoc, true≢false, arith, list_any, AllByRecursion, lookup, option_or, eqb-true, eq-eqb, le-ltb, none-some, same_Some, get_or_from_slice_get, position-Some, take_all, take-append-drop, Word, is_optional, Placed, Table, types, classes, commons, scopes, declared_in, declares, is_word, same_namespace, both_true, first_true, second_true, contains-first, stands, same_place, later, earlier, table-in, twice-some, twice-nothing, PassesAmong, passes-among, any-middle, one-namespace, word_at, named, namespace_at, table_of, table_index, is_key, HaveDeclared, IsDeclared, IsRow, AreRows, AreNumbered, IsOnce, IsTaken, is_optional_row, Key, Row}
+use Rattle.cil_bind.proofs.Common.{◌≡◌, ℕ, zero, suc, ◌+◌, ◌<◌, ◌≤◌, Bool, true, false, not, ◌&&◌, ◌==◌, cond, List, [], ◌∷◌, ◌++◌, length, get_or, take, drop, Contains, Option, Some, None, is_some, bytes_eq, position, if◌then◌else◌, refl, sym, ap, ◌∙◌, subst, add-one, append_assoc, true≢false, arith, list_any, AllByRecursion, lookup, option_or, eqb-true, eq-eqb, le-ltb, none-some, same_Some, get_or_from_slice_get, position-Some, take_all, take-append-drop, Word, is_optional, Placed, Table, types, classes, commons, permission_sets, scopes, declared_in, declares, is_word, same_namespace, both_true, first_true, second_true, contains-first, stands, same_place, later, earlier, table-in, twice-some, twice-nothing, PassesAmong, passes-among, any-middle, one-namespace, word_at, named, namespace_at, table_of, table_index, is_key, HaveDeclared, IsDeclared, IsRow, AreRows, AreNumbered, IsOnce, IsTaken, is_optional_row, Key, Row}
 use Rattle.std.proofs.Common.{slice_get}
 use Rattle.indexmap.specs.IndexMap.{insert_entry}
 use Rattle.cil_specs.specs.PolicyFault.{twice, is_again, twice_words}
 use Rattle.cil_parse.specs.declared.table.Table as code
-use Rattle.cil_parse.specs.declared.table.Table.TheVariants.{Types, Classes, Commons, Scopes}
+use Rattle.cil_parse.specs.declared.table.Table.TheVariants.{Types, Classes, Commons, PermissionSets, Scopes}
 use Rattle.cil_bind.proofs.NamespaceLemmas.{bytes_eq-refl, bytes_eq-true, distinct-place}
 use Rattle.cil_bind.proofs.PositionLemmas.{at_if, is_before, any-before, any-position, position-append, around-at, take-length, take-next}
 
@@ -114,6 +114,7 @@ pub same-table : (t u : code.Table) → (table_index t == table_index u) ≡ tru
 same-table Types Types e = refl
 same-table Classes Classes e = refl
 same-table Commons Commons e = refl
+same-table PermissionSets PermissionSets e = refl
 same-table Scopes Scopes e = refl
 same-table _ _ e = absurd (true≢false (sym e))
 
@@ -121,13 +122,15 @@ index : Table → ℕ
 index types = 0
 index classes = 1
 index commons = 2
-index scopes = 3
+index permission_sets = 3
+index scopes = 4
 
 table-same : (t u : code.Table) → table_of t ≡ table_of u → (table_index t == table_index u) ≡ true
 unfolding index
 table-same Types Types e = refl
 table-same Classes Classes e = refl
 table-same Commons Commons e = refl
+table-same PermissionSets PermissionSets e = refl
 table-same Scopes Scopes e = refl
 table-same _ _ e = absurd (omega (arith, ap index e))
 

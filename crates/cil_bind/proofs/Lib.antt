@@ -3,7 +3,6 @@ pub mod NamespaceLemmas
 pub mod LookupLemmas
 pub mod PositionLemmas
 pub mod DeclareLemmas
-pub mod JoinLemmas
 pub mod ScopeLemmas
 pub mod PlaceLemmas
 pub mod WordLemmas

@@ -16,7 +16,7 @@ use Rattle.cil_specs.proofs.Runs.{first_true, second_true}
 use Rattle.cil_specs.proofs.DeclaredLemmas.{one-namespace}
 use Rattle.cil_bind.specs.Lookup.{word_at, named, namespace_at, path_of, table_index, is_key, AreOpened, IsFirstOf, IsLead, AreWithin}
 use Rattle.cil_parse.specs.declared.table.Table as code
-use Rattle.cil_parse.specs.declared.table.Table.TheVariants.{Types, Classes, Commons, Scopes}
+use Rattle.cil_parse.specs.declared.table.Table.TheVariants.{Types, Classes, Commons, PermissionSets, Scopes}
 use Rattle.cil_bind.specs.declared.lookup.Key.{Key}
 use Rattle.cil_parse.specs.contracts.table.TablePartialEq.TheImpl as table_eq
 use Rattle.cil_bind.specs.contracts.lookup.KeyPartialEq.TheImpl as key_eq
@@ -151,6 +151,7 @@ pub derived-table : (t u : code.Table) → (table_eq.eq-value).it t u ≡ (table
 derived-table Types Types = refl
 derived-table Classes Classes = refl
 derived-table Commons Commons = refl
+derived-table PermissionSets PermissionSets = refl
 derived-table Scopes Scopes = refl
 derived-table _ _ = refl
 

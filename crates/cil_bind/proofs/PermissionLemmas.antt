@@ -1,5 +1,5 @@
 -- Permissions as statements list them.
-use Rattle.cil_bind.proofs.Common.{◌≡◌, ℕ, zero, suc, ◌+◌, ◌<◌, ◌&&◌, ◌||◌, Bool, true, false, List, [], ◌∷◌, ◌++◌, map, length, take, get_or, Some, bytes_eq, refl, sym, ap, ◌∙◌, true≢false, arith, length-map, Word, Form, common, class, rule, itself, the_named, has_name, texts, own_permissions, read, kind_of, permissions_in, NumberedWord}
+use Rattle.cil_bind.proofs.Common.{◌≡◌, ℕ, zero, suc, ◌+◌, ◌<◌, ◌&&◌, ◌||◌, Bool, true, false, List, [], ◌∷◌, ◌++◌, map, length, take, get_or, Some, bytes_eq, refl, sym, ap, ◌∙◌, true≢false, arith, length-map, Word, Form, common, class, rule, anonymous, by_name, itself, the_named, has_name, texts, own_permissions, read, kind_of, permissions_in, NumberedWord}
 use Rattle.std.proofs.Common.{slice_get}
 use Rattle.cil_bind.specs.Listing.{lists_own}
 use Rattle.cil_bind.proofs.PositionLemmas.{take-last, any-last}
@@ -33,8 +33,10 @@ as-many texts shown list is = sym (length-map list Some) ∙ ap length (sym is) 
 pub own-listed : (form : Form) → lists_own (kind_of form) ≡ true → permissions_in form ≡ own_permissions form
 own-listed (common id permissions) is = refl
 own-listed (class id permissions) is = refl
-own-listed (rule kind source itself the_class permissions) is = absurd (true≢false (sym is))
-own-listed (rule kind source (the_named word) the_class permissions) is = absurd (true≢false (sym is))
+own-listed (rule kind source itself (anonymous the_class permissions)) is = absurd (true≢false (sym is))
+own-listed (rule kind source itself (by_name set)) is = absurd (true≢false (sym is))
+own-listed (rule kind source (the_named word) (anonymous the_class permissions)) is = absurd (true≢false (sym is))
+own-listed (rule kind source (the_named word) (by_name set)) is = absurd (true≢false (sym is))
 own-listed _ is = absurd (true≢false (sym is))
 
 pub none-listed : (form : Form) → lists_own (kind_of form) ≡ false → own_permissions form ≡ []

@@ -1,5 +1,5 @@
 -- Statements of a joined policy by numbers.
-use Rattle.cil_bind.proofs.Common.{◌≡◌, ◌⊎◌, inl, inr, ℕ, zero, suc, ◌<◌, ◌≤◌, List, [], ◌∷◌, ◌++◌, length, get_or, Contains, Option, Some, None, bytes_eq, refl, sym, ap, ◌∙◌, subst, append-nil, arith, length-append, AllByRecursion, IsDistinct, option_map, get_or_append_left, none-some, same_Some, Word, Form, block, rule, itself, the_named, is_optional, Placed, Table, types, classes, commons, scopes, declared_in, read, kind_of, NumberedWord, word_at, named, namespace_at, table_of, IsDeclared, IsRow, AreRows, AreNumbered, Opens, IsOpenedIn, Stands, block_word, is_optional_kind, StatementKind, Row}
+use Rattle.cil_bind.proofs.Common.{◌≡◌, ◌⊎◌, inl, inr, ℕ, zero, suc, ◌<◌, ◌≤◌, List, [], ◌∷◌, ◌++◌, length, get_or, Contains, Option, Some, None, bytes_eq, refl, sym, ap, ◌∙◌, subst, append-nil, arith, length-append, AllByRecursion, IsDistinct, option_map, get_or_append_left, none-some, same_Some, Word, Form, block, rule, anonymous, by_name, itself, the_named, is_optional, Placed, Table, types, classes, commons, permission_sets, scopes, declared_in, read, kind_of, NumberedWord, word_at, named, namespace_at, table_of, IsDeclared, IsRow, AreRows, AreNumbered, Opens, IsOpenedIn, Stands, block_word, is_optional_kind, StatementKind, Row}
 use Rattle.std.proofs.Common.{slice_get}
 use Rattle.cil_text.specs.Image.{place_of}
 use Rattle.cil_parse.specs.declared.table.Table as code
@@ -125,13 +125,17 @@ all-more names more (w ∷ space) all = (let long = length-append names more in 
 -- the kinds of forms
 kind-block : (form : Form) → kind_of form ≡ kinds.Block → (id : Word) × (form ≡ block id)
 kind-block (block id) e = (id, refl)
-kind-block (rule kind source itself the_class permissions) e = cc
-kind-block (rule kind source (the_named target) the_class permissions) e = cc
+kind-block (rule kind source itself (anonymous the_class permissions)) e = cc
+kind-block (rule kind source itself (by_name set)) e = cc
+kind-block (rule kind source (the_named target) (anonymous the_class permissions)) e = cc
+kind-block (rule kind source (the_named target) (by_name set)) e = cc
 kind-block _ e = cc
 
 pub kind-optional : (form : Form) → is_optional_kind (kind_of form) ≡ is_optional form
-kind-optional (rule kind source itself the_class permissions) = refl
-kind-optional (rule kind source (the_named target) the_class permissions) = refl
+kind-optional (rule kind source itself (anonymous the_class permissions)) = refl
+kind-optional (rule kind source itself (by_name set)) = refl
+kind-optional (rule kind source (the_named target) (anonymous the_class permissions)) = refl
+kind-optional (rule kind source (the_named target) (by_name set)) = refl
 kind-optional _ = refl
 
 -- the word of a block
@@ -151,6 +155,7 @@ block-declares names (Some (table, w)) form id e is =
     by types word e = absurd (none-some word (sym e))
     by classes word e = absurd (none-some word (sym e))
     by commons word e = absurd (none-some word (sym e))
+    by permission_sets word e = absurd (none-some word (sym e))
     by scopes word e = sym (same_Some word id e)
 
 -- One statement more stands, where its row has these numbers.

@@ -1,5 +1,5 @@
 -- What holds of the statements of modules that are spelt by texts.
-use Rattle.cil_bind.proofs.Common.{◌≡◌, ℕ, Bool, true, false, not, ◌||◌, List, [], ◌∷◌, map, None, Some, if◌then◌else◌, refl, sym, AllByRecursion, list_any, IfSome, none-some, Word, declared, is_name, components, is_reserved, Form, block, optional, type_name, type_alias, alias_actual, type_attribute, attribute_set, common, class, class_common, class_order, rule, target_words, words_of, as_declared, as_referred, is_optional, Statements, no_more, statement, are_apart, Module, namespace_inside, optionals_inside, placed, joined, AreApart, types, declared_in, all-weaker, all-append, all-second, all-contained, permissions_in}
+use Rattle.cil_bind.proofs.Common.{◌≡◌, ℕ, Bool, true, false, not, ◌||◌, List, [], ◌∷◌, map, None, Some, if◌then◌else◌, refl, sym, AllByRecursion, list_any, IfSome, none-some, Word, declared, is_name, components, is_reserved, Form, block, optional, type_name, type_alias, alias_actual, type_attribute, attribute_set, common, class, class_common, class_order, class_permission, class_permission_set, rule, anonymous, by_name, target_words, words_of, as_declared, as_referred, is_optional, Statements, no_more, statement, are_apart, Module, namespace_inside, optionals_inside, placed, joined, AreApart, types, declared_in, all-weaker, all-append, all-second, all-contained, permissions_in}
 use Rattle.cil_specs.specs.Expr.{leaves}
 use Rattle.cil_specs.specs.Lookup as lookup
 use Rattle.cil_specs.specs.TextFault.{bad_name, reserved}
@@ -40,8 +40,11 @@ good-permissions (common id permissions) good = good-names permissions good.1
 good-permissions (class id permissions) good = good-names permissions good.1
 good-permissions (class_common the_class the_common) good = tt
 good-permissions (class_order classes) good = tt
-good-permissions (rule kind source target the_class permissions) good =
+good-permissions (class_permission id) good = tt
+good-permissions (class_permission_set set the_class permissions) good = good-names (leaves permissions) good.1.1
+good-permissions (rule kind source target (anonymous the_class permissions)) good =
     good-names (leaves permissions) (all-second IsGoodWord (map as_referred (target_words target)) (as_referred the_class ∷ map as_declared (leaves permissions)) good.1).1
+good-permissions (rule kind source target (by_name set)) good = tt
 
 good-declared : (form : Form) → AllByRecursion IsGoodWord (words_of form) → IfSome (declared_in types form) (λ word. IsName word.text)
 good-declared (block id) good = tt
@@ -55,11 +58,17 @@ good-declared (common id permissions) good = tt
 good-declared (class id permissions) good = tt
 good-declared (class_common the_class the_common) good = tt
 good-declared (class_order classes) good = tt
-good-declared (rule kind source target the_class permissions) good = tt
+good-declared (class_permission id) good = tt
+good-declared (class_permission_set set the_class permissions) good = tt
+good-declared (rule kind source target permissions) good = tt
 
 good-class : (form : Form) → AllByRecursion IsGoodWord (words_of form) → IfSome (declared_in lookup.classes form) (λ word. IsName word.text)
 good-class (class id permissions) good = good-spelt id good.0
 good-class _ good = tt
+
+good-set : (form : Form) → AllByRecursion IsGoodWord (words_of form) → IfSome (declared_in lookup.permission_sets form) (λ word. IsName word.text)
+good-set (class_permission id) good = good-spelt id good.0
+good-set _ good = tt
 
 good-inside : (form : Form) (namespace : List (List ℕ)) → AllByRecursion IsGoodWord (words_of form) → AllByRecursion IsName namespace → AllByRecursion IsName (namespace_inside form namespace)
 good-inside (block id) namespace good blocks = (good-spelt id good.0, blocks)
@@ -73,13 +82,15 @@ good-inside (common id permissions) namespace good blocks = blocks
 good-inside (class id permissions) namespace good blocks = blocks
 good-inside (class_common the_class the_common) namespace good blocks = blocks
 good-inside (class_order classes) namespace good blocks = blocks
-good-inside (rule kind source target the_class permissions) namespace good blocks = blocks
+good-inside (class_permission id) namespace good blocks = blocks
+good-inside (class_permission_set set the_class permissions) namespace good blocks = blocks
+good-inside (rule kind source target permissions) namespace good blocks = blocks
 
 placed-names : (name : List ℕ) (namespace : List (List ℕ)) (optionals : List ℕ) (inside : Bool) (trees : Trees) (statements : Statements) → AllByRecursion IsName namespace → Shapes inside trees statements
     → AllByRecursion HasOneNames (placed name namespace optionals statements)
 placed-names name namespace optionals inside trees no_more blocks shapes = tt
 placed-names name namespace optionals inside trees (statement at form body more) blocks (end, parts, inner, rest, is, fits, allowed, good, within, behind) = (
-  record { declared = good-declared form good; declared_class = good-class form good; blocks = blocks; permissions = good-permissions form good },
+  record { declared = good-declared form good; declared_class = good-class form good; declared_set = good-set form good; blocks = blocks; permissions = good-permissions form good },
   all-append HasOneNames (placed name (namespace_inside form namespace) (optionals_inside form at optionals) body) (placed name namespace optionals more)
       (placed-names name (namespace_inside form namespace) (optionals_inside form at optionals) (inside || is_optional form) inner body (good-inside form namespace good blocks) within)
       (placed-names name namespace optionals inside rest more blocks behind),

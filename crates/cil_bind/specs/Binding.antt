@@ -30,10 +30,14 @@ pub record Binds (policy : List Placed) (namespace : List (List ℕ)) (form : Fo
   pub added : new ≡ (old.0 ++ bound ∷ [], [])
   pub leads_are : AreLeads policy namespace (references form) bound
 
--- how many of so many words of a statement of a kind are references at most: behind those of a rule its permissions stand
+-- how many of so many words of a statement of a kind are references at most: behind those of a rule, or of a statement of a permission
+-- set, permissions stand
 abbrev pub most_references : StatementKind → ℕ → ℕ
+most_references kinds.ClassPermissionSet n = 2
 most_references (kinds.Rule kind) n = 3
 most_references (kinds.RuleToSelf kind) n = 2
+most_references (kinds.RuleOfSet kind) n = 3
+most_references (kinds.RuleToSelfOfSet kind) n = 2
 most_references _ n = n
 
 -- the kinds of statements

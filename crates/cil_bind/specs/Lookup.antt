@@ -7,7 +7,7 @@ use Rattle.cil_specs.specs.Joined.{Placed}
 use Rattle.cil_specs.specs.Lookup.{Table, declares, is_same, has_block}
 pub use Rattle.cil_parse.specs.Kinds.{table_of}
 use Rattle.cil_parse.specs.declared.table.Table as code
-use Rattle.cil_parse.specs.declared.table.Table.TheVariants.{Types, Classes, Commons, Scopes}
+use Rattle.cil_parse.specs.declared.table.Table.TheVariants.{Types, Classes, Commons, PermissionSets, Scopes}
 use Rattle.cil_bind.specs.declared.lookup.Key.{Key}
 
 -- the word of a number
@@ -30,7 +30,8 @@ abbrev pub table_index : code.Table → ℕ
 table_index Types = 0
 table_index Classes = 1
 table_index Commons = 2
-table_index Scopes = 3
+table_index PermissionSets = 3
+table_index Scopes = 4
 
 -- the key of a name, by the values of its fields
 abbrev pub is_key : code.Table → ℕ → ℕ → Key → Bool

@@ -5,7 +5,7 @@ use Rattle.cil_specs.specs.Names.{Word, is_name, components}
 use Rattle.cil_specs.specs.Trees.{Trees, Reads}
 use Rattle.cil_specs.specs.Shape.{Shapes}
 use Rattle.cil_specs.specs.Joined.{Module, Placed}
-use Rattle.cil_specs.specs.Lookup.{types, classes, declared_in}
+use Rattle.cil_specs.specs.Lookup.{types, classes, permission_sets, declared_in}
 use Rattle.cil_parse.specs.Forms.{permissions_in}
 
 -- a text spells the statements of the module
@@ -27,11 +27,12 @@ IsOneName word = components word.text ≡ word.text ∷ []
 abbrev pub IsName : List ℕ → Type 0
 IsName text = IsTrue (is_name text)
 
--- What a statement declares as a type, an alias, an attribute or a class has a name without dots, and so have the blocks around it and
--- the permissions that it names.
+-- What a statement declares as a type, an alias or an attribute, as a class or as a permission set has a name without dots, and so have
+-- the blocks around it and the permissions that it names.
 pub record HasOneNames (s : Placed) : Type 0 where
   pub declared : IfSome (declared_in types s.form) (λ word. IsName word.text)
   pub declared_class : IfSome (declared_in classes s.form) (λ word. IsName word.text)
+  pub declared_set : IfSome (declared_in permission_sets s.form) (λ word. IsName word.text)
   pub blocks : AllByRecursion IsName s.namespace
   pub permissions : AllByRecursion IsOneName (permissions_in s.form)
 

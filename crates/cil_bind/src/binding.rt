@@ -11,13 +11,15 @@ use crate::rows::Row;
 use cil_parse::{Lists, ParsedModule, StatementKind, StatementView};
 use std::alloc::{AllocError, Allocator, Global};
 
-/// How many of a statement's words are references at most: behind those of a rule its permissions stand, and they are many.
+/// How many of a statement's words are references at most: behind those of a rule, or of a statement of a permission set, permissions
+/// stand, and they are many.
 fn most_references(view: &StatementView<'_>) -> usize
     ensures { result ≡ most_references view.now.kind (length view.now.words.now) }
 {
     match view.kind {
-        StatementKind::Rule(_) => 3,
-        StatementKind::RuleToSelf(_) => 2,
+        StatementKind::ClassPermissionSet => 2,
+        StatementKind::Rule(_) | StatementKind::RuleOfSet(_) => 3,
+        StatementKind::RuleToSelf(_) | StatementKind::RuleToSelfOfSet(_) => 2,
         _ => view.words.len(),
     }
 }

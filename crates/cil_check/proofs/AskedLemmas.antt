@@ -1,6 +1,8 @@
 -- Words with faults, as they are read of statements that are seen.
-use Rattle.cil_check.proofs.Common.{◌≡◌, ℕ, zero, suc, true, false, Bool, not, ◌&&◌, List, [], ◌∷◌, map, filter, get_or, Option, Some, None, is_some, true≢false, refl, sym, ap, ◌∙◌, subst, take, drop, cond, length, add-one, arith, ◌+◌, ◌<◌, ◌≤◌, if◌then◌else◌, option_map, option_or, option_and_then, none-some, same_Some, slice_get-map, length-map, Word, WordExpr, leaves, Form, block, optional, type_name, type_alias, alias_actual, type_attribute, attribute_set, common, class, class_common, class_order, rule, itself, the_named, Placed, Table, types, actual_statement, leads, references, holds_of, is_alias, is_of_another_kind, is_unset, is_unfound, read, kind_of, words_in, texts_of, NumberedWord, IsLead, first_unfound, IsSeen, Reads, word_if, test_of, again_words, first_at, association_table, given_kind, given_word, given_lead, HasFirsts, Seen, Association, Actual, Common, is_before}
+use Rattle.cil_check.proofs.Common.{◌≡◌, ℕ, zero, suc, true, false, Bool, not, ◌&&◌, List, [], ◌∷◌, map, filter, get_or, Option, Some, None, is_some, true≢false, refl, sym, ap, ◌∙◌, subst, take, drop, cond, length, add-one, arith, ◌+◌, ◌<◌, ◌≤◌, if◌then◌else◌, option_map, option_or, option_and_then, none-some, same_Some, slice_get-map, length-map, Word, WordExpr, leaves, Form, block, optional, type_name, type_alias, alias_actual, type_attribute, attribute_set, common, class, class_common, class_order, class_permission, class_permission_set, rule, anonymous, by_name, itself, the_named, Placed, Table, types, actual_statement, leads, references, holds_of, is_alias, is_of_another_kind, is_unset, is_unfound, read, kind_of, words_in, texts_of, NumberedWord, IsLead, first_unfound, IsSeen, Reads, word_if, test_of, again_words, first_at, association_table, given_kind, given_word, given_lead, HasFirsts, Seen, Association, Actual, Common, is_before}
 use Rattle.std.proofs.Common.{slice_get}
+use Rattle.cil_specs.specs.Statements.{RuleKind, Target, ClassPermissions}
+use Rattle.cil_parse.specs.declared.row.StatementKind.{StatementKind}
 use Rattle.cil_parse.specs.declared.row.StatementKind.TheVariants as kinds
 use Rattle.cil_parse.specs.Kinds.{table_of, reference_table}
 use Rattle.cil_parse.specs.declared.table.Table as code_table
@@ -8,7 +10,7 @@ use Rattle.cil_parse.proofs.ViewLemmas.{references-at}
 use Rattle.cil_bind.specs.Binding.{AreLeads}
 use Rattle.cil_check.specs.declared.kinds.Kind.{Kind}
 use Rattle.cil_check.proofs.SeenLemmas.{lead-of, seen-word}
-use Rattle.cil_check.proofs.WordLemmas.{led-at, or-map, words-cons, again_if, again-word, again-noted}
+use Rattle.cil_check.proofs.WordLemmas.{led-at, or-map, filter-one, words-cons, again_if, again-word, again-noted}
 
 -- no word, and one of two
 pub reads-none : {A : Type 0} (seen : Seen A) (passes : Bool) (word : Word) (found : Option NumberedWord) → found ≡ None → passes ≡ false → Reads seen found (word_if passes word)
@@ -49,8 +51,45 @@ form-set (common id permissions) is = cc
 form-set (class id permissions) is = cc
 form-set (class_common the_class the_common) is = cc
 form-set (class_order the_classes) is = cc
-form-set (rule kind source itself the_class permissions) is = cc
-form-set (rule kind source (the_named word) the_class permissions) is = cc
+form-set (class_permission id) is = cc
+form-set (class_permission_set set the_class permissions) is = cc
+form-set (rule kind source itself (anonymous the_class permissions)) is = cc
+form-set (rule kind source itself (by_name set)) is = cc
+form-set (rule kind source (the_named word) (anonymous the_class permissions)) is = cc
+form-set (rule kind source (the_named word) (by_name set)) is = cc
+
+-- a rule with this target, whatever its permissions are
+pub record IsRuleTo (form : Form) (target : Target) : Type 0 where
+  pub kind : RuleKind
+  pub source : Word
+  pub permissions : ClassPermissions
+  pub is : form ≡ rule kind source target permissions
+
+abbrev pub is_to_word : StatementKind → Bool
+is_to_word (kinds.Rule kind) = true
+is_to_word (kinds.RuleOfSet kind) = true
+is_to_word _ = false
+
+abbrev pub is_to_self : StatementKind → Bool
+is_to_self (kinds.RuleToSelf kind) = true
+is_to_self (kinds.RuleToSelfOfSet kind) = true
+is_to_self _ = false
+
+pub form-to-word : (form : Form) → is_to_word (kind_of form) ≡ true → (word : Word) × IsRuleTo form (the_named word)
+form-to-word (rule kind source (the_named word) (anonymous the_class permissions)) is =
+    (word, record { kind = kind; source = source; permissions = anonymous the_class permissions; is = refl })
+form-to-word (rule kind source (the_named word) (by_name set)) is = (word, record { kind = kind; source = source; permissions = by_name set; is = refl })
+form-to-word (rule kind source itself (anonymous the_class permissions)) is = absurd (true≢false (sym is))
+form-to-word (rule kind source itself (by_name set)) is = absurd (true≢false (sym is))
+form-to-word _ is = absurd (true≢false (sym is))
+
+pub form-to-self : (form : Form) → is_to_self (kind_of form) ≡ true → IsRuleTo form itself
+form-to-self (rule kind source itself (anonymous the_class permissions)) is =
+    record { kind = kind; source = source; permissions = anonymous the_class permissions; is = refl }
+form-to-self (rule kind source itself (by_name set)) is = record { kind = kind; source = source; permissions = by_name set; is = refl }
+form-to-self (rule kind source (the_named word) (anonymous the_class permissions)) is = absurd (true≢false (sym is))
+form-to-self (rule kind source (the_named word) (by_name set)) is = absurd (true≢false (sym is))
+form-to-self _ is = absurd (true≢false (sym is))
 
 pub nowhere-unset : (policy : List Placed) (namespace : List (List ℕ)) (word : Word) (found : Option ℕ) → IsLead types policy found (leads policy types namespace word.text) → found ≡ None
     → is_unset policy namespace word ≡ false
@@ -80,10 +119,18 @@ none-given Actual (class_common x y) not_given = refl
 none-given Common (class_common x y) not_given = absurd (true≢false not_given)
 none-given Actual (class_order l) not_given = refl
 none-given Common (class_order l) not_given = refl
-none-given Actual (rule k x itself y l) not_given = refl
-none-given Actual (rule k x (the_named z) y l) not_given = refl
-none-given Common (rule k x itself y l) not_given = refl
-none-given Common (rule k x (the_named z) y l) not_given = refl
+none-given Actual (class_permission w) not_given = refl
+none-given Common (class_permission w) not_given = refl
+none-given Actual (class_permission_set x y e) not_given = refl
+none-given Common (class_permission_set x y e) not_given = refl
+none-given Actual (rule k x itself (anonymous y e)) not_given = refl
+none-given Actual (rule k x itself (by_name y)) not_given = refl
+none-given Actual (rule k x (the_named z) (anonymous y e)) not_given = refl
+none-given Actual (rule k x (the_named z) (by_name y)) not_given = refl
+none-given Common (rule k x itself (anonymous y e)) not_given = refl
+none-given Common (rule k x itself (by_name y)) not_given = refl
+none-given Common (rule k x (the_named z) (anonymous y e)) not_given = refl
+none-given Common (rule k x (the_named z) (by_name y)) not_given = refl
 
 pub none-lead : (g : Association) (policy : List Placed) (s : Placed) → given_kind g (kind_of s.form) ≡ false → IsLead (association_table g) policy None (given_lead g policy s)
 none-lead g policy s not_given = record { is = ap (option_and_then (λ w. leads policy (association_table g) s.namespace w.text)) (sym (none-given g s.form not_given)); within = tt; first = tt }
@@ -101,7 +148,9 @@ given-first Actual (common id permissions) word is = cc
 given-first Actual (class id permissions) word is = cc
 given-first Actual (class_common the_class the_common) word is = cc
 given-first Actual (class_order the_classes) word is = cc
-given-first Actual (rule kind source target the_class permissions) word is = cc
+given-first Actual (class_permission id) word is = cc
+given-first Actual (class_permission_set set the_class permissions) word is = cc
+given-first Actual (rule kind source target permissions) word is = cc
 given-first Common (block id) word is = cc
 given-first Common (optional id) word is = cc
 given-first Common (type_name id) word is = cc
@@ -113,7 +162,9 @@ given-first Common (common id permissions) word is = cc
 given-first Common (class id permissions) word is = cc
 given-first Common (class_common the_class the_common) word is = is
 given-first Common (class_order the_classes) word is = cc
-given-first Common (rule kind source target the_class permissions) word is = cc
+given-first Common (class_permission id) word is = cc
+given-first Common (class_permission_set set the_class permissions) word is = cc
+given-first Common (rule kind source target permissions) word is = cc
 
 -- the word to which a statement gives something, where a test passes
 abbrev pub first_if : {A : Type 0} → Seen A → Bool → Option NumberedWord
@@ -165,6 +216,10 @@ filter-next p x xs = by (p x)
     by : (b : Bool) → slice_get (cond b (x ∷ filter p xs) (filter p xs)) 0 ≡ option_or (word_if b x) (slice_get (filter p xs) 0)
     by true = refl
     by false = refl
+
+-- the first of two words that passes
+pub first-of-two : (p : Word → Bool) (a b : Word) → slice_get (filter p (a ∷ b ∷ [])) 0 ≡ option_or (word_if (p a) a) (word_if (p b) b)
+first-of-two p a b = filter-next p a (b ∷ []) ∙ ap (option_or (word_if (p a) a)) (filter-one p b)
 
 -- the first word that passes is here, or behind
 pub first-here : {A : Type 0} (seen : Seen A) (b : Bool) (x : Word) (found : NumberedWord) (rest : Option Word) → Reads seen (Some found) (word_if b x) → Reads seen (Some found) (option_or (word_if b x) rest)

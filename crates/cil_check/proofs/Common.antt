@@ -12,8 +12,8 @@ pub use Rattle.cil_check.specs.Few.{with_number}
 pub use Rattle.cil_check.specs.Groups.{list_at, numbers_in}
 pub use Rattle.cil_check.specs.Image.{IsFoundFault, PolicyFaultIs, fault_at, policy_kind_of}
 pub use Rattle.cil_check.specs.Inherited.{HasInherited, HasInheritedOf, common_lead, common_word, given_names, names_listed}
-pub use Rattle.cil_check.specs.Kinds.{again_words, is_kind, is_plain, is_rule, test_of, word_if}
-pub use Rattle.cil_check.specs.Missing.{class_lead, has_list, lacking_words, rule_class}
+pub use Rattle.cil_check.specs.Kinds.{again_words, is_kind, is_plain, is_rule_of_set, names_permissions, test_of, word_if}
+pub use Rattle.cil_check.specs.Missing.{class_lead, class_with, has_list, lacking_words, named_class}
 pub use Rattle.cil_check.specs.Ordered.{HasNoneBelow, IsCleanAt, IsFaultIn, IsFaultless}
 pub use Rattle.cil_check.specs.Permissions.{HaveListed, HaveWords, is_listed, lists_own}
 pub use Rattle.cil_check.specs.declared.bound.Seen.{Seen}
@@ -36,12 +36,12 @@ pub use Rattle.cil_specs.proofs.OnceLemmas.{IsOnce, any-middle, passes-among}
 pub use Rattle.cil_specs.proofs.Runs.{both_true, first_true, second_true}
 pub use Rattle.cil_specs.specs.Expr.{WordExpr, leaves, map_leaves}
 pub use Rattle.cil_specs.specs.Joined.{Placed}
-pub use Rattle.cil_specs.specs.Lookup.{Table, actual_statement, classes, common_permissions, commons, declared_in, declared_name, declares, distinct, full_name, gives_actual, gives_common, has_name, holds_of, is_alias, is_attribute, is_same, is_word, leads, listed_by, named_permissions, own_permissions, permissions_of, references, same_namespace, scopes, texts, types, with_name, word_text}
+pub use Rattle.cil_specs.specs.Lookup.{Table, permission_reference, permission_sets, permissions_with, actual_statement, classes, common_permissions, commons, declared_in, declared_name, declares, distinct, full_name, gives_actual, gives_common, has_name, holds_of, is_alias, is_attribute, is_same, is_word, leads, listed_by, named_permissions, own_permissions, permissions_of, references, same_namespace, scopes, texts, types, with_name, word_text}
 pub use Rattle.cil_specs.specs.Names.{Word, begins_name, components, is_name, is_name_byte}
 pub use Rattle.cil_specs.specs.PolicyFault.{IsCircular, IsFaultOf, IsNoLater, PolicyFault, PolicyFaultKind, alias_twice, alias_unset, alias_unset_words, alias_words, circular, code_of, common_words, element_words, has_earlier_actual, has_earlier_common, has_too_many, is_again, is_lacking, is_of_another_kind, is_outside, is_unfound, is_unset, kinds_asked, missing, missing_words, second_common, tables, too_many_permissions, too_many_words, twice, twice_words, wrong_kind, wrong_kind_words}
 pub use Rattle.cil_specs.specs.Rule.{SetStatement, an_attribute, element_at, element_of, element_or_none, is_class, name_or_none, set_statement_of, sets_of}
 pub use Rattle.cil_specs.specs.Sets.{DependsOn, DependsThrough, IsNextOf, is_the_attribute, mentions}
-pub use Rattle.cil_specs.specs.Statements.{Form, Statements, alias_actual, as_declared, as_referred, attribute_set, block, class, class_common, class_order, common, is_optional, itself, optional, rise_from, rule, the_named, type_alias, type_attribute, type_name}
+pub use Rattle.cil_specs.specs.Statements.{ClassPermissions, anonymous, by_name, class_permission, class_permission_set, permission_words, Form, Statements, alias_actual, as_declared, as_referred, attribute_set, block, class, class_common, class_order, common, is_optional, itself, optional, rise_from, rule, the_named, type_alias, type_attribute, type_name}
 pub use Rattle.std.proofs.Common.{Bool, Bor, Contains, List, MatchOption, None, Option, Some, Vec, [], add-one, ap, append-nil, arith, bytes_eq, cond, drop, false, filter, fold, get_or, if◌then◌else◌, inl, inr, is_some, length, map, nat_eq, nat_le, nat_lt, not, position, refl, rules, set, subst, suc, sym, take, true, true≢false, zero, ℕ, ◌&&◌, ◌++◌, ◌+◌, ◌<◌, ◌==◌, ◌||◌, ◌↔◌, ◌∙◌, ◌∷◌, ◌≡◌, ◌≤◌, ◌⊎◌}
 pub use Rattle.std.proofs.Math.Bool.{or-false, or-true}
 pub use Rattle.std.proofs.lemmas.Bool.{cases_lt, cases_order, eq-eqb, eqb-false, eqb-true, le-ltb, leb-true, lt-ltb, ltb-true}

@@ -1,5 +1,5 @@
 -- The commons that statements give to classes.
-use Rattle.cil_check.proofs.Common.{◌≡◌, ℕ, ◌+◌, ◌<◌, zero, suc, Bool, true, false, ◌==◌, List, [], ◌∷◌, ◌++◌, length, get_or, set, take, cond, Option, Some, None, Bor, is_some, nat_lt, true≢false, position, refl, sym, ap, ◌∙◌, subst, arith, append-nil, add-one, if◌then◌else◌, option_or, option_and_then, list_any, AllByRecursion, none-some, same_Some, slice_get_within, slice_get_read, eqb-true, eqb-false, ltb-true, lt-ltb, position-Some, flat_map-append, Word, Form, block, optional, type_name, type_alias, alias_actual, type_attribute, attribute_set, common, class, class_common, class_order, rule, Placed, classes, commons, is_same, holds_of, leads, references, listed_by, gives_common, common_permissions, all-append, IsFirstOf, IsLead, IsSeen, given_word, given_lead, numbers_in, list_at, names_listed, given_names, common_word, common_lead, HasInheritedOf, Seen, Common, at_if, position-append, any-position, take-next}
+use Rattle.cil_check.proofs.Common.{◌≡◌, ℕ, ◌+◌, ◌<◌, zero, suc, Bool, true, false, ◌==◌, List, [], ◌∷◌, ◌++◌, length, get_or, set, take, cond, Option, Some, None, Bor, is_some, nat_lt, true≢false, position, refl, sym, ap, ◌∙◌, subst, arith, append-nil, add-one, if◌then◌else◌, option_or, option_and_then, list_any, AllByRecursion, none-some, same_Some, slice_get_within, slice_get_read, eqb-true, eqb-false, ltb-true, lt-ltb, position-Some, flat_map-append, Word, Form, block, optional, type_name, type_alias, alias_actual, type_attribute, attribute_set, common, class, class_common, class_order, class_permission, class_permission_set, rule, Placed, classes, commons, is_same, holds_of, leads, references, listed_by, gives_common, common_permissions, all-append, IsFirstOf, IsLead, IsSeen, given_word, given_lead, numbers_in, list_at, names_listed, given_names, common_word, common_lead, HasInheritedOf, Seen, Common, at_if, position-append, any-position, take-next}
 use Rattle.std.proofs.Common.{flat_map, IfSome, option_map, slice_get}
 use Rattle.cil_check.proofs.PositionLemmas.{get-append, get-last}
 use Rattle.cil_check.proofs.FirstsLemmas.{gives-lead, lead-same}
@@ -99,7 +99,9 @@ common-lead policy namespace (common id permissions) = refl
 common-lead policy namespace (class id permissions) = refl
 common-lead policy namespace (class_common the_class the_common) = refl
 common-lead policy namespace (class_order the_classes) = refl
-common-lead policy namespace (rule kind source target the_class permissions) = refl
+common-lead policy namespace (class_permission id) = refl
+common-lead policy namespace (class_permission_set set the_class permissions) = refl
+common-lead policy namespace (rule kind source target permissions) = refl
 
 given-form : (form : Form) (word : Word) → given_word Common form ≡ Some word → (the_common : Word) × (form ≡ class_common word the_common)
 given-form (block id) word is = cc
@@ -113,7 +115,9 @@ given-form (common id permissions) word is = cc
 given-form (class id permissions) word is = cc
 given-form (class_common the_class the_common) word is = (the_common, ap (λ w. class_common w the_common) (same_Some the_class word is))
 given-form (class_order the_classes) word is = cc
-given-form (rule kind source target the_class permissions) word is = cc
+given-form (class_permission id) word is = cc
+given-form (class_permission_set set the_class permissions) word is = cc
+given-form (rule kind source target permissions) word is = cc
 
 -- the second word of a statement that gives something to a class leads to its common
 pub common-led : {A : Type 0} (seen : Seen A) (policy : List Placed) (t : Placed) (owner : ℕ) → IsSeen seen policy t → IsLead classes policy (Some owner) (given_lead Common policy t)

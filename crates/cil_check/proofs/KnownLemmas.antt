@@ -1,5 +1,5 @@
 -- Statements that are clean by their kinds, and permissions of lists that are known.
-use Rattle.cil_check.proofs.Common.{◌≡◌, ℕ, ◌≤◌, ◌<◌, ◌++◌, not, ◌&&◌, Bool, true, false, List, [], ◌∷◌, map, filter, cond, Some, None, take, get_or, refl, sym, ap, ◌∙◌, subst, true≢false, arith, list_all, option_to_list, none-some, same_Some, slice_get_within, Word, Form, block, optional, type_name, type_alias, alias_actual, type_attribute, attribute_set, common, class, class_common, class_order, rule, itself, the_named, Placed, classes, declared_in, holds_of, has_name, texts, permissions_of, references, named_permissions, PolicyFaultKind, twice, missing, wrong_kind, alias_twice, alias_unset, second_common, too_many_permissions, circular, code_of, is_unfound, is_lacking, missing_words, kinds_asked, is_of_another_kind, alias_words, has_earlier_actual, element_words, is_unset, alias_unset_words, wrong_kind_words, is_attribute, WordExpr, common_words, has_earlier_common, has_too_many, faulty_words, kind_of, permissions_in, IsLead, AreFoundInside, IsOf, is_rule, is_plain, class_lead, lacking_words, has_list, IsCleanAt}
+use Rattle.cil_check.proofs.Common.{◌≡◌, ℕ, ◌≤◌, ◌<◌, ◌++◌, not, ◌&&◌, Bool, true, false, List, [], ◌∷◌, map, filter, cond, Some, None, take, get_or, refl, sym, ap, ◌∙◌, subst, true≢false, arith, list_all, option_to_list, none-some, same_Some, slice_get_within, Word, Form, block, optional, type_name, type_alias, alias_actual, type_attribute, attribute_set, common, class, class_common, class_order, class_permission, class_permission_set, rule, anonymous, by_name, itself, the_named, Placed, classes, declared_in, holds_of, has_name, texts, permissions_of, references, named_permissions, PolicyFaultKind, twice, missing, wrong_kind, alias_twice, alias_unset, second_common, too_many_permissions, circular, code_of, is_unfound, is_lacking, missing_words, kinds_asked, is_of_another_kind, alias_words, has_earlier_actual, element_words, is_unset, alias_unset_words, wrong_kind_words, is_attribute, WordExpr, common_words, has_earlier_common, has_too_many, faulty_words, kind_of, permissions_in, IsLead, AreFoundInside, IsOf, is_plain, is_rule_of_set, names_permissions, class_lead, lacking_words, has_list, IsCleanAt}
 use Rattle.std.proofs.Common.{slice_get}
 use Rattle.cil_bind.specs.KnownLists.{texts_listed}
 use Rattle.cil_bind.specs.declared.joined.NamedModule.{NamedModule}
@@ -18,20 +18,25 @@ record IsQuiet (form : Form) : Type 0 where
   commons : common_words form ≡ []
   class_names : declared_in classes form ≡ None
 
-rule-quiet : (form : Form) → is_rule (kind_of form) ≡ true → IsQuiet form
-rule-quiet (block id) is = absurd (true≢false (sym is))
-rule-quiet (optional id) is = absurd (true≢false (sym is))
-rule-quiet (type_name id) is = absurd (true≢false (sym is))
-rule-quiet (type_alias id) is = absurd (true≢false (sym is))
-rule-quiet (alias_actual alias actual) is = absurd (true≢false (sym is))
-rule-quiet (type_attribute id) is = absurd (true≢false (sym is))
-rule-quiet (attribute_set attribute expr) is = absurd (true≢false (sym is))
-rule-quiet (common id permissions) is = absurd (true≢false (sym is))
-rule-quiet (class id permissions) is = absurd (true≢false (sym is))
-rule-quiet (class_common the_class the_common) is = absurd (true≢false (sym is))
-rule-quiet (class_order the_classes) is = absurd (true≢false (sym is))
-rule-quiet (rule kind source itself the_class permissions) is = record { kinds = refl; aliases = refl; commons = refl; class_names = refl }
-rule-quiet (rule kind source (the_named word) the_class permissions) is = record { kinds = refl; aliases = refl; commons = refl; class_names = refl }
+naming-quiet : (form : Form) → names_permissions (kind_of form) ≡ true → IsQuiet form
+naming-quiet (class_permission_set set the_class permissions) is = record { kinds = refl; aliases = refl; commons = refl; class_names = refl }
+naming-quiet (rule kind source itself (anonymous the_class permissions)) is = record { kinds = refl; aliases = refl; commons = refl; class_names = refl }
+naming-quiet (rule kind source (the_named word) (anonymous the_class permissions)) is = record { kinds = refl; aliases = refl; commons = refl; class_names = refl }
+naming-quiet (rule kind source itself (by_name set)) is = absurd (true≢false (sym is))
+naming-quiet (rule kind source (the_named word) (by_name set)) is = absurd (true≢false (sym is))
+naming-quiet _ is = absurd (true≢false (sym is))
+
+-- a rule of a permission set names no permissions either
+record IsOfSet (form : Form) : Type 0 where
+  quiet : IsQuiet form
+  permissions : named_permissions form ≡ []
+
+rule-of-set : (form : Form) → is_rule_of_set (kind_of form) ≡ true → IsOfSet form
+rule-of-set (rule kind source itself (by_name set)) is = record { quiet = record { kinds = refl; aliases = refl; commons = refl; class_names = refl }; permissions = refl }
+rule-of-set (rule kind source (the_named word) (by_name set)) is = record { quiet = record { kinds = refl; aliases = refl; commons = refl; class_names = refl }; permissions = refl }
+rule-of-set (rule kind source itself (anonymous the_class permissions)) is = absurd (true≢false (sym is))
+rule-of-set (rule kind source (the_named word) (anonymous the_class permissions)) is = absurd (true≢false (sym is))
+rule-of-set _ is = absurd (true≢false (sym is))
 
 -- a plain statement has none of them either
 record IsSilent (form : Form) : Type 0 where
@@ -52,8 +57,12 @@ plain-silent (common id permissions) is = record { quiet = record { kinds = refl
 plain-silent (class id permissions) is = absurd (true≢false (sym is))
 plain-silent (class_common the_class the_common) is = absurd (true≢false (sym is))
 plain-silent (class_order the_classes) is = absurd (true≢false (sym is))
-plain-silent (rule kind source itself the_class permissions) is = absurd (true≢false (sym is))
-plain-silent (rule kind source (the_named word) the_class permissions) is = absurd (true≢false (sym is))
+plain-silent (class_permission id) is = record { quiet = record { kinds = refl; aliases = refl; commons = refl; class_names = refl }; refs = refl; permissions = refl; elements = refl }
+plain-silent (class_permission_set set the_class permissions) is = absurd (true≢false (sym is))
+plain-silent (rule kind source itself (anonymous the_class permissions)) is = absurd (true≢false (sym is))
+plain-silent (rule kind source itself (by_name set)) is = absurd (true≢false (sym is))
+plain-silent (rule kind source (the_named word) (anonymous the_class permissions)) is = absurd (true≢false (sym is))
+plain-silent (rule kind source (the_named word) (by_name set)) is = absurd (true≢false (sym is))
 
 -- A statement is clean where its names are found, and lead to things of the kinds that are asked, and no element of it is an alias without
 -- an actual type; it gives nothing and is no class.
@@ -78,8 +87,14 @@ module _ (policy : List Placed) (place : ℕ) (s : Placed) (inside : AreFoundIns
 pub missing-neither : (policy : List Placed) (s : Placed) → map (λ r. r.1) (filter (is_unfound policy s.namespace) (references s.form)) ≡ [] → lacking_words policy s ≡ [] → missing_words policy s ≡ []
 missing-neither policy s found none = ap (λ l. l ++ lacking_words policy s) found ∙ none
 
-pub rule-clean : (policy : List Placed) (place : ℕ) (s : Placed) → is_rule (kind_of s.form) ≡ true → AreFoundInside policy → slice_get policy place ≡ Some s → missing_words policy s ≡ [] → alias_unset_words policy s ≡ [] → IsCleanAt policy place s
-rule-clean policy place s is inside at found actual = quiet-clean policy place s inside at found actual (rule-quiet s.form is)
+pub naming-clean : (policy : List Placed) (place : ℕ) (s : Placed) → names_permissions (kind_of s.form) ≡ true → AreFoundInside policy → slice_get policy place ≡ Some s → missing_words policy s ≡ [] → alias_unset_words policy s ≡ [] → IsCleanAt policy place s
+naming-clean policy place s is inside at found actual = quiet-clean policy place s inside at found actual (naming-quiet s.form is)
+
+pub of-set-clean : (policy : List Placed) (place : ℕ) (s : Placed) → is_rule_of_set (kind_of s.form) ≡ true → AreFoundInside policy → slice_get policy place ≡ Some s
+    → map (λ r. r.1) (filter (is_unfound policy s.namespace) (references s.form)) ≡ [] → alias_unset_words policy s ≡ [] → IsCleanAt policy place s
+of-set-clean policy place s is inside at found actual =
+    let of_set = rule-of-set s.form is in
+    quiet-clean policy place s inside at (missing-neither policy s found (ap (λ l. map (λ p. p.1) (filter (is_lacking policy s.namespace) l)) of_set.permissions)) actual of_set.quiet
 
 -- a set statement may lead to a thing of another kind
 pub set-clean : (policy : List Placed) (place : ℕ) (s : Placed) (attribute : Word) (expr : WordExpr) → s.form ≡ attribute_set attribute expr → AreFoundInside policy → slice_get policy place ≡ Some s

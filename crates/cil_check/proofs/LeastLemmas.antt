@@ -1,5 +1,5 @@
 -- The first faulty word that is found is the least fault of its kind.
-use Rattle.cil_check.proofs.Common.{◌≡◌, ◌⊎◌, inl, inr, ℕ, ◌+◌, ◌<◌, ◌≤◌, suc, Bool, true, false, nat_le, cond, if◌then◌else◌, List, [], ◌∷◌, ◌++◌, length, take, drop, map, filter, Some, refl, sym, ap, ◌∙◌, subst, Contains, arith, append-nil, AllByRecursion, slice_get, list_any, option_to_list, map-append, length-append, length-take-le, same_Some, slice_get_within, leb-true, cases_lt, Word, Form, block, optional, type_name, type_alias, alias_actual, type_attribute, attribute_set, common, class, class_common, class_order, rule, itself, the_named, rise_from, as_declared, as_referred, leaves, Placed, Table, types, classes, commons, scopes, references, named_permissions, declared_in, declared_name, PolicyFaultKind, twice, missing, wrong_kind, alias_twice, alias_unset, second_common, too_many_permissions, circular, PolicyFault, is_again, missing_words, is_unfound, is_lacking, kinds_asked, is_of_another_kind, wrong_kind_words, alias_words, has_earlier_actual, element_words, is_unset, common_words, has_earlier_common, has_too_many, tables, is_outside, IsFaultOf, IsNoLater, both_true, first_true, second_true, sets_of, faulty_words, faulty-listed, attribute_words, depends_on, all-contained, contains-cases, contains-first, contains-other, contains-map, rises-low, rises-less, stands, same_place, later, earlier, offsets_in, offsets_of, IsBefore, AreOrdered, IsLeast, fault_at, around-at}
+use Rattle.cil_check.proofs.Common.{◌≡◌, ◌⊎◌, inl, inr, ℕ, ◌+◌, ◌<◌, ◌≤◌, suc, Bool, true, false, nat_le, cond, if◌then◌else◌, List, [], ◌∷◌, ◌++◌, length, take, drop, map, filter, Some, refl, sym, ap, ◌∙◌, subst, Contains, arith, append-nil, AllByRecursion, slice_get, list_any, option_to_list, map-append, length-append, length-take-le, same_Some, slice_get_within, leb-true, cases_lt, Word, Form, block, optional, type_name, type_alias, alias_actual, type_attribute, attribute_set, common, class, class_common, class_order, class_permission, class_permission_set, rule, anonymous, by_name, itself, the_named, rise_from, as_declared, as_referred, leaves, Placed, Table, types, classes, commons, permission_sets, scopes, references, named_permissions, declared_in, declared_name, PolicyFaultKind, twice, missing, wrong_kind, alias_twice, alias_unset, second_common, too_many_permissions, circular, PolicyFault, is_again, missing_words, is_unfound, is_lacking, kinds_asked, is_of_another_kind, wrong_kind_words, alias_words, has_earlier_actual, element_words, is_unset, common_words, has_earlier_common, has_too_many, tables, is_outside, IsFaultOf, IsNoLater, both_true, first_true, second_true, sets_of, faulty_words, faulty-listed, attribute_words, depends_on, all-contained, contains-cases, contains-first, contains-other, contains-map, rises-low, rises-less, stands, same_place, later, earlier, offsets_in, offsets_of, IsBefore, AreOrdered, IsLeast, fault_at, around-at}
 use Rattle.std.proofs.Common.{flat_map}
 use Rattle.std.proofs.Math.Seq.{take-append_seam}
 use Rattle.cil_specs.proofs.PartLemmas.{all-middle}
@@ -116,10 +116,15 @@ sub-references (class_order the_classes) =
     sub-end (map offset (map (λ (r : Table × Word). r.1) (map (λ w. (classes, w)) the_classes))) (map (λ (role, word). word.at.offset) (map as_referred the_classes))
     (sub-trans (map offset (map (λ (r : Table × Word). r.1) (map (λ w. (classes, w)) the_classes))) (map offset the_classes) (map (λ (role, word). word.at.offset) (map as_referred the_classes))
     (sub-second classes the_classes) (sub-referred the_classes))
-sub-references (rule kind source itself the_class permissions) =
+sub-references (class_permission id) = tt
+sub-references (class_permission_set set the_class permissions) =
     inl (refl, inl (refl, sub-permissions the_class (leaves permissions)))
-sub-references (rule kind source (the_named target) the_class permissions) =
+sub-references (rule kind source itself (anonymous the_class permissions)) =
+    inl (refl, inl (refl, sub-permissions the_class (leaves permissions)))
+sub-references (rule kind source itself (by_name set)) = inl (refl, inl (refl, tt))
+sub-references (rule kind source (the_named target) (anonymous the_class permissions)) =
     inl (refl, inl (refl, inl (refl, sub-permissions the_class (leaves permissions))))
+sub-references (rule kind source (the_named target) (by_name set)) = inl (refl, inl (refl, inl (refl, tt)))
 
 sub-missing : (policy : List Placed) (s : Placed) → IsSub (map offset (missing_words policy s)) (offsets_in s.form)
 sub-missing policy s =
@@ -145,7 +150,9 @@ sub-kinds (common id permissions) = tt
 sub-kinds (class id permissions) = tt
 sub-kinds (class_common the_class the_common) = tt
 sub-kinds (class_order the_classes) = tt
-sub-kinds (rule kind source target the_class permissions) = tt
+sub-kinds (class_permission id) = tt
+sub-kinds (class_permission_set set the_class permissions) = tt
+sub-kinds (rule kind source target permissions) = tt
 
 sub-aliases : (form : Form) → IsSub (map offset (alias_words form)) (offsets_in form)
 sub-aliases (block id) = tt
@@ -159,7 +166,9 @@ sub-aliases (common id permissions) = tt
 sub-aliases (class id permissions) = tt
 sub-aliases (class_common the_class the_common) = tt
 sub-aliases (class_order the_classes) = tt
-sub-aliases (rule kind source target the_class permissions) = tt
+sub-aliases (class_permission id) = tt
+sub-aliases (class_permission_set set the_class permissions) = tt
+sub-aliases (rule kind source target permissions) = tt
 
 sub-elements : (form : Form) → IsSub (map offset (element_words form)) (offsets_in form)
 sub-elements (block id) = tt
@@ -174,8 +183,10 @@ sub-elements (common id permissions) = tt
 sub-elements (class id permissions) = tt
 sub-elements (class_common the_class the_common) = tt
 sub-elements (class_order the_classes) = tt
-sub-elements (rule kind source itself the_class permissions) = inl (refl, tt)
-sub-elements (rule kind source (the_named target) the_class permissions) = inl (refl, inl (refl, tt))
+sub-elements (class_permission id) = tt
+sub-elements (class_permission_set set the_class permissions) = tt
+sub-elements (rule kind source itself permissions) = inl (refl, tt)
+sub-elements (rule kind source (the_named target) permissions) = inl (refl, inl (refl, tt))
 
 sub-commons : (form : Form) → IsSub (map offset (common_words form)) (offsets_in form)
 sub-commons (block id) = tt
@@ -189,7 +200,9 @@ sub-commons (common id permissions) = tt
 sub-commons (class id permissions) = tt
 sub-commons (class_common the_class the_common) = inl (refl, tt)
 sub-commons (class_order the_classes) = tt
-sub-commons (rule kind source target the_class permissions) = tt
+sub-commons (class_permission id) = tt
+sub-commons (class_permission_set set the_class permissions) = tt
+sub-commons (rule kind source target permissions) = tt
 
 sub-classes : (form : Form) → IsSub (map offset (option_to_list (declared_in classes form))) (offsets_in form)
 sub-classes (block id) = tt
@@ -203,7 +216,9 @@ sub-classes (common id permissions) = tt
 sub-classes (class id permissions) = inl (refl, tt)
 sub-classes (class_common the_class the_common) = tt
 sub-classes (class_order the_classes) = tt
-sub-classes (rule kind source target the_class permissions) = tt
+sub-classes (class_permission id) = tt
+sub-classes (class_permission_set set the_class permissions) = tt
+sub-classes (rule kind source target permissions) = tt
 
 sub-attributes : (form : Form) → IsSub (map offset (attribute_words form)) (offsets_in form)
 sub-attributes (type_attribute id) = inl (refl, tt)
@@ -231,7 +246,9 @@ sub-chosen again (class id permissions) =
     subst (λ l. IsSub (map offset l) (offsets_in (class id permissions))) (sym (append-nil _)) (sub-one (again classes id) id (map (λ (role, word). word.at.offset) (map as_declared permissions)))
 sub-chosen again (class_common the_class the_common) = tt
 sub-chosen again (class_order the_classes) = tt
-sub-chosen again (rule kind source target the_class permissions) = tt
+sub-chosen again (class_permission id) = subst (λ l. IsSub (map offset l) (id.at.offset ∷ [])) (sym (append-nil _)) (sub-one (again permission_sets id) id [])
+sub-chosen again (class_permission_set set the_class permissions) = tt
+sub-chosen again (rule kind source target permissions) = tt
 
 -- some of words that are a form's
 sub-some : (form : Form) (p : Word → Bool) (words : List Word) → IsSub (map offset words) (offsets_in form) → IsSub (map offset (filter p words)) (offsets_in form)

@@ -1,5 +1,5 @@
 -- Permissions that classes have, and those that they lack.
-use Rattle.cil_check.proofs.Common.{◌≡◌, ℕ, ◌+◌, ◌<◌, ◌≤◌, zero, suc, not, ◌||◌, Bool, true, false, List, [], ◌∷◌, ◌++◌, length, map, filter, drop, cond, Option, Some, None, Contains, bytes_eq, get_or, refl, sym, ap, ◌∙◌, option_and_then, list_any, or-true, none-some, same_Some, slice_get-get_or, slice_get_within, get_or_from_slice_get, list_any-append, Word, Form, block, optional, type_name, type_alias, alias_actual, type_attribute, attribute_set, common, class, class_common, class_order, rule, leaves, Placed, classes, leads, holds_of, has_name, texts, listed_by, own_permissions, permissions_of, named_permissions, is_lacking, permissions_in, read, texts_of, NumberedWord, word_at, IsFirstOf, IsLead, IsOneName, IsNoted, list_at, names_listed, given_names, HasInherited, rule_class, class_lead, lacking_words, is_listed, HaveListed, Seen, Listed}
+use Rattle.cil_check.proofs.Common.{◌≡◌, ℕ, ◌+◌, ◌<◌, ◌≤◌, zero, suc, not, ◌||◌, Bool, true, false, List, [], ◌∷◌, ◌++◌, length, map, filter, drop, cond, Option, Some, None, Contains, bytes_eq, get_or, refl, sym, ap, ◌∙◌, option_and_then, list_any, or-true, none-some, same_Some, slice_get-get_or, slice_get_within, get_or_from_slice_get, list_any-append, Word, Form, block, optional, type_name, type_alias, alias_actual, type_attribute, attribute_set, common, class, class_common, class_order, class_permission, class_permission_set, rule, anonymous, by_name, leaves, Placed, classes, leads, holds_of, has_name, texts, listed_by, own_permissions, permissions_of, named_permissions, is_lacking, permissions_in, read, texts_of, NumberedWord, word_at, IsFirstOf, IsLead, IsOneName, IsNoted, list_at, names_listed, given_names, HasInherited, named_class, class_lead, lacking_words, is_listed, HaveListed, Seen, Listed}
 use Rattle.std.proofs.Common.{flat_map, slice_get}
 use Rattle.cil_check.specs.declared.checker.Checker.{Checker}
 use Rattle.cil_check.proofs.PositionLemmas.{all-at}
@@ -85,8 +85,8 @@ has-step names policy noted keys items owner n i found has have is within less t
     there : m < length policy
     there = all-at (λ k. k < length policy) (list_at noted owner) i m (has.within owner) (ap (λ l. slice_get l i) (sym is) ∙ at)
 
--- the permissions that a rule names are all that it has
-pub named-of : (form : Form) (word : Word) → rule_class form ≡ Some word → named_permissions form ≡ map (λ w. (word, w)) (permissions_in form)
+-- the permissions that a statement names of a class are all that it has
+pub named-of : (form : Form) (word : Word) → named_class form ≡ Some word → named_permissions form ≡ map (λ w. (word, w)) (permissions_in form)
 named-of (block id) word is = absurd (none-some word is)
 named-of (optional id) word is = absurd (none-some word is)
 named-of (type_name id) word is = absurd (none-some word is)
@@ -98,9 +98,12 @@ named-of (common id permissions) word is = absurd (none-some word is)
 named-of (class id permissions) word is = absurd (none-some word is)
 named-of (class_common the_class the_common) word is = absurd (none-some word is)
 named-of (class_order the_classes) word is = absurd (none-some word is)
-named-of (rule kind source target the_class permissions) word is = ap (λ c. map (λ w. (c, w)) (leaves permissions)) (same_Some the_class word is)
+named-of (class_permission id) word is = absurd (none-some word is)
+named-of (class_permission_set set the_class permissions) word is = ap (λ c. map (λ w. (c, w)) (leaves permissions)) (same_Some the_class word is)
+named-of (rule kind source target (by_name set)) word is = absurd (none-some word is)
+named-of (rule kind source target (anonymous the_class permissions)) word is = ap (λ c. map (λ w. (c, w)) (leaves permissions)) (same_Some the_class word is)
 
-named-none : (form : Form) → rule_class form ≡ None → named_permissions form ≡ []
+named-none : (form : Form) → named_class form ≡ None → named_permissions form ≡ []
 named-none (block id) is = refl
 named-none (optional id) is = refl
 named-none (type_name id) is = refl
@@ -112,7 +115,10 @@ named-none (common id permissions) is = refl
 named-none (class id permissions) is = refl
 named-none (class_common the_class the_common) is = refl
 named-none (class_order the_classes) is = refl
-named-none (rule kind source target the_class permissions) is = absurd (none-some the_class (sym is))
+named-none (class_permission id) is = refl
+named-none (class_permission_set set the_class permissions) is = absurd (none-some the_class (sym is))
+named-none (rule kind source target (by_name set)) is = refl
+named-none (rule kind source target (anonymous the_class permissions)) is = absurd (none-some the_class (sym is))
 
 pub second-of : (p : Word × Word → Bool) (word : Word) (words : List Word) → map (λ r. r.1) (filter p (map (λ w. (word, w)) words)) ≡ filter (λ w. p (word, w)) words
 second-of p word [] = refl
@@ -123,37 +129,37 @@ second-of p word (w ∷ words) = by (p (word, w)) (second-of p word words)
     by true more = ap (λ l. w ∷ l) more
     by false more = more
 
--- whether the class of a rule lacks a permission
+-- whether the class that a statement names lacks a permission
 abbrev pub lacks : List Placed → Placed → Word → Word → Bool
 lacks policy s word w = is_lacking policy s.namespace (word, w)
 
--- the first that is lacking, by the words that the rule lists
-pub lacking-first : (policy : List Placed) (s : Placed) (word : Word) → rule_class s.form ≡ Some word → slice_get (lacking_words policy s) 0 ≡ first_from (lacks policy s word) 0 (permissions_in s.form)
+-- the first that is lacking, by the words that the statement lists
+pub lacking-first : (policy : List Placed) (s : Placed) (word : Word) → named_class s.form ≡ Some word → slice_get (lacking_words policy s) 0 ≡ first_from (lacks policy s word) 0 (permissions_in s.form)
 lacking-first policy s word is =
     ap (λ l. slice_get (map (λ p. p.1) (filter (is_lacking policy s.namespace) l)) 0) (named-of s.form word is) ∙ ap (λ l. slice_get l 0) (second-of (is_lacking policy s.namespace) word (permissions_in s.form))
 
--- the class that a rule names
-pub class-named : (policy : List Placed) (s : Placed) (place : ℕ) → IsLead classes policy (Some place) (class_lead policy s) → (word : Word) × (rule_class s.form ≡ Some word)
-class-named policy s place led = by (rule_class s.form) refl
+-- the class that a statement names
+pub class-named : (policy : List Placed) (s : Placed) (place : ℕ) → IsLead classes policy (Some place) (class_lead policy s) → (word : Word) × (named_class s.form ≡ Some word)
+class-named policy s place led = by (named_class s.form) refl
   where
     there : Led classes policy place (class_lead policy s)
     there = led-at classes policy place (class_lead policy s) led
 
-    by : (o : Option Word) → rule_class s.form ≡ o → (word : Word) × (rule_class s.form ≡ Some word)
+    by : (o : Option Word) → named_class s.form ≡ o → (word : Word) × (named_class s.form ≡ Some word)
     by None none = absurd (none-some there.s (sym (ap (option_and_then (λ w. leads policy classes s.namespace w.text)) none) ∙ there.is))
     by (Some word) is = (word, is)
 
 -- a class that is found lacks a permission that isn't among its own
-pub lacks-one : (policy : List Placed) (s : Placed) (place : ℕ) (word w : Word) (lead : Led classes policy place (class_lead policy s)) → rule_class s.form ≡ Some word
+pub lacks-one : (policy : List Placed) (s : Placed) (place : ℕ) (word w : Word) (lead : Led classes policy place (class_lead policy s)) → named_class s.form ≡ Some word
     → lacks policy s word w ≡ not (has_name (permissions_of policy lead.s) w.text)
 lacks-one policy s place word w lead is =
     ap (holds_of (λ u. not (has_name (permissions_of policy u) w.text))) (sym (ap (option_and_then (λ v. leads policy classes s.namespace v.text)) is) ∙ lead.is)
 
 -- nothing is lacking where no class is found
 pub lacks-none : (policy : List Placed) (s : Placed) → IsLead classes policy None (class_lead policy s) → lacking_words policy s ≡ []
-lacks-none policy s led = by (rule_class s.form) refl
+lacks-none policy s led = by (named_class s.form) refl
   where
-    by : (o : Option Word) → rule_class s.form ≡ o → lacking_words policy s ≡ []
+    by : (o : Option Word) → named_class s.form ≡ o → lacking_words policy s ≡ []
     by None none = ap (λ l. map (λ p. p.1) (filter (is_lacking policy s.namespace) l)) (named-none s.form none)
     by (Some word) is =
         ap (λ l. map (λ p. p.1) (filter (is_lacking policy s.namespace) l)) (named-of s.form word is) ∙ second-of (is_lacking policy s.namespace) word (permissions_in s.form)
@@ -167,7 +173,7 @@ lacks-none policy s led = by (rule_class s.form) refl
         nothing (w ∷ words) =
             ap (λ b. cond b (w ∷ filter (lacks policy s word) words) (filter (lacks policy s word) words)) (ap (holds_of (λ u. not (has_name (permissions_of policy u) w.text))) none) ∙ nothing words
 
--- a permission of a rule: its word, and whether its class lacks it
+-- a permission of a statement: its word, and whether its class lacks it
 pub record IsAsked {A : Type 0} (seen : Seen A) (policy : List Placed) (s : Placed) (word : Word) (i : ℕ) (shown : NumberedWord) (has : Bool) : Type 0 where
   pub w : Word
   pub at : slice_get (permissions_in s.form) i ≡ Some w
@@ -176,7 +182,7 @@ pub record IsAsked {A : Type 0} (seen : Seen A) (policy : List Placed) (s : Plac
 
 pub asked-at : {A : Type 0} (checker : Checker A) (seen : Seen A) (policy : List Placed) (s : Placed) (word : Word) (place : ℕ) (shown : List NumberedWord) (i : ℕ) (d : NumberedWord) (number : ℕ) (has : Bool)
     → IsNoted checker policy → Contains policy s → map (read (texts_of seen.«module».now)) shown ≡ map Some (permissions_in s.form) → i < length shown → IsLead classes policy (Some place) (class_lead policy s)
-    → rule_class s.form ≡ Some word
+    → named_class s.form ≡ Some word
     → ((w : Word) → read (texts_of seen.«module».now) (get_or shown i d) ≡ Some w → IsOneName w → slice_get checker.bound.policy.now.names number ≡ Some w.text)
     → ((u : Placed) → slice_get policy place ≡ Some u → IsFirstOf classes policy place → number < length checker.bound.policy.now.names
     → has ≡ has_name (permissions_of policy u) (word_at checker.bound.policy.now.names number))

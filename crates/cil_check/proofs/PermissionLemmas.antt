@@ -1,5 +1,5 @@
 -- Permissions by numbers.
-use Rattle.cil_check.proofs.Common.{◌≡◌, ℕ, zero, suc, ◌+◌, ◌<◌, ◌==◌, ◌&&◌, ◌||◌, nat_eq, nat_lt, ◌≤◌, inl, inr, Bool, true, false, not, List, [], ◌∷◌, ◌++◌, map, length, take, get_or, Option, Some, bytes_eq, refl, sym, ap, ◌∙◌, subst, true≢false, add-one, arith, if◌then◌else◌, list_any, AllByRecursion, IsDistinct, none-some, same_Some, get_or_from_slice_get, slice_get_within, eqb-true, eq-eqb, cases_order, lt-ltb, le-ltb, list_any-append, length-map, map-append, fold-append, or-false, bytes_eq-Decides, Word, Form, block, optional, type_name, type_alias, alias_actual, type_attribute, attribute_set, common, class, class_common, class_order, rule, itself, the_named, Placed, kind_of, permissions_in, has_name, with_name, distinct, texts, own_permissions, read, NumberedWord, word_at, bytes_eq-true, distinct-place, is_listed, HaveListed, HaveWords, lists_own, IsOneName, Listed, AreNumbersOf, take-next}
+use Rattle.cil_check.proofs.Common.{◌≡◌, ℕ, zero, suc, ◌+◌, ◌<◌, ◌==◌, ◌&&◌, ◌||◌, nat_eq, nat_lt, ◌≤◌, inl, inr, Bool, true, false, not, List, [], ◌∷◌, ◌++◌, map, length, take, get_or, Option, Some, bytes_eq, refl, sym, ap, ◌∙◌, subst, true≢false, add-one, arith, if◌then◌else◌, list_any, AllByRecursion, IsDistinct, none-some, same_Some, get_or_from_slice_get, slice_get_within, eqb-true, eq-eqb, cases_order, lt-ltb, le-ltb, list_any-append, length-map, map-append, fold-append, or-false, bytes_eq-Decides, Word, Form, block, optional, type_name, type_alias, alias_actual, type_attribute, attribute_set, common, class, class_common, class_order, class_permission, class_permission_set, rule, anonymous, by_name, itself, the_named, Placed, kind_of, permissions_in, has_name, with_name, distinct, texts, own_permissions, read, NumberedWord, word_at, bytes_eq-true, distinct-place, is_listed, HaveListed, HaveWords, lists_own, IsOneName, Listed, AreNumbersOf, take-next}
 use Rattle.std.proofs.Common.{slice_get}
 use Rattle.indexmap.specs.IndexSet.{insert_key}
 use Rattle.cil_check.specs.contracts.permissions.ListedPartialEq.TheImpl as listed_eq
@@ -147,8 +147,12 @@ own-listed (common id permissions) is = refl
 own-listed (class id permissions) is = refl
 own-listed (class_common the_class the_common) is = cc
 own-listed (class_order the_classes) is = cc
-own-listed (rule kind source itself the_class permissions) is = cc
-own-listed (rule kind source (the_named word) the_class permissions) is = cc
+own-listed (class_permission id) is = cc
+own-listed (class_permission_set set the_class permissions) is = cc
+own-listed (rule kind source itself (anonymous the_class permissions)) is = cc
+own-listed (rule kind source itself (by_name set)) is = cc
+own-listed (rule kind source (the_named word) (anonymous the_class permissions)) is = cc
+own-listed (rule kind source (the_named word) (by_name set)) is = cc
 
 pub none-listed : (form : Form) → lists_own (kind_of form) ≡ false → own_permissions form ≡ []
 none-listed (block id) is = refl
@@ -162,8 +166,9 @@ none-listed (common id permissions) is = cc
 none-listed (class id permissions) is = cc
 none-listed (class_common the_class the_common) is = refl
 none-listed (class_order the_classes) is = refl
-none-listed (rule kind source itself the_class permissions) is = refl
-none-listed (rule kind source (the_named word) the_class permissions) is = refl
+none-listed (class_permission id) is = refl
+none-listed (class_permission_set set the_class permissions) is = refl
+none-listed (rule kind source target permissions) is = refl
 
 -- of the statements in front of a place, each lists the permissions that the keys have
 abbrev pub HaveListedBelow : List (List ℕ) → List Placed → ℕ → List Listed → Type 0

@@ -1,5 +1,5 @@
 -- What is seen of the statements of a bound policy.
-use Rattle.cil_check.proofs.Common.{◌≡◌, ℕ, zero, suc, ◌<◌, List, [], ◌∷◌, length, map, get_or, Option, Some, None, refl, sym, ap, ◌∙◌, subst, arith, length-map, none-some, same_Some, slice_get-get_or, slice_get_within, get_or_from_slice_get, Word, Form, block, optional, type_name, type_alias, alias_actual, type_attribute, attribute_set, common, class, class_common, class_order, rule, itself, the_named, Placed, Table, leads, references, read, Statements, AreNumbersOf, kind_of, words_in, texts_of, Spells, NumberedWord, IsLead, IsOf, IsSeen, Reads, test_of, is_kind, Seen}
+use Rattle.cil_check.proofs.Common.{◌≡◌, ℕ, zero, suc, ◌<◌, List, [], ◌∷◌, length, map, get_or, Option, Some, None, refl, sym, ap, ◌∙◌, subst, arith, length-map, none-some, same_Some, slice_get-get_or, slice_get_within, get_or_from_slice_get, Word, Form, block, optional, type_name, type_alias, alias_actual, type_attribute, attribute_set, common, class, class_common, class_order, class_permission, class_permission_set, rule, anonymous, by_name, itself, the_named, Placed, Table, leads, references, read, Statements, AreNumbersOf, kind_of, words_in, texts_of, Spells, NumberedWord, IsLead, IsOf, IsSeen, Reads, test_of, is_kind, Seen}
 use Rattle.std.proofs.Common.{slice_get}
 use Rattle.std.specs.Borrow.{Bor}
 use Rattle.cil_parse.specs.Flat.{FlatStatement, flat}
@@ -86,8 +86,12 @@ kind-form «Type» (common id permissions) = refl
 kind-form «Type» (class id permissions) = refl
 kind-form «Type» (class_common the_class the_common) = refl
 kind-form «Type» (class_order the_classes) = refl
-kind-form «Type» (rule kind source itself the_class permissions) = refl
-kind-form «Type» (rule kind source (the_named word) the_class permissions) = refl
+kind-form «Type» (class_permission id) = refl
+kind-form «Type» (class_permission_set set the_class permissions) = refl
+kind-form «Type» (rule kind source itself (anonymous the_class permissions)) = refl
+kind-form «Type» (rule kind source itself (by_name set)) = refl
+kind-form «Type» (rule kind source (the_named word) (anonymous the_class permissions)) = refl
+kind-form «Type» (rule kind source (the_named word) (by_name set)) = refl
 kind-form Alias (block id) = refl
 kind-form Alias (optional id) = refl
 kind-form Alias (type_name id) = refl
@@ -99,8 +103,12 @@ kind-form Alias (common id permissions) = refl
 kind-form Alias (class id permissions) = refl
 kind-form Alias (class_common the_class the_common) = refl
 kind-form Alias (class_order the_classes) = refl
-kind-form Alias (rule kind source itself the_class permissions) = refl
-kind-form Alias (rule kind source (the_named word) the_class permissions) = refl
+kind-form Alias (class_permission id) = refl
+kind-form Alias (class_permission_set set the_class permissions) = refl
+kind-form Alias (rule kind source itself (anonymous the_class permissions)) = refl
+kind-form Alias (rule kind source itself (by_name set)) = refl
+kind-form Alias (rule kind source (the_named word) (anonymous the_class permissions)) = refl
+kind-form Alias (rule kind source (the_named word) (by_name set)) = refl
 kind-form Attribute (block id) = refl
 kind-form Attribute (optional id) = refl
 kind-form Attribute (type_name id) = refl
@@ -112,8 +120,12 @@ kind-form Attribute (common id permissions) = refl
 kind-form Attribute (class id permissions) = refl
 kind-form Attribute (class_common the_class the_common) = refl
 kind-form Attribute (class_order the_classes) = refl
-kind-form Attribute (rule kind source itself the_class permissions) = refl
-kind-form Attribute (rule kind source (the_named word) the_class permissions) = refl
+kind-form Attribute (class_permission id) = refl
+kind-form Attribute (class_permission_set set the_class permissions) = refl
+kind-form Attribute (rule kind source itself (anonymous the_class permissions)) = refl
+kind-form Attribute (rule kind source itself (by_name set)) = refl
+kind-form Attribute (rule kind source (the_named word) (anonymous the_class permissions)) = refl
+kind-form Attribute (rule kind source (the_named word) (by_name set)) = refl
 
 -- the statement at a place
 pub there-at : (policy : List Placed) (i : ℕ) → i < length policy → (s : Placed) × (slice_get policy i ≡ Some s)

@@ -1,5 +1,5 @@
 -- Statements whose references are bound, and not to aliases without an actual type.
-use Rattle.cil_check.proofs.Common.{◌≡◌, ℕ, length, not, ◌&&◌, ◌||◌, Bool, true, false, List, [], ◌∷◌, ◌++◌, map, filter, cond, Option, Some, None, is_some, refl, sym, ap, ◌∙◌, subst, true≢false, append-nil, list_all, option_and_then, option_map, slice_get-map, same_Some, first_true, second_true, AllByRecursion, Word, Form, attribute_set, rule, itself, the_named, leaves, Placed, Table, types, classes, leads, references, is_alias, is_unfound, is_unset, element_words, kind_of, IsLead, HasFirsts, Actual, is_rule, rule_class, class_lead, first_at}
+use Rattle.cil_check.proofs.Common.{◌≡◌, ℕ, length, not, ◌&&◌, ◌||◌, Bool, true, false, List, [], ◌∷◌, ◌++◌, map, filter, cond, Option, Some, None, is_some, refl, sym, ap, ◌∙◌, subst, true≢false, append-nil, list_all, option_and_then, option_map, slice_get-map, same_Some, first_true, second_true, AllByRecursion, Word, Form, attribute_set, class_permission_set, rule, anonymous, by_name, itself, the_named, leaves, Placed, Table, types, classes, leads, references, permission_reference, is_alias, is_unfound, is_unset, element_words, kind_of, IsLead, HasFirsts, Actual, names_permissions, named_class, class_lead, first_at}
 use Rattle.std.proofs.Common.{◌-◌, slice_get}
 use Rattle.cil_specs.specs.Statements.{target_words}
 use Rattle.cil_parse.specs.declared.row.StatementKind.{StatementKind}
@@ -59,30 +59,37 @@ none-unset policy namespace (w ∷ words) more all =
     ap (λ b. cond b (w ∷ filter (is_unset policy namespace) words) (filter (is_unset policy namespace) words)) (all.0.actual refl) ∙ none-unset policy namespace words more all.1
 
 pub none-unset-of : (policy : List Placed) (namespace : List (List ℕ)) (form : Form) → AllByRecursion (IsSound policy namespace) (references form) → filter (is_unset policy namespace) (element_words form) ≡ []
-none-unset-of policy namespace (rule kind source target the_class permissions) all = none-unset policy namespace (source ∷ target_words target) ((classes, the_class) ∷ []) all
+none-unset-of policy namespace (rule kind source target permissions) all = none-unset policy namespace (source ∷ target_words target) (permission_reference permissions ∷ []) all
 none-unset-of policy namespace (attribute_set attribute expr) all =
     none-unset policy namespace (leaves expr) [] (subst (AllByRecursion (IsSound policy namespace)) (sym (append-nil (map (λ w. (types, w)) (leaves expr)))) all.1)
 none-unset-of policy namespace _ all = refl
 
--- the last reference of a rule is its class
-pub class-last : (policy : List Placed) (s : Placed) (bound : List (Option ℕ)) (place : ℕ) → is_rule (kind_of s.form) ≡ true → AreLeads policy s.namespace (references s.form) bound → slice_get bound (length bound - 1) ≡ Some (Some place)
+-- the last reference of a statement that names permissions of a class is that class
+pub class-last : (policy : List Placed) (s : Placed) (bound : List (Option ℕ)) (place : ℕ) → names_permissions (kind_of s.form) ≡ true → AreLeads policy s.namespace (references s.form) bound → slice_get bound (length bound - 1) ≡ Some (Some place)
     → IsLead classes policy (Some place) (class_lead policy s)
 class-last policy s bound place is are at = by s.form is bound are at
   where
     lead : Form → Option Placed
-    lead form = option_and_then (λ w. leads policy classes s.namespace w.text) (rule_class form)
+    lead form = option_and_then (λ w. leads policy classes s.namespace w.text) (named_class form)
 
     at-last : (form : Form) (found : Option ℕ) → Some found ≡ Some (Some place) → IsLead classes policy found (lead form) → IsLead classes policy (Some place) (lead form)
     at-last form found same = subst (λ o. IsLead classes policy o (lead form)) (same_Some found (Some place) same)
 
-    by : (form : Form) → is_rule (kind_of form) ≡ true → (bound : List (Option ℕ)) → AreLeads policy s.namespace (references form) bound → slice_get bound (length bound - 1) ≡ Some (Some place) → IsLead classes policy (Some place) (lead form)
-    by (rule kind source itself the_class permissions) is (a ∷ b ∷ []) are at = at-last (rule kind source itself the_class permissions) b at are.1.0
-    by (rule kind source itself the_class permissions) is [] are at = absurd are
-    by (rule kind source itself the_class permissions) is (a ∷ []) are at = absurd are.1
-    by (rule kind source itself the_class permissions) is (a ∷ b ∷ c ∷ more) are at = absurd are.1.1
-    by (rule kind source (the_named word) the_class permissions) is (a ∷ b ∷ c ∷ []) are at = at-last (rule kind source (the_named word) the_class permissions) c at are.1.1.0
-    by (rule kind source (the_named word) the_class permissions) is [] are at = absurd are
-    by (rule kind source (the_named word) the_class permissions) is (a ∷ []) are at = absurd are.1
-    by (rule kind source (the_named word) the_class permissions) is (a ∷ b ∷ []) are at = absurd are.1.1
-    by (rule kind source (the_named word) the_class permissions) is (a ∷ b ∷ c ∷ d ∷ more) are at = absurd are.1.1.1
+    by : (form : Form) → names_permissions (kind_of form) ≡ true → (bound : List (Option ℕ)) → AreLeads policy s.namespace (references form) bound → slice_get bound (length bound - 1) ≡ Some (Some place) → IsLead classes policy (Some place) (lead form)
+    by (class_permission_set set the_class permissions) is (a ∷ b ∷ []) are at = at-last (class_permission_set set the_class permissions) b at are.1.0
+    by (class_permission_set set the_class permissions) is [] are at = absurd are
+    by (class_permission_set set the_class permissions) is (a ∷ []) are at = absurd are.1
+    by (class_permission_set set the_class permissions) is (a ∷ b ∷ c ∷ more) are at = absurd are.1.1
+    by (rule kind source itself (anonymous the_class permissions)) is (a ∷ b ∷ []) are at = at-last (rule kind source itself (anonymous the_class permissions)) b at are.1.0
+    by (rule kind source itself (anonymous the_class permissions)) is [] are at = absurd are
+    by (rule kind source itself (anonymous the_class permissions)) is (a ∷ []) are at = absurd are.1
+    by (rule kind source itself (anonymous the_class permissions)) is (a ∷ b ∷ c ∷ more) are at = absurd are.1.1
+    by (rule kind source (the_named word) (anonymous the_class permissions)) is (a ∷ b ∷ c ∷ []) are at =
+        at-last (rule kind source (the_named word) (anonymous the_class permissions)) c at are.1.1.0
+    by (rule kind source (the_named word) (anonymous the_class permissions)) is [] are at = absurd are
+    by (rule kind source (the_named word) (anonymous the_class permissions)) is (a ∷ []) are at = absurd are.1
+    by (rule kind source (the_named word) (anonymous the_class permissions)) is (a ∷ b ∷ []) are at = absurd are.1.1
+    by (rule kind source (the_named word) (anonymous the_class permissions)) is (a ∷ b ∷ c ∷ d ∷ more) are at = absurd are.1.1.1
+    by (rule kind source itself (by_name set)) is bound are at = absurd (true≢false (sym is))
+    by (rule kind source (the_named word) (by_name set)) is bound are at = absurd (true≢false (sym is))
     by _ is bound are at = absurd (true≢false (sym is))

@@ -1,5 +1,5 @@
 -- Classes of too many permissions.
-use Rattle.cil_check.proofs.Common.{◌≡◌, ℕ, ◌+◌, ◌<◌, ◌≤◌, nat_lt, Bool, true, false, List, [], ◌∷◌, ◌++◌, length, take, filter, fold, map, cond, Some, bytes_eq, get_or, refl, sym, ap, ◌∙◌, append-nil, add-one, option_to_list, IsDistinct, slice_get-get_or, take_all, fold-append, flat_map-append, Word, Form, block, optional, type_name, type_alias, alias_actual, type_attribute, attribute_set, common, class, class_common, class_order, rule, itself, the_named, Placed, classes, declared_in, texts, distinct, with_name, listed_by, own_permissions, has_too_many, too_many_words, kind_of, AreNumbersOf, IsFirstOf, with_number, list_at, names_listed, HasInherited, word_if, HaveWords, take-next}
+use Rattle.cil_check.proofs.Common.{◌≡◌, ℕ, ◌+◌, ◌<◌, ◌≤◌, nat_lt, Bool, true, false, List, [], ◌∷◌, ◌++◌, length, take, filter, fold, map, cond, Some, bytes_eq, get_or, refl, sym, ap, ◌∙◌, append-nil, add-one, option_to_list, IsDistinct, slice_get-get_or, take_all, fold-append, flat_map-append, Word, Form, block, optional, type_name, type_alias, alias_actual, type_attribute, attribute_set, common, class, class_common, class_order, class_permission, class_permission_set, rule, anonymous, by_name, itself, the_named, Placed, classes, declared_in, texts, distinct, with_name, listed_by, own_permissions, has_too_many, too_many_words, kind_of, AreNumbersOf, IsFirstOf, with_number, list_at, names_listed, HasInherited, word_if, HaveWords, take-next}
 use Rattle.std.proofs.Common.{slice_get}
 use Rattle.cil_parse.specs.declared.row.StatementKind.TheVariants as kinds
 use Rattle.cil_check.proofs.PositionLemmas.{all-at}
@@ -71,8 +71,12 @@ form-class (common id permissions) is = cc
 form-class (class id permissions) is = (id, permissions, refl)
 form-class (class_common the_class the_common) is = cc
 form-class (class_order the_classes) is = cc
-form-class (rule kind source itself the_class permissions) is = cc
-form-class (rule kind source (the_named word) the_class permissions) is = cc
+form-class (class_permission id) is = cc
+form-class (class_permission_set set the_class permissions) is = cc
+form-class (rule kind source itself (anonymous the_class permissions)) is = cc
+form-class (rule kind source itself (by_name set)) is = cc
+form-class (rule kind source (the_named word) (anonymous the_class permissions)) is = cc
+form-class (rule kind source (the_named word) (by_name set)) is = cc
 
 pub too-many-class : (policy : List Placed) (s : Placed) (id : Word) (permissions : List Word) → s.form ≡ class id permissions → slice_get (too_many_words policy s) 0 ≡ word_if (has_too_many policy s) id
 too-many-class policy s id permissions is =

@@ -1,5 +1,5 @@
 -- Words with faults, one by one.
-use Rattle.cil_check.proofs.Common.{◌≡◌, ℕ, ◌<◌, zero, suc, arith, Bool, true, false, not, ◌&&◌, ◌||◌, List, [], ◌∷◌, ◌++◌, length, take, drop, filter, map, fold, Contains, ◌+◌, cond, Option, Some, None, is_some, position, bytes_eq, refl, sym, ap, ◌∙◌, subst, true≢false, if◌then◌else◌, option_or, option_and_then, option_to_list, find, list_any, none-some, same_Some, list_any-append, or-false, bytes_eq-Decides, Word, Form, block, optional, type_name, type_alias, alias_actual, type_attribute, attribute_set, common, class, class_common, class_order, rule, is_optional, Placed, Table, declares, types, classes, declared_in, is_same, is_word, same_namespace, word_text, holds_of, leads, has_name, with_name, distinct, gives_actual, actual_statement, is_alias, PolicyFault, twice, tables, is_again, twice_words, IsFaultOf, has_earlier_actual, has_earlier_common, is_unset, is_class, both_true, contains-first, IsFirstOf, IsLead, first_at, association_table, given_word, given_lead, gives, HasFirsts, word_if, again_words, Association, bytes_eq-true, around-at, at_if, any-position, is_before, any-before}
+use Rattle.cil_check.proofs.Common.{◌≡◌, ℕ, ◌<◌, zero, suc, arith, Bool, true, false, not, ◌&&◌, ◌||◌, List, [], ◌∷◌, ◌++◌, length, take, drop, filter, map, fold, Contains, ◌+◌, cond, Option, Some, None, is_some, position, bytes_eq, refl, sym, ap, ◌∙◌, subst, true≢false, if◌then◌else◌, option_or, option_and_then, option_to_list, find, list_any, none-some, same_Some, list_any-append, or-false, bytes_eq-Decides, Word, Form, block, optional, type_name, type_alias, alias_actual, type_attribute, attribute_set, common, class, class_common, class_order, class_permission, class_permission_set, rule, is_optional, Placed, Table, declares, types, classes, declared_in, is_same, is_word, same_namespace, word_text, holds_of, leads, has_name, with_name, distinct, gives_actual, actual_statement, is_alias, PolicyFault, twice, tables, is_again, twice_words, IsFaultOf, has_earlier_actual, has_earlier_common, is_unset, is_class, both_true, contains-first, IsFirstOf, IsLead, first_at, association_table, given_word, given_lead, gives, HasFirsts, word_if, again_words, Association, bytes_eq-true, around-at, at_if, any-position, is_before, any-before}
 use Rattle.std.proofs.Common.{flat_map, option_map, slice_get}
 use Rattle.cil_check.specs.declared.firsts.Association.TheVariants as association
 use Rattle.cil_check.proofs.PositionLemmas.{position-next, position-more, any-same, find-position}
@@ -71,7 +71,7 @@ find-same p q same (x ∷ xs) = ap (λ b. cond b (Some x) (find p xs)) (same x) 
 abbrev pub again_if : Association → List Placed → List Placed → Placed → Word → Option Word
 again_if g policy before t w = word_if (holds_of (λ s. list_any (gives g policy s) before) (leads policy (association_table g) t.namespace w.text)) w
 
-filter-one : (p : Word → Bool) (w : Word) → slice_get (filter p (w ∷ [])) 0 ≡ word_if (p w) w
+pub filter-one : (p : Word → Bool) (w : Word) → slice_get (filter p (w ∷ [])) 0 ≡ word_if (p w) w
 filter-one p w = by (p w)
   where
     by : (b : Bool) → slice_get (cond b (w ∷ []) []) 0 ≡ word_if b w
@@ -95,7 +95,9 @@ again-word g policy before t = by g t.form
     by association.Actual (class id permissions) = refl
     by association.Actual (class_common the_class the_common) = refl
     by association.Actual (class_order the_classes) = refl
-    by association.Actual (rule kind source target the_class permissions) = refl
+    by association.Actual (class_permission id) = refl
+    by association.Actual (class_permission_set set the_class permissions) = refl
+    by association.Actual (rule kind source target permissions) = refl
     by association.Common (block id) = refl
     by association.Common (optional id) = refl
     by association.Common (type_name id) = refl
@@ -108,7 +110,9 @@ again-word g policy before t = by g t.form
     by association.Common (class_common the_class the_common) =
         filter-one (has_earlier_common policy before t.namespace) the_class
     by association.Common (class_order the_classes) = refl
-    by association.Common (rule kind source target the_class permissions) = refl
+    by association.Common (class_permission id) = refl
+    by association.Common (class_permission_set set the_class permissions) = refl
+    by association.Common (rule kind source target permissions) = refl
 
 -- the noted place tells whether an earlier statement gives something
 pub again-noted : (g : Association) (policy : List Placed) (place : ℕ) (t : Placed) (word : Word) (firsts : List (ℕ × ℕ)) (found : Option ℕ) → HasFirsts g policy firsts → Some word ≡ given_word g t.form
@@ -222,4 +226,6 @@ once-first policy i s once is its t at = ap (λ u. position (is_same classes u) 
     by (common id permissions) e c = absurd (true≢false (sym c))
     by (class_common the_class the_common) e c = absurd (true≢false (sym c))
     by (class_order the_classes) e c = absurd (true≢false (sym c))
-    by (rule kind source target the_class permissions) e c = absurd (true≢false (sym c))
+    by (class_permission id) e c = absurd (true≢false (sym c))
+    by (class_permission_set set the_class permissions) e c = absurd (true≢false (sym c))
+    by (rule kind source target permissions) e c = absurd (true≢false (sym c))

@@ -29,10 +29,18 @@ is_kind Alias statements.TypeAlias = true
 is_kind Attribute statements.TypeAttribute = true
 is_kind _ _ = false
 
-abbrev pub is_rule : StatementKind → Bool
-is_rule (statements.Rule kind) = true
-is_rule (statements.RuleToSelf kind) = true
-is_rule _ = false
+-- whether statements of a kind name permissions of a class, which is the last of their references
+abbrev pub names_permissions : StatementKind → Bool
+names_permissions statements.ClassPermissionSet = true
+names_permissions (statements.Rule kind) = true
+names_permissions (statements.RuleToSelf kind) = true
+names_permissions _ = false
+
+-- whether statements of a kind are rules that name a permission set
+abbrev pub is_rule_of_set : StatementKind → Bool
+is_rule_of_set (statements.RuleOfSet kind) = true
+is_rule_of_set (statements.RuleToSelfOfSet kind) = true
+is_rule_of_set _ = false
 
 -- whether statements of a kind have no reference and give nothing, and are no classes
 abbrev pub is_plain : StatementKind → Bool
@@ -42,6 +50,7 @@ is_plain statements.TypeName = true
 is_plain statements.TypeAlias = true
 is_plain statements.TypeAttribute = true
 is_plain statements.Common = true
+is_plain statements.ClassPermission = true
 is_plain _ = false
 
 -- the words to which a statement gives something again

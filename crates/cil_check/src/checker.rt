@@ -183,11 +183,11 @@ impl<'p, 'm, A: Allocator> Checker<'p, 'm, A> {
         ensures { (policy : List Placed) (s : Placed) → IsNoted self.now policy → IsSeen seen.now policy s → Reads seen.now result (slice_get (alias_unset_words policy s) 0) }
     {
         match seen.view.kind {
-            StatementKind::Rule(_) => {
+            StatementKind::Rule(_) | StatementKind::RuleOfSet(_) => {
                 let first = self.unset(seen, 0);
                 first.or(self.unset(seen, 1))
             }
-            StatementKind::RuleToSelf(_) => self.unset(seen, 0),
+            StatementKind::RuleToSelf(_) | StatementKind::RuleToSelfOfSet(_) => self.unset(seen, 0),
             StatementKind::TypeAttributeSet => self.unset_leaf(seen),
             _ => None,
         }

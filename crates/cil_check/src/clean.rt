@@ -5,7 +5,7 @@ ghost use Rattle.std.specs.List.{list_all};
 ghost use Rattle.cil_check.specs.Common.{Placed, AreNumbersOf, classes, has_name, kind_of, names_of, permissions_of, word_at, IsFirstOf, IsLead, IsSeen, IsNoted, class_lead, lacking_words, HasNoneBelow, IsCleanAt};
 ghost use Rattle.cil_check.specs.Clean.{is_sound as is_sound_lead};
 ghost use Rattle.cil_check.specs.Recent.{IsKnown};
-ghost use Rattle.cil_check.specs.Kinds.{is_rule as is_rule_kind, is_plain as is_plain_kind};
+ghost use Rattle.cil_check.specs.Kinds.{names_permissions as is_naming_kind, is_rule_of_set as is_rule_of_set_kind, is_plain as is_plain_kind};
 ghost use Rattle.cil_parse.specs.declared.row.StatementKind.TheVariants.{TypeAttributeSet};
 
 use crate::bound::Seen;
@@ -16,11 +16,24 @@ use cil_bind::PermissionList;
 use cil_parse::StatementKind;
 use std::alloc::Allocator;
 
-/// Whether statements of a kind are rules.
-fn is_rule(kind: StatementKind) -> bool
-    ensures { result ≡ is_rule_kind kind }
+/// Whether statements of a kind name permissions of a class, which is the last of their references.
+fn names_permissions(kind: StatementKind) -> bool
+    ensures { result ≡ is_naming_kind kind }
 {
-    matches!(kind, StatementKind::Rule(_) | StatementKind::RuleToSelf(_))
+    matches!(
+        kind,
+        StatementKind::Rule(_) | StatementKind::RuleToSelf(_) | StatementKind::ClassPermissionSet
+    )
+}
+
+/// Whether statements of a kind are rules that name a permission set.
+fn is_rule_of_set(kind: StatementKind) -> bool
+    ensures { result ≡ is_rule_of_set_kind kind }
+{
+    matches!(
+        kind,
+        StatementKind::RuleOfSet(_) | StatementKind::RuleToSelfOfSet(_)
+    )
 }
 
 /// Whether statements of a kind can't have a fault of those that are seen at one statement.
@@ -35,6 +48,7 @@ fn is_plain(kind: StatementKind) -> bool
             | StatementKind::TypeAlias
             | StatementKind::TypeAttribute
             | StatementKind::Common
+            | StatementKind::ClassPermission
     )
 }
 
@@ -117,7 +131,7 @@ impl<'p, 'm, A: Allocator + Copy> Checker<'p, 'm, A> {
         true
     }
 
-    /// Whether the class of a rule has all permissions that the rule names.
+    /// Whether a class has all permissions that a statement names of it.
     fn has_named(&self, class: u32, seen: &Seen<'p, 'm, A>, known: &mut Known<A>) -> bool
         requires { (policy : List Placed) × (s : Placed) × IsNoted self.now policy
             × IsSeen seen.now policy s }
@@ -142,8 +156,8 @@ impl<'p, 'm, A: Allocator + Copy> Checker<'p, 'm, A> {
         true
     }
 
-    /// Whether the class of a rule lacks none of the permissions that the rule names. Those of a
-    /// list that the class is known to have are not gone over.
+    /// Whether a class lacks none of the permissions that the statement of a place names of it.
+    /// Those of a list that the class is known to have are not gone over.
     fn has_listed(&self, alloc: A, place: usize, class: u32, known: &mut Known<A>) -> bool
         requires { (policy : List Placed) × (s : Placed) × IsNoted self.now policy
             × (slice_get policy place ≡ Some s)
@@ -169,17 +183,17 @@ impl<'p, 'm, A: Allocator + Copy> Checker<'p, 'm, A> {
         true
     }
 
-    /// Whether a rule has no missing word and no alias without an actual type. Other faults a rule
-    /// can't have.
-    fn is_clean_rule(&self, alloc: A, place: usize, known: &mut Known<A>) -> bool
+    /// Whether a statement that names permissions of a class has no missing word and no alias
+    /// without an actual type. Other faults it can't have.
+    fn is_clean_naming(&self, alloc: A, place: usize, known: &mut Known<A>) -> bool
         requires { (policy : List Placed) × (s : Placed) × IsNoted self.now policy
-            × (slice_get policy place ≡ Some s) × (is_rule_kind (kind_of s.form) ≡ true) }
+            × (slice_get policy place ≡ Some s) × (is_naming_kind (kind_of s.form) ≡ true) }
         ensures clean { IsTrue result → (policy : List Placed) (s : Placed)
             → IsNoted self.now policy → slice_get policy place ≡ Some s
-            → is_rule_kind (kind_of s.form) ≡ true → IsKnown self.now policy known.old
+            → is_naming_kind (kind_of s.form) ≡ true → IsKnown self.now policy known.old
             → IsCleanAt policy place s }
         ensures known { (policy : List Placed) (s : Placed) → IsNoted self.now policy
-            → slice_get policy place ≡ Some s → is_rule_kind (kind_of s.form) ≡ true
+            → slice_get policy place ≡ Some s → is_naming_kind (kind_of s.form) ≡ true
             → IsKnown self.now policy known.old → IsKnown self.now policy known.new }
     {
         let bound = self.bound.policy.bound.get(place);
@@ -190,6 +204,17 @@ impl<'p, 'm, A: Allocator + Copy> Checker<'p, 'm, A> {
             return false;
         }
         self.has_listed(alloc, place, *class, known)
+    }
+
+    /// Whether a rule of a permission set has all its references bound, to no alias without an
+    /// actual type. It names no permissions, and other faults it can't have.
+    fn is_clean_rule_of_set(&self, place: usize) -> bool
+        requires { (policy : List Placed) × IsNoted self.now policy × (place < length policy) }
+        ensures { IsTrue result → (policy : List Placed) (s : Placed) → IsNoted self.now policy
+            → slice_get policy place ≡ Some s → is_rule_of_set_kind (kind_of s.form) ≡ true
+            → IsCleanAt policy place s }
+    {
+        self.are_sound(self.bound.policy.bound.get(place))
     }
 
     /// Whether the statement of a place has no fault of the kinds that are seen at one statement.
@@ -207,8 +232,11 @@ impl<'p, 'm, A: Allocator + Copy> Checker<'p, 'm, A> {
         if is_plain(kind) {
             return true;
         }
-        if is_rule(kind) {
-            return self.is_clean_rule(alloc, place, known);
+        if names_permissions(kind) {
+            return self.is_clean_naming(alloc, place, known);
+        }
+        if is_rule_of_set(kind) {
+            return self.is_clean_rule_of_set(place);
         }
         if let StatementKind::TypeAttributeSet = kind {
             return self.is_clean_set(place);

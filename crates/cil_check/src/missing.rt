@@ -8,13 +8,13 @@ use crate::checker::Checker;
 use cil_parse::{NumberedWord, StatementKind};
 use std::alloc::Allocator;
 
-/// The place that the class of a rule leads to.
+/// The place that the class of the permissions that a statement names leads to.
 pub fn class_lead<A: Allocator>(seen: &Seen<'_, '_, A>) -> Option<u32>
     ensures { (policy : List Placed) (s : Placed) → IsSeen seen.now policy s → IsLead classes policy result (class_lead policy s) }
 {
     match seen.view.kind {
         StatementKind::Rule(_) => seen.lead(2),
-        StatementKind::RuleToSelf(_) => seen.lead(1),
+        StatementKind::RuleToSelf(_) | StatementKind::ClassPermissionSet => seen.lead(1),
         _ => None,
     }
 }
@@ -67,7 +67,7 @@ impl<'p, 'm, A: Allocator> Checker<'p, 'm, A> {
         false
     }
 
-    /// The first permission of a rule that its class lacks.
+    /// The first permission that a statement names and its class lacks.
     pub(crate) fn lacking(&self, seen: &Seen<'p, 'm, A>) -> Option<NumberedWord>
         requires { (policy : List Placed) × (s : Placed) × IsNoted self.now policy × IsSeen seen.now policy s }
         ensures { (policy : List Placed) (s : Placed) → IsNoted self.now policy → IsSeen seen.now policy s → AreNumbersOf self.now.bound.policy.now.names seen.now.words.now (names_of seen.now.«module».now)

@@ -1,4 +1,4 @@
-//! The commons by which classes that are given several have the permissions that rules name.
+//! The commons by which classes that are given several have the permissions that statements name.
 
 ghost use Rattle.std.specs.Prelude.{◌≡◌, List, length};
 ghost use Rattle.cil_check.specs.Common.{Placed, IsOf, IsSeen};
@@ -11,8 +11,8 @@ use indexmap::IndexMap;
 use std::alloc::{AllocError, Allocator, Global};
 use std::hash::{BuildHasherDefault, FoldHasher};
 
-/// For the permissions that rules name of classes with several commons: at which index among these one stands that lists the permission, if
-/// one does. Each is looked for once, so that many rules don't go over many commons each. These are hints, by which no answer changes:
+/// For the permissions that statements name of classes with several commons: at which index among these one stands that lists the
+/// permission, if one does. Each is looked for once, so that many statements don't go over many commons each. These are hints, by which no answer changes:
 /// who follows one looks at the common there.
 #[derive(Drop)]
 pub struct Witnesses<A: Allocator = Global> {
@@ -111,7 +111,7 @@ impl<A: Allocator + Copy> Witnesses<A> {
         }
     }
 
-    /// The witnesses for all permissions that the rules of a policy name.
+    /// The witnesses for all permissions that the statements of a policy name.
     pub fn of(
         alloc: A,
         bound: &BoundPolicy<'_, '_, A>,

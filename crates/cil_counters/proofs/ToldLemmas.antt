@@ -1,15 +1,14 @@
 -- What the counters of a policy tell by full names.
 use Rattle.cil_counters.proofs.Common.{◌≡◌, ℕ, ◌+◌, ◌<◌, ◌==◌, ◌&&◌, ◌||◌, Bool, true, false, List, [], ◌∷◌, length, map, cond, count_by, bytes_eq, nat_lt, slice_index_or, Option, None, Some, position, refl, sym, ap, ◌∙◌, inl, inr, true≢false, zero-add, list_all, list_any, cases_Bool, lt-ltb, ltb-true, list_any_at, sum_by-cons, get_or_from_slice_get, slice_get_within, bytes_eq-Decides, AreTheSame, has_name, aims, count_of, keeps_type, is_member, keeps_attribute, HasSoundSets, kind_index, at_itself, at_element, rule_kind_of, RuleKind, SymbolKey, is_rule_below, meaning_in, name_in, sets_in, Resolved, found-name, symbol-of, atom_of, is_named, name_at, and-first, and-second, atom_with, count_at, has_at, IsCounted}
 use Rattle.std.proofs.Math.Bool.{and-false}
-use Rattle.cil_specs.specs.Expr.{holds_by}
-use Rattle.cil_specs.specs.Meaning.{gives, has_permission, holds}
+use Rattle.cil_specs.specs.Expr.{Expr, holds_by}
+use Rattle.cil_specs.specs.Meaning.{class_permits, gives, has_permission, holds, permissions_permit, permits, Meaning}
 use Rattle.cil_specs.specs.Rule as spec
 use Rattle.cil_resolve.specs.Below.{is_class_below}
 use Rattle.cil_resolve.specs.Numbers.{class_of, rule_of}
 use Rattle.cil_resolve.specs.declared.numbered.NumberedClass.{NumberedClass}
 use Rattle.cil_resolve.specs.declared.numbered.NumberedRule.{NumberedRule}
 use Rattle.cil_member_updates.proofs.PlaceLemmas.{member-kept}
-use Rattle.cil_rule_reach.proofs.NamedLemmas.{is-below}
 use Rattle.cil_counters.proofs.CountedLemmas.{members-counted}
 use Rattle.cil_counters.proofs.SymbolRankLemmas.{stands-nowhere}
 
@@ -19,12 +18,28 @@ left-false a b none = ap (λ x. x && b) none
 right-false : (a b : Bool) → b ≡ false → (a && b) ≡ false
 right-false a b none = ap (λ x. a && x) none ∙ and-false a
 
-class-false : (kind source target class permission : Bool) → class ≡ false → (kind && (source && (target && (class && permission)))) ≡ false
-class-false kind source target class permission none = right-false kind (source && (target && (class && permission))) (right-false source (target && (class && permission)) (right-false target (class && permission) (left-false class permission none)))
+permits-false : (kind source target permits : Bool) → permits ≡ false → (kind && (source && (target && permits))) ≡ false
+permits-false kind source target permits none = right-false kind (source && (target && permits)) (right-false source (target && permits) (right-false target permits none))
 
-permission-false : (kind source target class had held : Bool) → had ≡ false → (kind && (source && (target && (class && (had && held))))) ≡ false
-permission-false kind source target class had held none =
-    right-false kind (source && (target && (class && (had && held)))) (right-false source (target && (class && (had && held))) (right-false target (class && (had && held)) (right-false class (had && held) (left-false had held none))))
+-- what no class has no permissions give
+none-permitted : (meaning : Meaning) (permissions : spec.ResolvedPermissions) (class permission : List ℕ) → has_permission meaning class permission ≡ false → permissions_permit meaning permissions class permission ≡ false
+none-permitted meaning permissions class permission none = by permissions
+  where
+    of-class : (the_class : List ℕ) (expr : Expr (List ℕ)) → class_permits meaning the_class expr class permission ≡ false
+    of-class the_class expr =
+        right-false (bytes_eq the_class class) (has_permission meaning class permission && holds_by (bytes_eq permission) expr)
+        (left-false (has_permission meaning class permission) (holds_by (bytes_eq permission) expr) none)
+
+    of-sets : (set : List ℕ) (statements : List spec.PermissionSetStatement) → list_any (λ s. bytes_eq set s.set && class_permits meaning s.the_class s.permissions class permission) statements ≡ false
+    of-sets set [] = refl
+    of-sets set (s ∷ statements) =
+        ap (λ b. b || list_any (λ z. bytes_eq set z.set && class_permits meaning z.the_class z.permissions class permission) statements)
+        (right-false (bytes_eq set s.set) (class_permits meaning s.the_class s.permissions class permission) (of-class s.the_class s.permissions))
+        ∙ of-sets set statements
+
+    by : (given : spec.ResolvedPermissions) → permissions_permit meaning given class permission ≡ false
+    by (spec.of_class the_class expr) = of-class the_class expr
+    by (spec.of_set set) = of-sets set meaning.permission_sets
 
 -- symbols within the names are those of names
 pub all-named : (names : List (List ℕ)) (key : SymbolKey) (t : ℕ) → key.source < length names → t < length names → key.class < length names → key.permission < length names → is_named names key t ≡ true
@@ -107,18 +122,30 @@ module _ {A : Type 0} (names : List (List ℕ)) (r : Resolved A) (members : ℕ 
             | inr other ↦ other
           ]
 
+      turned : (xs ys : List ℕ) → bytes_eq xs ys ≡ false → bytes_eq ys xs ≡ false
+      turned xs ys other =
+          elim (cases_Bool (bytes_eq ys xs)) [
+            | inl same ↦ absurd (true≢false (sym ((bytes_eq-Decides xs ys).1 (sym ((bytes_eq-Decides ys xs).0 same))) ∙ other))
+            | inr not ↦ not
+          ]
+
       none-listed : (name : List ℕ) (ps : List ℕ) → list_all (λ p. nat_lt p (length r.names.items)) ps ≡ true → IsMissing name → list_any (bytes_eq name) (map (λ p. slice_index_or r.names.items p []) ps) ≡ false
       none-listed name [] low missing = refl
       none-listed name (p ∷ ps) low missing =
           ap (λ b. b || list_any (bytes_eq name) (map (λ q. slice_index_or r.names.items q []) ps)) (turned (name_in r p) name (other-name p name (ltb-true p (length r.names.items) (and-first _ _ low)) missing))
           ∙ none-listed name ps (and-second _ _ low) missing
+
+      -- no class is missing
+      none-classed : (class permission : List ℕ) → IsMissing class → has_permission (meaning_in r) class permission ≡ false
+      none-classed class permission missing = by r.classes.items r.classes_within
         where
-          turned : (xs ys : List ℕ) → bytes_eq xs ys ≡ false → bytes_eq ys xs ≡ false
-          turned xs ys other =
-              elim (cases_Bool (bytes_eq ys xs)) [
-                | inl same ↦ absurd (true≢false (sym ((bytes_eq-Decides xs ys).1 (sym ((bytes_eq-Decides ys xs).0 same))) ∙ other))
-                | inr not ↦ not
-              ]
+          by : (classes : List (NumberedClass A)) → list_all (is_class_below (length r.names.items)) classes ≡ true
+              → list_any (λ d. bytes_eq class d.name && list_any (bytes_eq permission) d.permissions) (map (class_of r.modules.items r.names.items) classes) ≡ false
+          by [] low = refl
+          by (c ∷ classes) low =
+              ap (λ b. b || list_any (λ d. bytes_eq class d.name && list_any (bytes_eq permission) d.permissions) (map (class_of r.modules.items r.names.items) classes))
+              (left-false (bytes_eq class (name_in r c.name)) _ (turned (name_in r c.name) class (other-name c.name class (ltb-true c.name (length r.names.items) (and-first _ _ (and-first _ _ low))) missing)))
+              ∙ by classes (and-second _ _ low)
 
       -- no class has a missing permission
       none-had : (class permission : List ℕ) → IsMissing permission → has_permission (meaning_in r) class permission ≡ false
@@ -140,10 +167,10 @@ module _ {A : Type 0} (names : List (List ℕ)) (r : Resolved A) (members : ℕ 
           right-false _ _ (right-false _ _ (left-false _ _ (none-aimed i source target at_source at_target (rule_of r.modules.items r.names.items rule).target))))
       told-by kind source target class permission (Some i) (Some j) None t at_source at_target at_class at_permission = told-none (atom_with kind source target class permission) (λ rule low.
           let whole = rule_of r.modules.items r.names.items rule in
-          class-false (kind_index whole.kind == kind_index (rule_kind_of kind)) (holds (meaning_in r) whole.source source) (aims (meaning_in r) whole.target source target) (bytes_eq whole.the_class class) (has_permission (meaning_in r) class permission && holds_by (bytes_eq permission) whole.permissions) (other-name rule.class class (is-below r rule low).class at_class))
+          permits-false (kind_index whole.kind == kind_index (rule_kind_of kind)) (holds (meaning_in r) whole.source source) (aims (meaning_in r) whole.target source target) (permits (meaning_in r) whole class permission) (none-permitted (meaning_in r) whole.permissions class permission (none-classed class permission at_class)))
       told-by kind source target class permission (Some i) (Some j) (Some k) None at_source at_target at_class at_permission = told-none (atom_with kind source target class permission) (λ rule low.
           let whole = rule_of r.modules.items r.names.items rule in
-          permission-false (kind_index whole.kind == kind_index (rule_kind_of kind)) (holds (meaning_in r) whole.source source) (aims (meaning_in r) whole.target source target) (bytes_eq whole.the_class class) (has_permission (meaning_in r) class permission) (holds_by (bytes_eq permission) whole.permissions) (none-had class permission at_permission))
+          permits-false (kind_index whole.kind == kind_index (rule_kind_of kind)) (holds (meaning_in r) whole.source source) (aims (meaning_in r) whole.target source target) (permits (meaning_in r) whole class permission) (none-permitted (meaning_in r) whole.permissions class permission (none-had class permission at_permission)))
       told-by kind source target class permission (Some i) (Some j) (Some k) (Some l) at_source at_target at_class at_permission =
           is.are_counts (record { kind = kind; source = i; class = k; permission = l }) j
           ∙ ap (λ b. cond b (count_of (meaning_in r) (atom_of names (record { kind = kind; source = i; class = k; permission = l }) j)) 0)

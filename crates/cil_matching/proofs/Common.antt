@@ -1,6 +1,6 @@
 -- The names from elsewhere that this crate's proofs cite most, passed on from one place.
 pub use Rattle.cil_check.proofs.PositionLemmas.{all-at, get-append, get-last}
-pub use Rattle.cil_matching.specs.Content.{SayTheSame, is_element_by, is_number_of, is_target_by, is_that, is_written_by}
+pub use Rattle.cil_matching.specs.Content.{SayTheSame, are_permissions_by, is_element_by, is_number_of, is_target_by, is_that, is_written_by}
 pub use Rattle.cil_matching.specs.Inverse.{IsInverse, noted}
 pub use Rattle.cil_matching.specs.Matching.{AreMatched, AreNumbers, ArePlaces, AreRight, AreSameAt}
 pub use Rattle.cil_matching.specs.Merged.{AreBefore, IsFoundAt, IsMissedAt}

@@ -1,5 +1,5 @@
 -- Rules say the same by their numbers where they do by their names.
-use Rattle.cil_matching.proofs.Common.{◌≡◌, ◌∙◌, ◌==◌, ◌↔◌, ℕ, ◌<◌, Bool, true, false, true≢false, ◌&&◌, nat_lt, List, [], ◌∷◌, length, map, slice_get, slice_index_or, Option, None, Some, refl, sym, ap, arith, bytes_eq, list_all, and_parts, eqb-true, eq-eqb, ltb-true, slice_get-get_or, slice_get_within, get_or_from_slice_get, a_type, an_attribute, ResolvedTarget, at_itself, at_element, RuleContent, content_of, kind_index, same-kind, is_that, is_number_of, is_element_by, is_target_by, SayTheSame, AreNumbers}
+use Rattle.cil_matching.proofs.Common.{◌≡◌, ◌∙◌, ◌==◌, ◌↔◌, ℕ, ◌<◌, Bool, true, false, true≢false, ◌&&◌, nat_lt, List, [], ◌∷◌, length, map, slice_get, slice_index_or, Option, None, Some, refl, sym, ap, arith, bytes_eq, list_all, and_parts, eqb-true, eq-eqb, ltb-true, slice_get-get_or, slice_get_within, get_or_from_slice_get, a_type, an_attribute, ResolvedTarget, at_itself, at_element, RuleContent, content_of, kind_index, same-kind, is_that, is_number_of, is_element_by, is_target_by, is_written_by, are_permissions_by, SayTheSame, AreNumbers}
 use Rattle.std.proofs.Common.{Box, not}
 use Rattle.std.proofs.Math.Bool.{and-false}
 use Rattle.std.proofs.lemmas.Slice.Eq.{bytes_eq-Decides}
@@ -17,9 +17,12 @@ use Rattle.cil_expression.specs.Spelling.{nodes_of}
 use Rattle.cil_expression.specs.declared.expression.Expression.{Expression}
 use Rattle.cil_expression.proofs.ListedLemmas.{leaves-listed, plain-mapped}
 use Rattle.cil_expression.proofs.SameExprLemmas.{mapped-same, same-mapped}
-use Rattle.cil_resolve.specs.Below.{is_element_below, is_target_below, is_rule_below, is_written_below}
-use Rattle.cil_resolve.specs.Numbers.{element_of, is_no_list, keeps_no_list, resolved_target_of, rule_of, written_in, written_or}
+use Rattle.cil_resolve.specs.Below.{are_permissions_below, are_written_below, is_element_below, is_target_below, is_rule_below, is_written_below}
+use Rattle.cil_resolve.specs.Numbers.{element_of, is_no_list, named_permissions, resolved_permissions_of, resolved_target_of, rule_of, written_in, written_or}
+use Rattle.cil_resolve.specs.declared.numbered.NumberedPermissions.{NumberedPermissions}
 use Rattle.cil_resolve.specs.declared.numbered.NumberedRule.{NumberedRule}
+use Rattle.cil_resolve.specs.declared.numbered.ResolvedPermissions.{ResolvedPermissions}
+use Rattle.cil_resolve.specs.declared.numbered.ResolvedPermissions.TheVariants as permits
 use Rattle.cil_resolve.specs.declared.numbered.ResolvedTarget as numbered
 use Rattle.cil_resolve.specs.declared.numbered.ResolvedTarget.TheVariants as aims
 
@@ -44,20 +47,30 @@ element_or : spec.Element → ResolvedTarget → spec.Element
 element_or d at_itself = d
 element_or d (at_element e) = e
 
+is_of_class : spec.ResolvedPermissions → Bool
+is_of_class (spec.of_class the_class permissions) = true
+is_of_class (spec.of_set set) = false
+
+class_or_set : spec.ResolvedPermissions → List ℕ
+class_or_set (spec.of_class the_class permissions) = the_class
+class_or_set (spec.of_set set) = set
+
+expr_or : Expr (List ℕ) → spec.ResolvedPermissions → Expr (List ℕ)
+expr_or d (spec.of_class the_class permissions) = permissions
+expr_or d (spec.of_set set) = d
+
 -- the numbers of a rule are below this one
 pub record IsBelow {A : Type 0} (n : ℕ) (r : NumberedRule A) : Type 0 where
   pub source : is_element_below n r.source ≡ true
   pub target : is_target_below n r.target ≡ true
-  pub class : nat_lt r.class n ≡ true
-  pub written : list_all (λ p. nat_lt p n) (leaves (written_in r)) ≡ true
+  pub permissions : are_permissions_below n r.permissions ≡ true
+  pub written : are_written_below n r.permissions ≡ true
 
 pub is-below : {A : Type 0} (n : ℕ) (r : NumberedRule A) → is_rule_below n r ≡ true → is_written_below n r ≡ true → IsBelow n r
 is-below n r e written =
-    let all = list_all (λ p. nat_lt p n) r.permissions in
-    let one = and_parts (is_element_below n r.source) (is_target_below n r.target && (nat_lt r.class n && all)) e in
-    let two = and_parts (is_target_below n r.target) (nat_lt r.class n && all) one.1 in
-    let three = and_parts (nat_lt r.class n) all two.1 in
-    record { source = one.0; target = two.0; class = three.0; written = written }
+    let one = and_parts (is_element_below n r.source) (is_target_below n r.target && are_permissions_below n r.permissions) e in
+    let two = and_parts (is_target_below n r.target) (are_permissions_below n r.permissions) one.1 in
+    record { source = one.0; target = two.0; permissions = two.1; written = written }
 
 module _ (names others : List (List ℕ)) (numbers : List (Option ℕ)) (are : AreNumbers names others numbers) where
   number-is : (a b : ℕ) → is_number_of numbers a b ≡ true → slice_index_or names a [] ≡ slice_index_or others b []
@@ -136,6 +149,38 @@ module _ (names others : List (List ℕ)) (numbers : List (Option ℕ)) (are : A
       both_true (all_same same_node (nodes_of e) (nodes_of f)) (all_same (is_number_of numbers) (leaves e) (leaves f))
       (first_true (all_same same_node (nodes_of e) (nodes_of f)) (all_same one_name (leaves e) (leaves f)) by_name) (leaves-from (leaves e) (leaves f) low below named)
 
+  -- those of a class: it is the same, and what is written
+  class-tells : {A : Type 0} (p q : NumberedPermissions A) → are_permissions_below (length names) (permits.OfClass p) ≡ true → are_permissions_below (length others) (permits.OfClass q) ≡ true
+      → are_written_below (length names) (permits.OfClass p) ≡ true → are_written_below (length others) (permits.OfClass q) ≡ true
+      → ((is_number_of numbers p.class q.class && is_written_by numbers p q) ≡ true)
+      ↔ (◌≡◌ {A = spec.ResolvedPermissions} (spec.of_class (old_name p.class) (named_permissions names (written_in p))) (spec.of_class (new_name q.class) (named_permissions others (written_in q))))
+  unfolding class_or_set expr_or
+  class-tells p q low below written others_written =
+      let p_low = first_true (nat_lt p.class (length names)) (list_all (λ n. nat_lt n (length names)) p.given) low in
+      let q_low = first_true (nat_lt q.class (length others)) (list_all (λ n. nat_lt n (length others)) q.given) below in
+      let (to, from) = number-tells p.class q.class p_low q_low in (
+        λ e.
+            let parts = and_parts (is_number_of numbers p.class q.class) (is_written_by numbers p q) e in
+            let the_class = to parts.0 in
+            let permissions = expr-is (written_in p) (written_in q) parts.1 in
+            λ i. spec.of_class (the_class i) (permissions i),
+        λ e.
+            both_true (is_number_of numbers p.class q.class) (is_written_by numbers p q) (from (ap class_or_set e))
+            (expr-from (written_in p) (written_in q) written others_written (ap (expr_or (named_permissions names (written_in p))) e)),
+      )
+
+  permissions-tell : {A : Type 0} (x y : ResolvedPermissions A) → are_permissions_below (length names) x ≡ true → are_permissions_below (length others) y ≡ true → are_written_below (length names) x ≡ true
+      → are_written_below (length others) y ≡ true → (are_permissions_by numbers x y ≡ true) ↔ (resolved_permissions_of names x ≡ resolved_permissions_of others y)
+  unfolding is_of_class class_or_set
+  permissions-tell (permits.OfClass p) (permits.OfClass q) low below written others_written = class-tells p q low below written others_written
+  permissions-tell (permits.OfClass p) (permits.OfSet t) low below written others_written = (λ e. absurd (true≢false (sym e)), λ e. absurd (true≢false (ap is_of_class e)))
+  permissions-tell (permits.OfSet s) (permits.OfClass q) low below written others_written = (λ e. absurd (true≢false (sym e)), λ e. absurd (true≢false (sym (ap is_of_class e))))
+  permissions-tell (permits.OfSet s) (permits.OfSet t) low below written others_written =
+      let s_low = first_true (nat_lt s.set (length names)) _ low in
+      let t_low = first_true (nat_lt t.set (length others)) _ below in
+      let (to, from) = number-tells s.set t.set s_low t_low in
+      (λ e. ap spec.of_set (to e), λ e. from (ap class_or_set e))
+
   module _ {A : Type 0} (modules newer : List (List ℕ)) (r s : NumberedRule A) (low : IsBelow (length names) r) (below : IsBelow (length others) s) where
     kinds : Bool
     kinds = kind_index (rule_kind_of r.kind) == kind_index (rule_kind_of s.kind)
@@ -146,32 +191,26 @@ module _ (names others : List (List ℕ)) (numbers : List (Option ℕ)) (are : A
     targets : Bool
     targets = is_target_by numbers r.target s.target
 
-    classes : Bool
-    classes = is_number_of numbers r.class s.class
-
     content-is : SayTheSame numbers r s → content_of (rule_of modules names r) ≡ content_of (rule_of newer others s)
-    unfolding kinds sources targets classes
+    unfolding kinds sources targets
     content-is says =
-        let three = and_parts ((kinds && sources) && targets) classes says.head in
-        let two = and_parts (kinds && sources) targets three.0 in
+        let two = and_parts (kinds && sources) targets says.head in
         let one = and_parts kinds sources two.0 in
         let kind = same-kind (rule_kind_of r.kind) (rule_kind_of s.kind) (eqb-true (kind_index (rule_kind_of r.kind)) (kind_index (rule_kind_of s.kind)) one.0) in
         let source = (element-tells r.source s.source low.source below.source).0 one.1 in
         let target = (target-tells r.target s.target low.target below.target).0 two.1 in
-        let the_class = (number-tells r.class s.class low.class below.class).0 three.1 in
-        let permissions = expr-is (written_in r) (written_in s) says.written in
-        λ i. record { kind = kind i; source = source i; target = target i; the_class = the_class i; permissions = permissions i }
+        let permissions = (permissions-tell r.permissions s.permissions low.permissions below.permissions low.written below.written).0 says.permissions in
+        λ i. record { kind = kind i; source = source i; target = target i; permissions = permissions i }
 
     content-from : content_of (rule_of modules names r) ≡ content_of (rule_of newer others s) → SayTheSame numbers r s
-    unfolding kinds sources targets classes
+    unfolding kinds sources targets
     content-from same =
         let kind = eq-eqb (kind_index (rule_kind_of r.kind)) (kind_index (rule_kind_of s.kind)) (ap (λ (c : RuleContent). kind_index c.kind) same) in
         let source = (element-tells r.source s.source low.source below.source).1 (ap (λ (c : RuleContent). c.source) same) in
         let target = (target-tells r.target s.target low.target below.target).1 (ap (λ (c : RuleContent). c.target) same) in
-        let the_class = (number-tells r.class s.class low.class below.class).1 (ap (λ (c : RuleContent). c.the_class) same) in
         record {
-          head = both_true ((kinds && sources) && targets) classes (both_true (kinds && sources) targets (both_true kinds sources kind source) target) the_class;
-          written = expr-from (written_in r) (written_in s) low.written below.written (ap (λ (c : RuleContent). c.permissions) same);
+          head = both_true (kinds && sources) targets (both_true kinds sources kind source) target;
+          permissions = (permissions-tell r.permissions s.permissions low.permissions below.permissions low.written below.written).1 (ap (λ (c : RuleContent). c.permissions) same);
         }
 
     pub content-tells : SayTheSame numbers r s ↔ (content_of (rule_of modules names r) ≡ content_of (rule_of newer others s))
@@ -206,34 +245,34 @@ lists-same same ps qs = (λ i. all_same same_node (nodes_of (listed ps)) (nodes_
     by true is = ap (λ b. b && all_same same ps qs) (same-nodes ps qs (all-long same ps qs is))
     by false is = ap (λ b. all_same same_node (nodes_of (listed ps)) (nodes_of (listed qs)) && b) is ∙ and-false (all_same same_node (nodes_of (listed ps)) (nodes_of (listed qs))) ∙ sym is
 
--- rules that keep no expression, and such that keep one
-module _ {A : Type 0} (same : ℕ → ℕ → Bool) (r s : NumberedRule A) where
-  pub both-lists : (ps qs : List ℕ) (answer : Bool) → r.written ≡ None → s.written ≡ None → ps ≡ r.permissions → qs ≡ s.permissions → answer ≡ all_same same ps qs
+-- permissions of which no expression is kept, and such of which one is
+module _ {A : Type 0} (same : ℕ → ℕ → Bool) (r s : NumberedPermissions A) where
+  pub both-lists : (ps qs : List ℕ) (answer : Bool) → r.written ≡ None → s.written ≡ None → ps ≡ r.given → qs ≡ s.given → answer ≡ all_same same ps qs
       → answer ≡ are_same same (written_in r) (written_in s)
   both-lists ps qs answer none no_other here there is =
-      is ∙ (λ i. all_same same (here i) (there i)) ∙ sym (lists-same same r.permissions s.permissions)
-      ∙ (λ i. are_same same (written_or (sym none i) r.permissions) (written_or (sym no_other i) s.permissions))
+      is ∙ (λ i. all_same same (here i) (there i)) ∙ sym (lists-same same r.given s.given)
+      ∙ (λ i. are_same same (written_or (sym none i) r.given) (written_or (sym no_other i) s.given))
 
   pub both-kept : (e f : Box (Expression ℕ A) A) (x y : Expression ℕ A) (answer : Bool) → r.written ≡ Some e → s.written ≡ Some f → x ≡ e.value → y ≡ f.value
       → answer ≡ are_same same (expr_in x) (expr_in y) → answer ≡ are_same same (written_in r) (written_in s)
   both-kept e f x y answer kept keeps here there is =
       is ∙ (λ i. are_same same (expr_in (here i)) (expr_in (there i)))
-      ∙ (λ i. are_same same (written_or (sym kept i) r.permissions) (written_or (sym keeps i) s.permissions))
+      ∙ (λ i. are_same same (written_or (sym kept i) r.given) (written_or (sym keeps i) s.given))
 
-  pub first-kept : (e : Box (Expression ℕ A) A) → keeps_no_list r ≡ true → r.written ≡ Some e → s.written ≡ None → are_same same (written_in r) (written_in s) ≡ false
+  pub first-kept : (e : Box (Expression ℕ A) A) → is_no_list r.written ≡ true → r.written ≡ Some e → s.written ≡ None → are_same same (written_in r) (written_in s) ≡ false
   first-kept e no_list kept none = by (are_same same (written_in r) (written_in s)) refl
     where
       by : (b : Bool) → are_same same (written_in r) (written_in s) ≡ b → b ≡ false
       by false is = refl
       by true is =
           absurd (true≢false (sym no_list ∙ ap is_no_list kept
-          ∙ ap not (sym (ap (λ w. is_plain (written_or w r.permissions)) kept) ∙ plain-same same (written_in r) (written_in s) is ∙ ap (λ w. is_plain (written_or w s.permissions)) none ∙ plain-list s.permissions)))
+          ∙ ap not (sym (ap (λ w. is_plain (written_or w r.given)) kept) ∙ plain-same same (written_in r) (written_in s) is ∙ ap (λ w. is_plain (written_or w s.given)) none ∙ plain-list s.given)))
 
-  pub second-kept : (f : Box (Expression ℕ A) A) → keeps_no_list s ≡ true → r.written ≡ None → s.written ≡ Some f → are_same same (written_in r) (written_in s) ≡ false
+  pub second-kept : (f : Box (Expression ℕ A) A) → is_no_list s.written ≡ true → r.written ≡ None → s.written ≡ Some f → are_same same (written_in r) (written_in s) ≡ false
   second-kept f no_list none keeps = by (are_same same (written_in r) (written_in s)) refl
     where
       by : (b : Bool) → are_same same (written_in r) (written_in s) ≡ b → b ≡ false
       by false is = refl
       by true is =
           absurd (true≢false (sym no_list ∙ ap is_no_list keeps
-          ∙ ap not (sym (ap (λ w. is_plain (written_or w s.permissions)) keeps) ∙ sym (plain-same same (written_in r) (written_in s) is) ∙ ap (λ w. is_plain (written_or w r.permissions)) none ∙ plain-list r.permissions)))
+          ∙ ap not (sym (ap (λ w. is_plain (written_or w s.given)) keeps) ∙ sym (plain-same same (written_in r) (written_in s) is) ∙ ap (λ w. is_plain (written_or w r.given)) none ∙ plain-list r.given)))

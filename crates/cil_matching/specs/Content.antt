@@ -6,7 +6,10 @@ use Rattle.cil_expression.specs.declared.expression.Element.{Element}
 use Rattle.cil_expression.specs.declared.expression.Element.TheVariants.{«Type», Attribute}
 use Rattle.cil_expression.specs.Same.{are_same}
 use Rattle.cil_resolve.specs.Numbers.{written_in}
+use Rattle.cil_resolve.specs.declared.numbered.NumberedPermissions.{NumberedPermissions}
 use Rattle.cil_resolve.specs.declared.numbered.NumberedRule.{NumberedRule}
+use Rattle.cil_resolve.specs.declared.numbered.ResolvedPermissions.{ResolvedPermissions}
+use Rattle.cil_resolve.specs.declared.numbered.ResolvedPermissions.TheVariants as permits
 use Rattle.cil_resolve.specs.declared.numbered.ResolvedTarget.{ResolvedTarget}
 use Rattle.cil_resolve.specs.declared.numbered.ResolvedTarget.TheVariants as aims
 
@@ -35,14 +38,20 @@ is_target_by numbers (aims.Element x) (aims.Element y) = is_element_by numbers x
 -- whether two rules say the same but for their permissions
 abbrev pub is_head_by : {A : Type 0} → List (Option ℕ) → NumberedRule A → NumberedRule A → Bool
 is_head_by numbers r s =
-    (((kind_index (rule_kind_of r.kind) == kind_index (rule_kind_of s.kind)) && is_element_by numbers r.source s.source) && is_target_by numbers r.target s.target)
-    && is_number_of numbers r.class s.class
+    ((kind_index (rule_kind_of r.kind) == kind_index (rule_kind_of s.kind)) && is_element_by numbers r.source s.source) && is_target_by numbers r.target s.target
 
--- whether their permissions are written the same: by expressions of one shape, of the same names
-abbrev pub is_written_by : {A : Type 0} → List (Option ℕ) → NumberedRule A → NumberedRule A → Bool
-is_written_by numbers r s = are_same (is_number_of numbers) (written_in r) (written_in s)
+-- whether permissions of a class are written the same: by expressions of one shape, of the same names
+abbrev pub is_written_by : {A : Type 0} → List (Option ℕ) → NumberedPermissions A → NumberedPermissions A → Bool
+is_written_by numbers p q = are_same (is_number_of numbers) (written_in p) (written_in q)
+
+-- whether the permissions of two rules are the same: of one class and written the same, or those of one permission set
+abbrev pub are_permissions_by : {A : Type 0} → List (Option ℕ) → ResolvedPermissions A → ResolvedPermissions A → Bool
+are_permissions_by numbers (permits.OfClass p) (permits.OfClass q) = is_number_of numbers p.class q.class && is_written_by numbers p q
+are_permissions_by numbers (permits.OfClass p) (permits.OfSet t) = false
+are_permissions_by numbers (permits.OfSet s) (permits.OfClass q) = false
+are_permissions_by numbers (permits.OfSet s) (permits.OfSet t) = is_number_of numbers s.set t.set
 
 -- Two rules say the same.
 pub record SayTheSame {A : Type 0} (numbers : List (Option ℕ)) (r s : NumberedRule A) : Type 0 where
   pub head : is_head_by numbers r s ≡ true
-  pub written : is_written_by numbers r s ≡ true
+  pub permissions : are_permissions_by numbers r.permissions s.permissions ≡ true

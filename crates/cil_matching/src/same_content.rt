@@ -3,11 +3,11 @@
 ghost use Rattle.std.specs.Prelude.{◌≡◌, ◌↔◌, IsTrue, slice_get};
 ghost use Rattle.cil_expression.specs.Expression.{expr_in};
 ghost use Rattle.cil_expression.specs.Same.{all_same, are_same};
-ghost use Rattle.cil_resolve.specs.Numbers.{keeps_no_list};
-ghost use Rattle.cil_matching.specs.Content.{is_number_of, is_element_by, is_target_by, is_head_by, is_written_by, SayTheSame};
+ghost use Rattle.cil_resolve.specs.Numbers.{is_no_list, is_no_list_with, keeps_no_list};
+ghost use Rattle.cil_matching.specs.Content.{is_number_of, is_element_by, is_target_by, is_head_by, is_written_by, are_permissions_by, SayTheSame};
 
 use cil_expression::{Element, Expression, are_same_names};
-use cil_resolve::{NumberedRule, ResolvedTarget};
+use cil_resolve::{NumberedPermissions, NumberedRule, ResolvedPermissions, ResolvedTarget};
 use std::alloc::Allocator;
 
 /// Whether a name of the old policy has this number in the new one.
@@ -53,12 +53,11 @@ fn is_same_head<A: Allocator>(
     let kind = rule.kind == other.kind;
     let source = is_element(numbers, rule.source, other.source);
     let target = is_target(numbers, rule.target, other.target);
-    let class = is_number(numbers, rule.class, other.class);
-    kind & source & target & class
+    kind & source & target
 }
 
 /// Whether as many permissions are the same, in their order.
-fn are_same_permissions(numbers: &[Option<usize>], permissions: &[usize], others: &[usize]) -> bool
+fn is_same_list(numbers: &[Option<usize>], permissions: &[usize], others: &[usize]) -> bool
     ensures { result ≡ all_same (is_number_of numbers.now) permissions.now others.now }
 {
     let same = |a, b|
@@ -84,24 +83,45 @@ fn is_same_expression<A: Allocator>(
     )
 }
 
-/// Whether the permissions of two rules are written the same. A rule that keeps no expression has a plain list, and none that keeps one
-/// has.
+/// Whether permissions of a class are written the same. Those that keep no expression are a plain list, and none that keep one are.
 fn are_written_same<A: Allocator>(
     numbers: &[Option<usize>],
-    rule: &NumberedRule<A>,
-    other: &NumberedRule<A>,
+    permissions: &NumberedPermissions<A>,
+    other: &NumberedPermissions<A>,
 ) -> bool
-    requires rule { IsTrue (keeps_no_list rule.now) }
-    requires other { IsTrue (keeps_no_list other.now) }
-    ensures { result ≡ is_written_by numbers.now rule.now other.now }
+    requires permissions { IsTrue (is_no_list permissions.now.written) }
+    requires other { IsTrue (is_no_list other.now.written) }
+    ensures { result ≡ is_written_by numbers.now permissions.now other.now }
 {
-    match (&rule.written, &other.written) {
+    match (&permissions.written, &other.written) {
         (Some(written), Some(others)) => is_same_expression(numbers, written, others),
-        (None, None) => are_same_permissions(
+        (None, None) => is_same_list(
             numbers,
-            rule.permissions.as_slice(),
-            other.permissions.as_slice(),
+            permissions.given.as_slice(),
+            other.given.as_slice(),
         ),
+        _ => false,
+    }
+}
+
+/// Whether the permissions of two rules are the same: of one class and written the same, or those of one permission set.
+fn are_same_permissions<A: Allocator>(
+    numbers: &[Option<usize>],
+    permissions: &ResolvedPermissions<A>,
+    other: &ResolvedPermissions<A>,
+) -> bool
+    requires permissions { IsTrue (is_no_list_with permissions.now) }
+    requires other { IsTrue (is_no_list_with other.now) }
+    ensures { result ≡ are_permissions_by numbers.now permissions.now other.now }
+{
+    match (permissions, other) {
+        (ResolvedPermissions::OfClass(given), ResolvedPermissions::OfClass(others)) => {
+            is_number(numbers, given.class, others.class)
+                && are_written_same(numbers, given, others)
+        }
+        (ResolvedPermissions::OfSet(given), ResolvedPermissions::OfSet(others)) => {
+            is_number(numbers, given.set, others.set)
+        }
         _ => false,
     }
 }
@@ -119,5 +139,5 @@ pub fn is_same_content<A: Allocator>(
     if !is_same_head(numbers, rule, other) {
         return false;
     }
-    are_written_same(numbers, rule, other)
+    are_same_permissions(numbers, &rule.permissions, &other.permissions)
 }

@@ -10,7 +10,7 @@ pub use Rattle.cil_bind.specs.declared.policy.Policy.{Policy}
 pub use Rattle.cil_bind.specs.declared.rows.Row.{Row}
 pub use Rattle.cil_optionals.specs.Asks.{AddsNeed, Asks, IsOf, LeadsOutside, are_found, are_there, is_need_of, optional_at, row_optional}
 pub use Rattle.cil_needs.specs.Dependents.{AreDependents, AreReopened, IsDependent, dependent, dependents_of_node, node_of}
-pub use Rattle.cil_optionals.specs.Given.{AreAnswers, AreRecent, IsInverse, IsUpTo, common_passes, commons_at, gift, given_at, gives_common, gives_passing, has_gift, has_list, is_rule, last_bound, listers_at, lists, lists_at, permissions_in, places_in}
+pub use Rattle.cil_optionals.specs.Given.{AreAnswers, AreRecent, IsInverse, IsUpTo, common_passes, commons_at, gift, given_at, gives_common, gives_passing, has_gift, has_list, last_bound, listers_at, lists, lists_at, names_permissions, permissions_in, places_in}
 pub use Rattle.cil_needs.specs.Needs.{are_met, has_node, is_met, is_need_below, meeting}
 pub use Rattle.cil_optionals.specs.Nested.{ShowsKept, mark_at, set_of}
 pub use Rattle.cil_optionals.specs.Nodes.{AreNodesOf, AreOptionalsOf, declared_table, declared_text, is_naming, is_plain, is_provided, is_single}
@@ -27,10 +27,10 @@ pub use Rattle.cil_specs.proofs.DeclaredLemmas.{AtMostOne, declared-once, declar
 pub use Rattle.cil_specs.proofs.Runs.{both_true, first_true, second_true}
 pub use Rattle.cil_specs.specs.Joined.{Placed}
 pub use Rattle.cil_specs.specs.Kept.{AreApart, AreKept, IsGood, Optionals, has_innermost, is_directly_in, is_member, is_optional_at, is_within, restricted}
-pub use Rattle.cil_specs.specs.Lookup.{Table, classes, commons, declaration, declared_in, declares, from_namespace, has_block, has_name, holds_of, inside, is_global, is_word, leads, named_permissions, nearest_block, outward, references, same_namespace, scopes, texts, types, with_name, word_text}
+pub use Rattle.cil_specs.specs.Lookup.{Table, classes, commons, declaration, declared_in, declares, from_namespace, has_block, has_name, holds_of, inside, is_global, is_word, leads, named_permissions, nearest_block, outward, permission_sets, references, same_namespace, scopes, texts, types, with_name, word_text}
 pub use Rattle.cil_specs.specs.Names.{Word, components}
 pub use Rattle.cil_specs.specs.PolicyFault.{IsFaultOf, PolicyFault, is_lacking, is_unfound, missing_words, twice}
-pub use Rattle.cil_specs.specs.Statements.{Form, Statements, alias_actual, attribute_set, block, class, class_common, class_order, common, is_optional, itself, optional, rule, the_named, type_alias, type_attribute, type_name}
+pub use Rattle.cil_specs.specs.Statements.{Form, Statements, alias_actual, anonymous, attribute_set, block, by_name, class, class_common, class_order, class_permission, class_permission_set, common, is_optional, itself, optional, rule, the_named, type_alias, type_attribute, type_name}
 pub use Rattle.std.proofs.Common.{All, Bool, Contains, Err, IfSome, IsTrue, List, None, Ok, OnErr, OnOk, Option, Result, Some, Vec, [], add-one, ap, append-nil, append_assoc, arith, bytes_eq, cond, count_by, false, filter, find, flat_map, get_or, if◌then◌else◌, inl, inr, is_some, leb, length, ltb, map, nat_lt, not, position, refl, replicate, rules, set, slice_get, subst, suc, sym, take, true, true≢false, zero, ℕ, ◌&&◌, ◌*◌, ◌++◌, ◌+◌, ◌-◌, ◌<◌, ◌==◌, ◌||◌, ◌∙◌, ◌∷◌, ◌≡◌, ◌≢◌, ◌≤◌, ◌⊎◌}
 pub use Rattle.std.proofs.lemmas.Bool.{and_parts, cases_eq, cases_lt, eq-eqb, eqb-true, leb-false, leb-true, lt-ltb, ltb-false, ltb-true, ne_eqb, not-false, not-true, or_cases, or_left, or_parts, or_right}
 pub use Rattle.std.proofs.lemmas.List.{get_or-replicate, get_or-set_other, get_or-set_same, get_or-take, length-append, length-map, length-replicate, length-set, length-take, nil_from_length, take_all, take_more}

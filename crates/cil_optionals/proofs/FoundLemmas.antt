@@ -1,5 +1,5 @@
 -- What a reference leads to in a restricted policy, by what it leads to in the whole.
-use Rattle.cil_optionals.proofs.Common.{◌≡◌, ℕ, Bool, true, false, ◌||◌, cond, List, [], ◌∷◌, find, Option, Some, None, is_some, refl, sym, ap, ◌∙◌, true≢false, if◌then◌else◌, option_or, option_and_then, none-some, same_Some, bytes_eq-Decides, Word, components, Form, block, optional, type_name, type_alias, type_attribute, common, class, Placed, Table, types, classes, commons, scopes, declared_in, is_word, same_namespace, word_text, declares, declaration, has_block, outward, nearest_block, inside, from_namespace, leads, is_global, holds_of, PolicyFault, twice, IsFaultOf, Optionals, is_within, restricted, AreApart, first_true, second_true, declared-once, declared-within, one-namespace, declared_table, declared_text, is_naming, is_provided, is_single, is_plain}
+use Rattle.cil_optionals.proofs.Common.{◌≡◌, ℕ, Bool, true, false, ◌||◌, cond, List, [], ◌∷◌, find, Option, Some, None, is_some, refl, sym, ap, ◌∙◌, true≢false, if◌then◌else◌, option_or, option_and_then, none-some, same_Some, bytes_eq-Decides, Word, components, Form, block, optional, type_name, type_alias, type_attribute, common, class, class_permission, Placed, Table, types, classes, commons, permission_sets, scopes, declared_in, is_word, same_namespace, word_text, declares, declaration, has_block, outward, nearest_block, inside, from_namespace, leads, is_global, holds_of, PolicyFault, twice, IsFaultOf, Optionals, is_within, restricted, AreApart, first_true, second_true, declared-once, declared-within, one-namespace, declared_table, declared_text, is_naming, is_provided, is_single, is_plain}
 use Rattle.cil_specs.proofs.RestrictedLemmas.{has_block-restricted, nearest_block-restricted}
 
 -- the table in which a statement declares a word
@@ -9,6 +9,7 @@ table-of types (type_alias id) w e = refl
 table-of types (type_attribute id) w e = refl
 table-of classes (class id permissions) w e = refl
 table-of commons (common id permissions) w e = refl
+table-of permission_sets (class_permission id) w e = refl
 table-of scopes (block id) w e = refl
 table-of scopes (optional id) w e = refl
 table-of _ _ w e = absurd (none-some w e)
@@ -25,6 +26,7 @@ naming-of table form w e other = by form (table-of table form w e) (ap (λ t. de
     by (type_attribute id) is at = refl
     by (common id permissions) is at = refl
     by (class id permissions) is at = refl
+    by (class_permission id) is at = refl
     by _ is at = absurd (none-some w at)
 
 -- what declares a name: its table, its word and its namespace are these

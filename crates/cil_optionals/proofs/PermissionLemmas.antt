@@ -1,5 +1,5 @@
 -- The permissions of classes.
-use Rattle.cil_optionals.proofs.Common.{◌≡◌, ℕ, zero, suc, ◌+◌, ◌<◌, ◌≤◌, ◌==◌, ◌&&◌, ◌||◌, not, Bool, true, false, List, [], ◌∷◌, ◌++◌, map, flat_map, length, take, position, get_or, slice_get, Option, Some, None, bytes_eq, refl, sym, ap, ◌∙◌, true≢false, add-one, arith, inl, inr, if◌then◌else◌, list_all, list_any, none-some, same_Some, get_or_from_slice_get, slice_get-get_or, eqb-true, eq-eqb, ne_eqb, cases_eq, take_all, list_any-append, position-Some, bytes_eq-Decides, Word, Form, class_common, rule, itself, the_named, Placed, is_lacking, first_true, second_true, both_true, one-namespace, IsFirstOf, IsLead, names-next, spread, own-listed, none-listed, take-length, take-last, any-last, NumberedWord, are_there, lists, commons_at, gift, given_at, last_bound, is_rule, gives_common, lists_at, common_passes, gives_passing, permissions_in, IsUpTo, SeenPermissions, HavePermissions, Permission}
+use Rattle.cil_optionals.proofs.Common.{◌≡◌, ℕ, zero, suc, ◌+◌, ◌<◌, ◌≤◌, ◌==◌, ◌&&◌, ◌||◌, not, Bool, true, false, List, [], ◌∷◌, ◌++◌, map, flat_map, length, take, position, get_or, slice_get, Option, Some, None, bytes_eq, refl, sym, ap, ◌∙◌, true≢false, add-one, arith, inl, inr, if◌then◌else◌, list_all, list_any, none-some, same_Some, get_or_from_slice_get, slice_get-get_or, eqb-true, eq-eqb, ne_eqb, cases_eq, take_all, list_any-append, position-Some, bytes_eq-Decides, Word, Form, class_common, class_permission_set, anonymous, by_name, rule, itself, the_named, Placed, is_lacking, first_true, second_true, both_true, one-namespace, IsFirstOf, IsLead, names-next, spread, own-listed, none-listed, take-length, take-last, any-last, NumberedWord, are_there, lists, commons_at, gift, given_at, last_bound, names_permissions, gives_common, lists_at, common_passes, gives_passing, permissions_in, IsUpTo, SeenPermissions, HavePermissions, Permission}
 use Rattle.std.proofs.Math.Bool.{or-false}
 use Rattle.indexmap.specs.IndexSet.{insert_key}
 use Rattle.cil_specs.specs.Lookup.{Table, classes, commons, declared_in, declares, same_namespace, is_word, is_same, word_text, holds_of, leads, references, named_permissions, texts, own_permissions, has_name, listed_by, gives_common as gives_common_to, common_permissions, permissions_of}
@@ -109,8 +109,10 @@ gives-none policy s t test = by t.form
 
 own-gives : (form : Form) → lists_own (kind_of form) ≡ true → gives_common (kind_of form) ≡ false
 own-gives (class_common the_class the_common) is = absurd (true≢false (sym is))
-own-gives (rule kind source itself the_class permissions) is = refl
-own-gives (rule kind source (the_named word) the_class permissions) is = refl
+own-gives (rule kind source itself (anonymous the_class permissions)) is = refl
+own-gives (rule kind source itself (by_name set)) is = refl
+own-gives (rule kind source (the_named word) (anonymous the_class permissions)) is = refl
+own-gives (rule kind source (the_named word) (by_name set)) is = refl
 own-gives _ is = refl
 
 -- what stands at a place of a list with one more
@@ -189,14 +191,18 @@ given-by policy k s test here first namespace (class_common the_class the_common
 given-by policy k s test here first namespace (class_common the_class the_common) is (None ∷ b ∷ e ∷ more) are = absurd are.1.1
 given-by policy k s test here first namespace (class_common the_class the_common) is (Some c ∷ None ∷ e ∷ more) are = absurd are.1.1
 given-by policy k s test here first namespace (class_common the_class the_common) is (Some c ∷ Some d ∷ e ∷ more) are = absurd are.1.1
-given-by policy k s test here first namespace (rule kind source itself the_class permissions) is bound are = absurd (true≢false (sym is))
-given-by policy k s test here first namespace (rule kind source (the_named word) the_class permissions) is bound are = absurd (true≢false (sym is))
+given-by policy k s test here first namespace (rule kind source itself (anonymous the_class permissions)) is bound are = absurd (true≢false (sym is))
+given-by policy k s test here first namespace (rule kind source itself (by_name set)) is bound are = absurd (true≢false (sym is))
+given-by policy k s test here first namespace (rule kind source (the_named word) (anonymous the_class permissions)) is bound are = absurd (true≢false (sym is))
+given-by policy k s test here first namespace (rule kind source (the_named word) (by_name set)) is bound are = absurd (true≢false (sym is))
 given-by policy k s test here first namespace _ is bound are = absurd (true≢false (sym is))
 
 gives-lists : (form : Form) → gives_common (kind_of form) ≡ true → lists_own (kind_of form) ≡ false
 gives-lists (class_common the_class the_common) is = refl
-gives-lists (rule kind source itself the_class permissions) is = refl
-gives-lists (rule kind source (the_named word) the_class permissions) is = refl
+gives-lists (rule kind source itself (anonymous the_class permissions)) is = refl
+gives-lists (rule kind source itself (by_name set)) is = refl
+gives-lists (rule kind source (the_named word) (anonymous the_class permissions)) is = refl
+gives-lists (rule kind source (the_named word) (by_name set)) is = refl
 gives-lists _ is = absurd (true≢false (sym is))
 
 -- it gives a common to a class
@@ -256,27 +262,37 @@ upto-all policy n p past are i s name at first =
     listed : (c : ℕ) → lists p.listed.keys c name ≡ lists_at policy c name
     listed c = are.listed c name ∙ ap (λ l. lists_at l c name) (take_all n policy past)
 
--- the class whose permissions a rule names
-pub record IsRule (policy : List Placed) (namespace : List (List ℕ)) (form : Form) (bound : List (Option ℕ)) : Type 0 where
+-- the class whose permissions a statement names
+pub record NamesPermissions (policy : List Placed) (namespace : List (List ℕ)) (form : Form) (bound : List (Option ℕ)) : Type 0 where
   pub the_class : Word
   pub named : named_permissions form ≡ map (λ w. (the_class, w)) (listed_in form)
   pub lead : IsLead classes policy (last_bound bound) (leads policy classes namespace the_class.text)
 
-pub rule-class : (policy : List Placed) (namespace : List (List ℕ)) (form : Form) → is_rule (kind_of form) ≡ true → (bound : List (Option ℕ)) → AreLeads policy namespace (references form) bound → IsRule policy namespace form bound
-rule-class policy namespace (rule kind source itself the_class permissions) is (a ∷ b ∷ []) are = record { the_class = the_class; named = refl; lead = are.1.0 }
-rule-class policy namespace (rule kind source itself the_class permissions) is [] are = absurd are
-rule-class policy namespace (rule kind source itself the_class permissions) is (a ∷ []) are = absurd are.1
-rule-class policy namespace (rule kind source itself the_class permissions) is (a ∷ b ∷ c ∷ more) are = absurd are.1.1
-rule-class policy namespace (rule kind source (the_named word) the_class permissions) is (a ∷ b ∷ c ∷ []) are = record { the_class = the_class; named = refl; lead = are.1.1.0 }
-rule-class policy namespace (rule kind source (the_named word) the_class permissions) is [] are = absurd are
-rule-class policy namespace (rule kind source (the_named word) the_class permissions) is (a ∷ []) are = absurd are.1
-rule-class policy namespace (rule kind source (the_named word) the_class permissions) is (a ∷ b ∷ []) are = absurd are.1.1
-rule-class policy namespace (rule kind source (the_named word) the_class permissions) is (a ∷ b ∷ c ∷ d ∷ more) are = absurd are.1.1.1
-rule-class policy namespace _ is bound are = absurd (true≢false (sym is))
+pub named-class : (policy : List Placed) (namespace : List (List ℕ)) (form : Form) → names_permissions (kind_of form) ≡ true → (bound : List (Option ℕ)) → AreLeads policy namespace (references form) bound
+    → NamesPermissions policy namespace form bound
+named-class policy namespace (class_permission_set set the_class permissions) is (a ∷ b ∷ []) are = record { the_class = the_class; named = refl; lead = are.1.0 }
+named-class policy namespace (class_permission_set set the_class permissions) is [] are = absurd are
+named-class policy namespace (class_permission_set set the_class permissions) is (a ∷ []) are = absurd are.1
+named-class policy namespace (class_permission_set set the_class permissions) is (a ∷ b ∷ c ∷ more) are = absurd are.1.1
+named-class policy namespace (rule kind source itself (anonymous the_class permissions)) is (a ∷ b ∷ []) are = record { the_class = the_class; named = refl; lead = are.1.0 }
+named-class policy namespace (rule kind source itself (anonymous the_class permissions)) is [] are = absurd are
+named-class policy namespace (rule kind source itself (anonymous the_class permissions)) is (a ∷ []) are = absurd are.1
+named-class policy namespace (rule kind source itself (anonymous the_class permissions)) is (a ∷ b ∷ c ∷ more) are = absurd are.1.1
+named-class policy namespace (rule kind source (the_named word) (anonymous the_class permissions)) is (a ∷ b ∷ c ∷ []) are = record { the_class = the_class; named = refl; lead = are.1.1.0 }
+named-class policy namespace (rule kind source (the_named word) (anonymous the_class permissions)) is [] are = absurd are
+named-class policy namespace (rule kind source (the_named word) (anonymous the_class permissions)) is (a ∷ []) are = absurd are.1
+named-class policy namespace (rule kind source (the_named word) (anonymous the_class permissions)) is (a ∷ b ∷ []) are = absurd are.1.1
+named-class policy namespace (rule kind source (the_named word) (anonymous the_class permissions)) is (a ∷ b ∷ c ∷ d ∷ more) are = absurd are.1.1.1
+named-class policy namespace (rule kind source itself (by_name set)) is bound are = absurd (true≢false (sym is))
+named-class policy namespace (rule kind source (the_named word) (by_name set)) is bound are = absurd (true≢false (sym is))
+named-class policy namespace _ is bound are = absurd (true≢false (sym is))
 
-pub names-none : (form : Form) → is_rule (kind_of form) ≡ false → named_permissions form ≡ []
-names-none (rule kind source itself the_class permissions) is = absurd (true≢false is)
-names-none (rule kind source (the_named word) the_class permissions) is = absurd (true≢false is)
+pub names-none : (form : Form) → names_permissions (kind_of form) ≡ false → named_permissions form ≡ []
+names-none (class_permission_set set the_class permissions) is = absurd (true≢false is)
+names-none (rule kind source itself (anonymous the_class permissions)) is = absurd (true≢false is)
+names-none (rule kind source (the_named word) (anonymous the_class permissions)) is = absurd (true≢false is)
+names-none (rule kind source itself (by_name set)) is = refl
+names-none (rule kind source (the_named word) (by_name set)) is = refl
 names-none _ is = refl
 
 abbrev lacking : Option Placed → List Placed → List ℕ → Bool

@@ -1,8 +1,8 @@
 -- What the nodes of names need is met by what is found.
-use Rattle.cil_optionals.proofs.Common.{◌≡◌, ◌⊎◌, inl, inr, ℕ, zero, suc, ◌+◌, ◌<◌, ◌≤◌, Bool, true, false, not, ◌&&◌, ◌||◌, nat_lt, cond, List, [], ◌∷◌, ◌++◌, length, get_or, slice_get, find, Option, Some, None, is_some, refl, sym, ap, ◌∙◌, subst, arith, true≢false, if◌then◌else◌, list_all, list_any, cases_lt, lt-ltb, none-some, same_Some, slice_get_within, slice_get_cases, slice_get_read, list_all-append, bytes_eq-Decides, Word, Form, block, optional, type_name, type_alias, alias_actual, type_attribute, attribute_set, common, class, class_common, class_order, rule, Placed, Table, scopes, declared_in, is_word, same_namespace, word_text, declares, declaration, outward, holds_of, PolicyFault, twice, IsFaultOf, Optionals, is_within, restricted, AreApart, first_true, second_true, both_true, AtMostOne, declared-once, namespace_at, word_at, table_of, IsLead, Row, Policy, NamedModule, same_namespace-refl, row-at, rows-length, is_met, are_met, is_need_below, meeting, IsInnermost, AreNested, declared_table, declared_text, is_naming, is_provided, AreOptionalsOf, AreNodesOf, further_out, alternatives, IsReady, IsDeclaration, IsProvidedBy, AreProviders, Need}
+use Rattle.cil_optionals.proofs.Common.{◌≡◌, ◌⊎◌, inl, inr, ℕ, zero, suc, ◌+◌, ◌<◌, ◌≤◌, Bool, true, false, not, ◌&&◌, ◌||◌, nat_lt, cond, List, [], ◌∷◌, ◌++◌, length, get_or, slice_get, find, Option, Some, None, is_some, refl, sym, ap, ◌∙◌, subst, arith, true≢false, if◌then◌else◌, list_all, list_any, cases_lt, lt-ltb, none-some, same_Some, slice_get_within, slice_get_cases, slice_get_read, list_all-append, bytes_eq-Decides, Word, Form, block, optional, type_name, type_alias, alias_actual, type_attribute, attribute_set, common, class, class_common, class_order, class_permission, class_permission_set, rule, Placed, Table, scopes, declared_in, is_word, same_namespace, word_text, declares, declaration, outward, holds_of, PolicyFault, twice, IsFaultOf, Optionals, is_within, restricted, AreApart, first_true, second_true, both_true, AtMostOne, declared-once, namespace_at, word_at, table_of, IsLead, Row, Policy, NamedModule, same_namespace-refl, row-at, rows-length, is_met, are_met, is_need_below, meeting, IsInnermost, AreNested, declared_table, declared_text, is_naming, is_provided, AreOptionalsOf, AreNodesOf, further_out, alternatives, IsReady, IsDeclaration, IsProvidedBy, AreProviders, Need}
 use Rattle.cil_bind.specs.Rows.{IsRow, IsDeclared}
 use Rattle.cil_parse.specs.declared.table.Table as code
-use Rattle.cil_parse.specs.declared.table.Table.TheVariants.{Types, Classes, Commons, Scopes}
+use Rattle.cil_parse.specs.declared.table.Table.TheVariants.{Types, Classes, Commons, PermissionSets, Scopes}
 use Rattle.cil_optionals.proofs.FoundLemmas.{either-some, table-of, naming-of, declaration-within, outward-provided}
 
 -- the number of the innermost optional is that of a place of the policy, or 0
@@ -24,13 +24,15 @@ naming-one (type_alias id) e = (refl, λ same. cc)
 naming-one (type_attribute id) e = (refl, λ same. cc)
 naming-one (common id permissions) e = (refl, λ same. cc)
 naming-one (class id permissions) e = (refl, λ same. cc)
+naming-one (class_permission id) e = (refl, λ same. cc)
 naming-one (block id) e = absurd (true≢false (sym e))
 naming-one (optional id) e = absurd (true≢false (sym e))
 naming-one (alias_actual alias actual) e = absurd (true≢false (sym e))
 naming-one (attribute_set attribute expr) e = absurd (true≢false (sym e))
 naming-one (class_common the_class the_common) e = absurd (true≢false (sym e))
 naming-one (class_order the_classes) e = absurd (true≢false (sym e))
-naming-one (rule kind source target the_class permissions) e = absurd (true≢false (sym e))
+naming-one (class_permission_set set the_class permissions) e = absurd (true≢false (sym e))
+naming-one (rule kind source target permissions) e = absurd (true≢false (sym e))
 
 pub naming-declaration : (s : Placed) → is_naming s.form ≡ true → IsDeclaration s
 naming-declaration s e = let is = naming-one s.form e in record { some = is.0; other = is.1 }
@@ -231,6 +233,7 @@ row-declaration names table w declares_it s e other is = by (subst (λ o. IsDecl
     not-scopes Types isnt e = cc
     not-scopes Classes isnt e = cc
     not-scopes Commons isnt e = cc
+    not-scopes PermissionSets isnt e = cc
     not-scopes Scopes isnt e = isnt refl
 
     by : IsDeclared names (Some (table, w)) s.form → IsDeclaration s × (w < length names) × (table_of table ≡ declared_table s.form) × (word_at names w ≡ declared_text s.form)

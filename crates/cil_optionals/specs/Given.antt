@@ -57,10 +57,12 @@ given_at (Some (the_class, the_common)) i = if i == the_class then the_common �
 abbrev pub last_bound : List (Option ℕ) → Option ℕ
 last_bound bound = slice_index_or bound (length bound - 1) None
 
-abbrev pub is_rule : StatementKind → Bool
-is_rule (kinds.Rule kind) = true
-is_rule (kinds.RuleToSelf kind) = true
-is_rule _ = false
+-- whether statements of a kind name permissions of a class, which is the last of their references
+abbrev pub names_permissions : StatementKind → Bool
+names_permissions kinds.ClassPermissionSet = true
+names_permissions (kinds.Rule kind) = true
+names_permissions (kinds.RuleToSelf kind) = true
+names_permissions _ = false
 
 -- whether statements of a kind give a common to a class
 abbrev pub gives_common : StatementKind → Bool

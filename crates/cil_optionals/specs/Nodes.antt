@@ -2,15 +2,16 @@
 -- names that they declare.
 use Rattle.std.specs.Prelude.{◌≡◌, ℕ, suc, ◌+◌, Bool, true, false, ◌&&◌, List, [], ◌∷◌, length, slice_get, is_some, Some, IsTrue, if◌then◌else◌}
 use Rattle.cil_specs.specs.Names.{components}
-use Rattle.cil_specs.specs.Statements.{Form, block, optional, type_name, type_alias, type_attribute, common, class, is_optional}
+use Rattle.cil_specs.specs.Statements.{Form, block, optional, type_name, type_alias, type_attribute, common, class, class_permission, is_optional}
 use Rattle.cil_specs.specs.Joined.{Placed}
-use Rattle.cil_specs.specs.Lookup.{Table, types, classes, commons, scopes, declared_in, word_text, outward, is_global}
+use Rattle.cil_specs.specs.Lookup.{Table, types, classes, commons, permission_sets, scopes, declared_in, word_text, outward, is_global}
 use Rattle.cil_specs.specs.Kept.{Optionals, is_within, restricted}
 
 -- the table in which a statement declares its name
 abbrev pub declared_table : Form → Table
 declared_table (class id permissions) = classes
 declared_table (common id permissions) = commons
+declared_table (class_permission id) = permission_sets
 declared_table (block id) = scopes
 declared_table (optional id) = scopes
 declared_table _ = types
@@ -26,6 +27,7 @@ is_naming (type_alias id) = true
 is_naming (type_attribute id) = true
 is_naming (common id permissions) = true
 is_naming (class id permissions) = true
+is_naming (class_permission id) = true
 is_naming _ = false
 
 -- whether the name that a statement declares, if any, is found from its namespace, as a plain name

@@ -10,7 +10,7 @@ ghost use Rattle.cil_bind.specs.declared.joined.NamedModule.{NamedModule};
 ghost use Rattle.cil_parse.specs.Builder.{read};
 ghost use Rattle.cil_parse.specs.Parsed.{texts_of};
 ghost use Rattle.cil_optionals.specs.Asks.{are_there as all_there, IsOf};
-ghost use Rattle.cil_optionals.specs.Given.{permissions_in, last_bound as last_of, is_rule as is_rule_kind, has_list as has_listed, AreAnswers, AreRecent, IsInverse};
+ghost use Rattle.cil_optionals.specs.Given.{permissions_in, last_bound as last_of, names_permissions as names_permissions_kind, has_list as has_listed, AreAnswers, AreRecent, IsInverse};
 ghost use Rattle.cil_optionals.specs.Permissions.{HavePermissions};
 ghost use Rattle.cil_optionals.specs.Providers.{IsReady};
 
@@ -42,11 +42,15 @@ pub struct Permissions<'l, 'm, A: Allocator = Global> {
     ghost known_are: { AreKnown (has_listed joined.now.modules.items (permissions_in listed.now)) known },
 }
 
-/// Whether statements of a kind are rules.
-fn is_rule(kind: StatementKind) -> bool
-    ensures { result ≡ is_rule_kind kind }
+/// Whether statements of a kind name permissions of a class: rules do, and statements that give some to a permission set. Their class is
+/// the last of their references.
+fn names_permissions(kind: StatementKind) -> bool
+    ensures { result ≡ names_permissions_kind kind }
 {
-    matches!(kind, StatementKind::Rule(_) | StatementKind::RuleToSelf(_))
+    matches!(
+        kind,
+        StatementKind::ClassPermissionSet | StatementKind::Rule(_) | StatementKind::RuleToSelf(_)
+    )
 }
 
 /// What the last of some references is bound to.
@@ -219,7 +223,7 @@ impl<'l, 'm, A: Allocator + Copy> Permissions<'l, 'm, A> {
     {
         let row = policy.rows[i];
         let view = module.statement(row.index as usize);
-        if !is_rule(view.kind) {
+        if !names_permissions(view.kind) {
             return Ok(true);
         }
         let bound = policy.bound.get(i);

@@ -1,5 +1,5 @@
 -- The statements of a module one behind the other are those of the joined policy.
-use Rattle.cil_parse.proofs.Common.{◌≡◌, ℕ, zero, suc, ◌+◌, ◌≤◌, List, [], ◌∷◌, ◌++◌, length, slice_get, Some, refl, sym, ap, subst, ◌∙◌, append_assoc, append-nil, add-one, length-append, arith, Form, block, optional, type_name, type_alias, alias_actual, type_attribute, attribute_set, common, class, class_common, class_order, rule, Statements, no_more, statement, FlatStatement, block_inside, optional_inside, count, flat}
+use Rattle.cil_parse.proofs.Common.{◌≡◌, ℕ, zero, suc, ◌+◌, ◌≤◌, List, [], ◌∷◌, ◌++◌, length, slice_get, Some, refl, sym, ap, subst, ◌∙◌, append_assoc, append-nil, add-one, length-append, arith, Form, block, optional, type_name, type_alias, alias_actual, type_attribute, attribute_set, common, class, class_common, class_order, class_permission, class_permission_set, rule, Statements, no_more, statement, FlatStatement, block_inside, optional_inside, count, flat}
 use Rattle.cil_specs.specs.Joined.{Placed, placed, namespace_inside, optionals_inside}
 use Rattle.cil_parse.specs.Around.{IsBlockOf, IsOptionalOf, ArePlacedAs}
 use Rattle.cil_parse.proofs.FlatLemmas.{length-flat}
@@ -29,7 +29,9 @@ block-around all index s (common id permissions) n here is around = block-later 
 block-around all index s (class id permissions) n here is around = block-later all index (index + 1) n s.namespace (one-later index) around
 block-around all index s (class_common the_class the_common) n here is around = block-later all index (index + 1) n s.namespace (one-later index) around
 block-around all index s (class_order classes) n here is around = block-later all index (index + 1) n s.namespace (one-later index) around
-block-around all index s (rule kind source target the_class permissions) n here is around = block-later all index (index + 1) n s.namespace (one-later index) around
+block-around all index s (class_permission id) n here is around = block-later all index (index + 1) n s.namespace (one-later index) around
+block-around all index s (class_permission_set set the_class permissions) n here is around = block-later all index (index + 1) n s.namespace (one-later index) around
+block-around all index s (rule kind source target permissions) n here is around = block-later all index (index + 1) n s.namespace (one-later index) around
 
 optional-around : (all : List Placed) (index : ℕ) (s : Placed) (form : Form) (n : ℕ) → slice_get all index ≡ Some s → s.form ≡ form → IsOptionalOf all index n s.optionals
     → IsOptionalOf all (index + 1) (optional_inside form index n) (optionals_inside form s.at s.optionals)
@@ -45,7 +47,9 @@ optional-around all index s (common id permissions) n here is around = optional-
 optional-around all index s (class id permissions) n here is around = optional-later all index (index + 1) n s.optionals (one-later index) around
 optional-around all index s (class_common the_class the_common) n here is around = optional-later all index (index + 1) n s.optionals (one-later index) around
 optional-around all index s (class_order classes) n here is around = optional-later all index (index + 1) n s.optionals (one-later index) around
-optional-around all index s (rule kind source target the_class permissions) n here is around = optional-later all index (index + 1) n s.optionals (one-later index) around
+optional-around all index s (class_permission id) n here is around = optional-later all index (index + 1) n s.optionals (one-later index) around
+optional-around all index s (class_permission_set set the_class permissions) n here is around = optional-later all index (index + 1) n s.optionals (one-later index) around
+optional-around all index s (rule kind source target permissions) n here is around = optional-later all index (index + 1) n s.optionals (one-later index) around
 
 placed-both : (all : List Placed) (index : ℕ) (list more : List FlatStatement) (statements others : List Placed) → ArePlacedAs all index list statements → ArePlacedAs all (index + length list) more others → ArePlacedAs all index (list ++ more) (statements ++ others)
 placed-both all index [] more [] others first second = subst (λ k. ArePlacedAs all k more others) (omega arith) second

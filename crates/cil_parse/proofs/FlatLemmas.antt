@@ -1,5 +1,5 @@
 -- Statements one behind the other.
-use Rattle.cil_parse.proofs.Common.{◌≡◌, ℕ, suc, ◌+◌, ◌<◌, List, [], ◌∷◌, ◌++◌, Vec, length, get_or, take, refl, sym, ap, ◌∙◌, append_assoc, append-nil, arith, length-append, false, if◌then◌else◌, take_more, Statements, no_more, statement, statement_then, row_statements, statements_of, form_of, at_of, has_body, Statement, Block', Optional', TypeName, TypeAlias, TypeAliasActual, TypeAttribute, TypeAttributeSet, Common, Class, ClassCommon, ClassOrder, Rule, FlatStatement, block_inside, optional_inside, count, flat}
+use Rattle.cil_parse.proofs.Common.{◌≡◌, ℕ, suc, ◌+◌, ◌<◌, List, [], ◌∷◌, ◌++◌, Vec, length, get_or, take, refl, sym, ap, ◌∙◌, append_assoc, append-nil, arith, length-append, false, if◌then◌else◌, take_more, Statements, no_more, statement, statement_then, row_statements, statements_of, form_of, at_of, has_body, Statement, Block', Optional', TypeName, TypeAlias, TypeAliasActual, TypeAttribute, TypeAttributeSet, Common, Class, ClassCommon, ClassOrder, ClassPermission, ClassPermissionSet, Rule, FlatStatement, block_inside, optional_inside, count, flat}
 use Rattle.cil_text.specs.declared.place.Place as code
 use Rattle.cil_text.specs.declared.word.Word as words
 use Rattle.cil_text.specs.declared.statement.Statement.TheVariants.{Block, Optional}
@@ -27,7 +27,9 @@ statement-is (Common at id permissions) more = refl
 statement-is (Class at id permissions) more = refl
 statement-is (ClassCommon at the_class the_common) more = refl
 statement-is (ClassOrder at the_classes) more = refl
-statement-is (Rule at kind source target the_class permissions) more = refl
+statement-is (ClassPermission at id) more = refl
+statement-is (ClassPermissionSet at set the_class permissions) more = refl
+statement-is (Rule at kind source target permissions) more = refl
 
 pub length-flat : (in_block in_optional n : ℕ) (s : Statements) → length (flat in_block in_optional n s) ≡ count s
 length-flat in_block in_optional n no_more = refl

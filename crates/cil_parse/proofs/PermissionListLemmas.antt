@@ -1,5 +1,5 @@
 -- The lists of permissions of statements by their numbers.
-use Rattle.cil_parse.proofs.Common.{◌≡◌, ℕ, zero, suc, ◌+◌, ◌<◌, List, [], ◌∷◌, ◌++◌, map, length, get_or, take, drop, Option, Some, None, slice_get, refl, sym, ap, ◌∙◌, arith, drop-map, option_map, length-map, get_or-map, same_Some, slice_get_within, get_or_from_slice_get, place_of, flat, Statements, Word, leaves, texts, itself, the_named, Form, block, optional, type_name, type_alias, alias_actual, type_attribute, attribute_set, common, class, class_common, class_order, rule, read, kind_of, words_in, permissions_in, FlatStatement, permission_words, permission_texts, IsShown, NumberedWord, Row, StatementView}
+use Rattle.cil_parse.proofs.Common.{◌≡◌, ℕ, zero, suc, ◌+◌, ◌<◌, List, [], ◌∷◌, ◌++◌, map, length, get_or, take, drop, Option, Some, None, slice_get, refl, sym, ap, ◌∙◌, arith, drop-map, option_map, length-map, get_or-map, same_Some, slice_get_within, get_or_from_slice_get, place_of, flat, Statements, Word, leaves, texts, itself, the_named, Form, block, optional, type_name, type_alias, alias_actual, type_attribute, attribute_set, common, class, class_common, class_order, class_permission, class_permission_set, rule, anonymous, by_name, read, kind_of, words_in, permissions_in, FlatStatement, permission_words, permission_texts, IsShown, NumberedWord, Row, StatementView}
 use Rattle.cil_parse.specs.Parsed.{texts_of, permission_lists_of, statement_count, Spells}
 use Rattle.cil_parse.specs.declared.parsed.ParsedModule.{ParsedModule}
 use Rattle.cil_parse.proofs.ParsedLemmas.{same-length, same-at, shown}
@@ -70,8 +70,12 @@ module _ {W X : Type 0} (f : W → X) (g : Word → X) where
   among-words (class id permissions) ws is = behind-words 1 ws (id ∷ permissions) is
   among-words (class_common the_class the_common) ws is = refl
   among-words (class_order the_classes) ws is = refl
-  among-words (rule kind source itself the_class permissions) ws is = behind-words 2 ws (source ∷ the_class ∷ leaves permissions) is
-  among-words (rule kind source (the_named word) the_class permissions) ws is = behind-words 3 ws (source ∷ word ∷ the_class ∷ leaves permissions) is
+  among-words (class_permission id) ws is = refl
+  among-words (class_permission_set set the_class permissions) ws is = behind-words 2 ws (set ∷ the_class ∷ leaves permissions) is
+  among-words (rule kind source itself (by_name set)) ws is = refl
+  among-words (rule kind source (the_named word) (by_name set)) ws is = refl
+  among-words (rule kind source itself (anonymous the_class permissions)) ws is = behind-words 2 ws (source ∷ the_class ∷ leaves permissions) is
+  among-words (rule kind source (the_named word) (anonymous the_class permissions)) ws is = behind-words 3 ws (source ∷ word ∷ the_class ∷ leaves permissions) is
 
 pub shown-permissions : (all : List (List ℕ)) (v : StatementView) (f : FlatStatement) → IsShown all v f → map (read all) (permission_words v.kind v.words.now) ≡ map Some (permissions_in f.form)
 shown-permissions all v f shown = ap (λ kind. map (read all) (permission_words kind v.words.now)) shown.kind ∙ among-words (read all) Some f.form v.words.now shown.words

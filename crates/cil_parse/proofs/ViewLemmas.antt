@@ -1,9 +1,9 @@
 -- What a statement declares and names, by its kind and its words.
-use Rattle.cil_parse.proofs.Common.{◌≡◌, ℕ, zero, suc, ◌<◌, List, [], ◌∷◌, map, length, get_or, arith, Option, Some, slice_get, refl, sym, ap, subst, ◌∙◌, option_map, option_and_then, same_Some, slice_get-map, Word, leaves, types, classes, declared_in, references, itself, the_named, Form, block, optional, type_name, type_alias, alias_actual, type_attribute, attribute_set, common, class, class_common, class_order, rule, kind_of, words_in, FlatStatement, read, IsShown, NumberedWord, StatementView}
+use Rattle.cil_parse.proofs.Common.{◌≡◌, ℕ, zero, suc, ◌<◌, List, [], ◌∷◌, map, length, get_or, arith, Option, Some, slice_get, refl, sym, ap, subst, ◌∙◌, option_map, option_and_then, same_Some, slice_get-map, Word, leaves, types, classes, declared_in, references, itself, the_named, Form, block, optional, type_name, type_alias, alias_actual, type_attribute, attribute_set, common, class, class_common, class_order, class_permission, class_permission_set, rule, anonymous, by_name, kind_of, words_in, FlatStatement, read, IsShown, NumberedWord, StatementView}
 use Rattle.cil_specs.specs.Lookup as lookup
 use Rattle.cil_parse.specs.Kinds.{table_of, declaring, reference_table}
 use Rattle.cil_parse.specs.declared.table.Table.{Table}
-use Rattle.cil_parse.specs.declared.table.Table.TheVariants.{Types, Classes, Commons, Scopes}
+use Rattle.cil_parse.specs.declared.table.Table.TheVariants.{Types, Classes, Commons, PermissionSets, Scopes}
 
 -- the form declares its first word in the table
 abbrev pub DeclaresFirst : Form → Table → Type 0
@@ -24,8 +24,12 @@ declares-first (common id permissions) table is = at-table (common id permission
 declares-first (class id permissions) table is = at-table (class id permissions) Classes table is (id, refl, refl)
 declares-first (class_common the_class the_common) table is = cc
 declares-first (class_order the_classes) table is = cc
-declares-first (rule kind source itself the_class permissions) table is = cc
-declares-first (rule kind source (the_named word) the_class permissions) table is = cc
+declares-first (class_permission id) table is = at-table (class_permission id) PermissionSets table is (id, refl, refl)
+declares-first (class_permission_set set the_class permissions) table is = cc
+declares-first (rule kind source itself (anonymous the_class permissions)) table is = cc
+declares-first (rule kind source (the_named word) (anonymous the_class permissions)) table is = cc
+declares-first (rule kind source itself (by_name set)) table is = cc
+declares-first (rule kind source (the_named word) (by_name set)) table is = cc
 
 -- a reference is a word that its kind looks up
 abbrev pub reference_at : Form → ℕ → Option (lookup.Table × Word)
@@ -48,13 +52,24 @@ references-at (class_common the_class the_common) zero = refl
 references-at (class_common the_class the_common) (suc zero) = refl
 references-at (class_common the_class the_common) (suc (suc k)) = refl
 references-at (class_order the_classes) k = slice_get-map (λ w. (classes, w)) the_classes k
-references-at (rule kind source itself the_class permissions) zero = refl
-references-at (rule kind source itself the_class permissions) (suc zero) = refl
-references-at (rule kind source itself the_class permissions) (suc (suc k)) = refl
-references-at (rule kind source (the_named word) the_class permissions) zero = refl
-references-at (rule kind source (the_named word) the_class permissions) (suc zero) = refl
-references-at (rule kind source (the_named word) the_class permissions) (suc (suc zero)) = refl
-references-at (rule kind source (the_named word) the_class permissions) (suc (suc (suc k))) = refl
+references-at (class_permission id) k = refl
+references-at (class_permission_set set the_class permissions) zero = refl
+references-at (class_permission_set set the_class permissions) (suc zero) = refl
+references-at (class_permission_set set the_class permissions) (suc (suc k)) = refl
+references-at (rule kind source itself (anonymous the_class permissions)) zero = refl
+references-at (rule kind source itself (anonymous the_class permissions)) (suc zero) = refl
+references-at (rule kind source itself (anonymous the_class permissions)) (suc (suc k)) = refl
+references-at (rule kind source (the_named word) (anonymous the_class permissions)) zero = refl
+references-at (rule kind source (the_named word) (anonymous the_class permissions)) (suc zero) = refl
+references-at (rule kind source (the_named word) (anonymous the_class permissions)) (suc (suc zero)) = refl
+references-at (rule kind source (the_named word) (anonymous the_class permissions)) (suc (suc (suc k))) = refl
+references-at (rule kind source itself (by_name set)) zero = refl
+references-at (rule kind source itself (by_name set)) (suc zero) = refl
+references-at (rule kind source itself (by_name set)) (suc (suc k)) = refl
+references-at (rule kind source (the_named word) (by_name set)) zero = refl
+references-at (rule kind source (the_named word) (by_name set)) (suc zero) = refl
+references-at (rule kind source (the_named word) (by_name set)) (suc (suc zero)) = refl
+references-at (rule kind source (the_named word) (by_name set)) (suc (suc (suc k))) = refl
 
 -- what is read of one of a list
 seen-at : {X Y : Type 0} (f : X → Option Y) (xs : List X) (ys : List Y) (k : ℕ) (x : X) → map f xs ≡ map Some ys → k < length xs → x ≡ get_or xs k x → (y : Y) × (slice_get ys k ≡ Some y) × (f x ≡ Some y)

@@ -4,7 +4,7 @@ use Rattle.cil_specs.specs.Names.{Word}
 use Rattle.cil_specs.specs.Expr as exprs
 use Rattle.cil_specs.specs.Expr.{every, named, opposite, both, either, one_of, nothing, elements, leaves}
 use Rattle.cil_specs.specs.Statements as spec
-use Rattle.cil_specs.specs.Statements.{allow, auditallow, dontaudit, neverallow, itself, the_named, Form, block, optional, type_name, type_alias, alias_actual, type_attribute, attribute_set, common, class, class_common, class_order, rule, target_words}
+use Rattle.cil_specs.specs.Statements.{allow, auditallow, dontaudit, neverallow, itself, the_named, Form, block, optional, type_name, type_alias, alias_actual, type_attribute, attribute_set, common, class, class_common, class_order, class_permission, class_permission_set, rule, ClassPermissions, anonymous, by_name, target_words}
 use Rattle.cil_text.specs.declared.statement.RuleKind as code
 use Rattle.cil_text.specs.declared.statement.RuleKind.TheVariants.{Allow, AuditAllow, DontAudit, NeverAllow}
 use Rattle.cil_parse.specs.declared.row.SetNode.{SetNode}
@@ -51,8 +51,17 @@ kind_of (common id permissions) = kinds.Common
 kind_of (class id permissions) = kinds.Class
 kind_of (class_common the_class the_common) = kinds.ClassCommon
 kind_of (class_order classes) = kinds.ClassOrder
-kind_of (rule kind source itself the_class permissions) = kinds.RuleToSelf (rule_kind kind)
-kind_of (rule kind source (the_named word) the_class permissions) = kinds.Rule (rule_kind kind)
+kind_of (class_permission id) = kinds.ClassPermission
+kind_of (class_permission_set set the_class permissions) = kinds.ClassPermissionSet
+kind_of (rule kind source itself (anonymous the_class permissions)) = kinds.RuleToSelf (rule_kind kind)
+kind_of (rule kind source (the_named word) (anonymous the_class permissions)) = kinds.Rule (rule_kind kind)
+kind_of (rule kind source itself (by_name set)) = kinds.RuleToSelfOfSet (rule_kind kind)
+kind_of (rule kind source (the_named word) (by_name set)) = kinds.RuleOfSet (rule_kind kind)
+
+-- the names of a rule's permissions: a class and those of it, or a permission set
+abbrev pub words_with : ClassPermissions → List Word
+words_with (anonymous the_class permissions) = the_class ∷ leaves permissions
+words_with (by_name set) = set ∷ []
 
 -- the names, references and permissions, in the order of the text
 abbrev pub words_in : Form → List Word
@@ -67,7 +76,9 @@ words_in (common id permissions) = id ∷ permissions
 words_in (class id permissions) = id ∷ permissions
 words_in (class_common the_class the_common) = the_class ∷ the_common ∷ []
 words_in (class_order classes) = classes
-words_in (rule kind source target the_class permissions) = source ∷ (target_words target ++ the_class ∷ leaves permissions)
+words_in (class_permission id) = id ∷ []
+words_in (class_permission_set set the_class permissions) = set ∷ words_with (anonymous the_class permissions)
+words_in (rule kind source target permissions) = source ∷ (target_words target ++ words_with permissions)
 
 -- whether an expression is a plain list of names: none of its elements is an expression of another sort
 abbrev pub is_plain : {leaf : Type 0} → exprs.Expr leaf → Bool
@@ -79,14 +90,20 @@ is_plain _ = false
 abbrev pub permission_nodes : exprs.WordExpr → List SetNode
 permission_nodes expr = if is_plain expr then [] else expr_nodes expr
 
+abbrev pub nodes_with : ClassPermissions → List SetNode
+nodes_with (anonymous the_class permissions) = permission_nodes permissions
+nodes_with (by_name set) = []
+
 abbrev pub nodes_in : Form → List SetNode
 nodes_in (attribute_set attribute expr) = expr_nodes expr
-nodes_in (rule kind source target the_class permissions) = permission_nodes permissions
+nodes_in (class_permission_set set the_class permissions) = permission_nodes permissions
+nodes_in (rule kind source target permissions) = nodes_with permissions
 nodes_in _ = []
 
 -- the permissions that a statement names
 abbrev pub permissions_in : Form → List Word
 permissions_in (common id permissions) = permissions
 permissions_in (class id permissions) = permissions
-permissions_in (rule kind source target the_class permissions) = leaves permissions
+permissions_in (class_permission_set set the_class permissions) = leaves permissions
+permissions_in (rule kind source target (anonymous the_class permissions)) = leaves permissions
 permissions_in _ = []

@@ -11,6 +11,7 @@ use Rattle.cil_parse.specs.declared.row.StatementKind.TheVariants as kinds
 abbrev pub permission_words : {W : Type 0} → StatementKind → List W → List W
 permission_words kinds.Common words = drop 1 words
 permission_words kinds.Class words = drop 1 words
+permission_words kinds.ClassPermissionSet words = drop 2 words
 permission_words (kinds.Rule kind) words = drop 3 words
 permission_words (kinds.RuleToSelf kind) words = drop 2 words
 permission_words _ words = []

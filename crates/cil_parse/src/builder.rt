@@ -1,8 +1,8 @@
 //! Going over the statements of a module.
 
 ghost use Rattle.std.specs.Prelude.{◌≡◌, ◌<◌, ◌≤◌, ◌∷◌, ◌++◌, [], length, map, false, IsTrue, IfOk, IfErr, OnOk};
-ghost use Rattle.cil_parse.specs.Common.{target_words, rule, IsFirstShapeFault, place_of, word_of, target_of, rule_kind_of, expr_of, statements_of, trees_of, FaultIs, forest_of, expr_nodes, kind_of, IsAt, Adds, AddsExpr, AddsNamesInFront, AddsPermissions, AddsForm, Closes, Puts, Places, top, is_plain, name_nodes, permission_nodes};
-ghost use Rattle.cil_specs.specs.Expr.{WordExpr, leaves};
+ghost use Rattle.cil_parse.specs.Common.{target_words, rule, IsFirstShapeFault, place_of, word_of, target_of, rule_kind_of, expr_of, permissions_of, statements_of, trees_of, FaultIs, forest_of, expr_nodes, kind_of, IsAt, Adds, AddsExpr, AddsNamesInFront, AddsPermissions, AddsForm, Closes, Puts, Places, top, is_plain, name_nodes, permission_nodes, words_with, nodes_with};
+ghost use Rattle.cil_specs.specs.Expr.{leaves};
 ghost use Rattle.cil_specs.specs.Names.{Word as SpecWord};
 ghost use Rattle.cil_specs.specs.Trees.{are_lists};
 ghost use Rattle.cil_text.specs.Form.{form_of, at_of};
@@ -15,7 +15,8 @@ use crate::lists::Lists;
 use crate::row::{Around, NumberedWord, Row, SetNode, StatementKind};
 use cil_names::{Seed, in_32_bits};
 use cil_text::{
-    Expr, Forest, Place, RuleKind, Statement, Target, TextFault, TreeSlice, Word, next_statement,
+    ClassPermissions, Expr, Forest, Place, RuleKind, Statement, Target, TextFault, TreeSlice, Word,
+    next_statement,
 };
 use std::alloc::{AllocError, Allocator, Global};
 
@@ -203,21 +204,60 @@ impl<'a, A: Allocator + Copy> Builder<'a, A> {
         Ok(())
     }
 
-    fn rule(
+    /// A class and an expression of permissions of it.
+    fn of_class(&mut self, class: Word<'a>, permissions: &Expr<'a, A>) -> Result<(), AllocError>
+        ensures { OnOk result (Adds self.old self.new
+            (word_of class.entry ∷ leaves (expr_of permissions.now))
+            (permission_nodes (expr_of permissions.now))) }
+    {
+        self.word(class)?;
+        self.permissions(permissions)?;
+        Ok(())
+    }
+
+    fn permission_set(
         &mut self,
-        source: Word<'a>,
-        target: Target<'a>,
+        set: Word<'a>,
         class: Word<'a>,
         permissions: &Expr<'a, A>,
     ) -> Result<(), AllocError>
         ensures { OnOk result (Adds self.old self.new
-            (word_of source.entry ∷ (target_words (target_of target.entry) ++ word_of class.entry ∷ leaves (expr_of permissions.now)))
+            (word_of set.entry ∷ word_of class.entry ∷ leaves (expr_of permissions.now))
             (permission_nodes (expr_of permissions.now))) }
+    {
+        self.word(set)?;
+        self.of_class(class, permissions)?;
+        Ok(())
+    }
+
+    /// A class and permissions of it, or the name of a permission set.
+    fn rule_permissions(&mut self, permissions: &ClassPermissions<'a, A>) -> Result<(), AllocError>
+        ensures { OnOk result (Adds self.old self.new
+            (words_with (permissions_of permissions.now))
+            (nodes_with (permissions_of permissions.now))) }
+    {
+        match permissions {
+            ClassPermissions::Anonymous { class, permissions } => {
+                self.of_class(*class, permissions)
+            }
+            ClassPermissions::Named(set) => self.word(*set),
+        }
+    }
+
+    fn rule(
+        &mut self,
+        source: Word<'a>,
+        target: Target<'a>,
+        permissions: &ClassPermissions<'a, A>,
+    ) -> Result<(), AllocError>
+        ensures { OnOk result (Adds self.old self.new
+            (word_of source.entry
+            ∷ (target_words (target_of target.entry) ++ words_with (permissions_of permissions.now)))
+            (nodes_with (permissions_of permissions.now))) }
     {
         self.word(source)?;
         self.target(target)?;
-        self.word(class)?;
-        self.permissions(permissions)?;
+        self.rule_permissions(permissions)?;
         Ok(())
     }
 
@@ -257,13 +297,19 @@ impl<'a, A: Allocator + Copy> Builder<'a, A> {
             } => self.listed(*id, permissions),
             Statement::ClassCommon { class, common, .. } => self.pair(*class, *common),
             Statement::ClassOrder { classes, .. } => self.words(classes),
-            Statement::Rule {
-                source,
-                target,
+            Statement::ClassPermission { id, .. } => self.word(*id),
+            Statement::ClassPermissionSet {
+                set,
                 class,
                 permissions,
                 ..
-            } => self.rule(*source, *target, *class, permissions),
+            } => self.permission_set(*set, *class, permissions),
+            Statement::Rule {
+                source,
+                target,
+                permissions,
+                ..
+            } => self.rule(*source, *target, permissions),
         }
     }
 
@@ -364,17 +410,26 @@ fn at<A: Allocator>(statement: &Statement<A>) -> Place
         | Statement::Class { at, .. }
         | Statement::ClassCommon { at, .. }
         | Statement::ClassOrder { at, .. }
+        | Statement::ClassPermission { at, .. }
+        | Statement::ClassPermissionSet { at, .. }
         | Statement::Rule { at, .. } => *at,
     }
 }
 
-/// The kind of a rule with this target.
-fn rule_kind(kind: RuleKind, target: &Target) -> StatementKind
-    ensures { (source the_class : SpecWord) (permissions : WordExpr) → result ≡ kind_of (rule (rule_kind_of kind) source (target_of target.now) the_class permissions) }
+/// The kind of a rule with this target and these permissions.
+fn rule_kind<A: Allocator>(
+    kind: RuleKind,
+    target: &Target,
+    permissions: &ClassPermissions<'_, A>,
+) -> StatementKind
+    ensures { (source : SpecWord) → result ≡ kind_of (rule (rule_kind_of kind) source
+        (target_of target.now) (permissions_of permissions.now)) }
 {
-    match target {
-        Target::Itself => StatementKind::RuleToSelf(kind),
-        Target::Named(_) => StatementKind::Rule(kind),
+    match (target, permissions) {
+        (Target::Named(_), ClassPermissions::Anonymous { .. }) => StatementKind::Rule(kind),
+        (Target::Itself, ClassPermissions::Anonymous { .. }) => StatementKind::RuleToSelf(kind),
+        (Target::Named(_), ClassPermissions::Named(_)) => StatementKind::RuleOfSet(kind),
+        (Target::Itself, ClassPermissions::Named(_)) => StatementKind::RuleToSelfOfSet(kind),
     }
 }
 
@@ -393,6 +448,13 @@ fn kind<A: Allocator>(statement: &Statement<A>) -> StatementKind
         Statement::Class { .. } => StatementKind::Class,
         Statement::ClassCommon { .. } => StatementKind::ClassCommon,
         Statement::ClassOrder { .. } => StatementKind::ClassOrder,
-        Statement::Rule { kind, target, .. } => rule_kind(*kind, target),
+        Statement::ClassPermission { .. } => StatementKind::ClassPermission,
+        Statement::ClassPermissionSet { .. } => StatementKind::ClassPermissionSet,
+        Statement::Rule {
+            kind,
+            target,
+            permissions,
+            ..
+        } => rule_kind(*kind, target, permissions),
     }
 }

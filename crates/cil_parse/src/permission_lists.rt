@@ -42,7 +42,7 @@ pub fn permission_words(kind: StatementKind, words: &[NumberedWord]) -> &[Number
     match kind {
         StatementKind::Common | StatementKind::Class => behind(words, 1),
         StatementKind::Rule(_) => behind(words, 3),
-        StatementKind::RuleToSelf(_) => behind(words, 2),
+        StatementKind::ClassPermissionSet | StatementKind::RuleToSelf(_) => behind(words, 2),
         _ => behind(words, words.len()),
     }
 }

@@ -23,10 +23,16 @@ pub enum StatementKind {
     Class,
     ClassCommon,
     ClassOrder,
+    ClassPermission,
+    ClassPermissionSet,
     /// A rule whose target is a word.
     Rule(RuleKind),
     /// A rule whose target is `self`.
     RuleToSelf(RuleKind),
+    /// A rule whose target is a word, and whose permissions are those of a permission set.
+    RuleOfSet(RuleKind),
+    /// A rule whose target is `self`, and whose permissions are those of a permission set.
+    RuleToSelfOfSet(RuleKind),
 }
 
 /// A node of an expression of types or of permissions, in front of those of its operands. A list of elements is its first element and the others, or nothing.

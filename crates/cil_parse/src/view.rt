@@ -36,6 +36,7 @@ impl StatementKind {
             }
             StatementKind::Common => Some(Table::Commons),
             StatementKind::Class => Some(Table::Classes),
+            StatementKind::ClassPermission => Some(Table::PermissionSets),
             _ => None,
         }
     }
@@ -50,10 +51,16 @@ impl StatementKind {
             (StatementKind::ClassCommon, 0) => Some(Table::Classes),
             (StatementKind::ClassCommon, 1) => Some(Table::Commons),
             (StatementKind::ClassOrder, _) => Some(Table::Classes),
+            (StatementKind::ClassPermissionSet, 0) => Some(Table::PermissionSets),
+            (StatementKind::ClassPermissionSet, 1) => Some(Table::Classes),
             (StatementKind::Rule(_), 0 | 1) => Some(Table::Types),
             (StatementKind::Rule(_), 2) => Some(Table::Classes),
             (StatementKind::RuleToSelf(_), 0) => Some(Table::Types),
             (StatementKind::RuleToSelf(_), 1) => Some(Table::Classes),
+            (StatementKind::RuleOfSet(_), 0 | 1) => Some(Table::Types),
+            (StatementKind::RuleOfSet(_), 2) => Some(Table::PermissionSets),
+            (StatementKind::RuleToSelfOfSet(_), 0) => Some(Table::Types),
+            (StatementKind::RuleToSelfOfSet(_), 1) => Some(Table::PermissionSets),
             _ => None,
         }
     }

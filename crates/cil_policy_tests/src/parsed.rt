@@ -3,7 +3,7 @@
 use crate::policies::module_of;
 use crate::shown::shown;
 use SetNode::{All, And, Element, Name, Not, Nothing};
-use Table::{Classes, Scopes, Types};
+use Table::{Classes, PermissionSets, Scopes, Types};
 use cil_names::Seed;
 use cil_parse::{NumberedWord, ParsedModule, SetNode, StatementKind, StatementView, Table};
 use cil_text::{RuleKind, read};
@@ -11,7 +11,8 @@ use std::alloc::Global;
 use std::process::Abort;
 
 const TEXT: &[u8] = b"(class f (read))(block b (type t))
-(optional o (allow b.t .b.t (f (read))))(allow b.t self (f (read)))";
+(optional o (allow b.t .b.t (f (read))))(allow b.t self (f (read)))
+(classpermission t)(classpermissionset t (f (read)))(allow b.t .b.t t)(allow b.t self t)";
 
 // The text of a number.
 fn text_of(parsed: &ParsedModule, n: usize) -> &str {
@@ -55,11 +56,21 @@ const ALLOW: StatementKind = StatementKind::Rule(RuleKind::Allow);
 
 const ALLOW_SELF: StatementKind = StatementKind::RuleToSelf(RuleKind::Allow);
 
+const ALLOW_SET: StatementKind = StatementKind::RuleOfSet(RuleKind::Allow);
+
+const ALLOW_SET_SELF: StatementKind = StatementKind::RuleToSelfOfSet(RuleKind::Allow);
+
 const OF_RULE: &[Named<'static>] = &[(Types, "b.t"), (Types, ".b.t"), (Classes, "f")];
 
 const OF_SELF: &[Named<'static>] = &[(Types, "b.t"), (Classes, "f")];
 
-const STATEMENTS: [Told; 6] = [
+const OF_SET: &[Named<'static>] = &[(PermissionSets, "t"), (Classes, "f")];
+
+const OF_SET_RULE: &[Named<'static>] = &[(Types, "b.t"), (Types, ".b.t"), (PermissionSets, "t")];
+
+const OF_SET_SELF: &[Named<'static>] = &[(Types, "b.t"), (PermissionSets, "t")];
+
+const STATEMENTS: [Told; 10] = [
     (
         (0, 1, 0, 0, 2, 0),
         StatementKind::Class,
@@ -90,6 +101,22 @@ const STATEMENTS: [Told; 6] = [
     ),
     ((47, 2, 0, 4, 4, 0), ALLOW, None, OF_RULE, Some("read")),
     ((75, 2, 0, 0, 3, 0), ALLOW_SELF, None, OF_SELF, Some("read")),
+    (
+        (103, 3, 0, 0, 1, 0),
+        StatementKind::ClassPermission,
+        Some((PermissionSets, "t")),
+        &[],
+        None,
+    ),
+    (
+        (122, 3, 0, 0, 3, 0),
+        StatementKind::ClassPermissionSet,
+        None,
+        OF_SET,
+        Some("read"),
+    ),
+    ((155, 3, 0, 0, 3, 0), ALLOW_SET, None, OF_SET_RULE, None),
+    ((173, 3, 0, 0, 2, 0), ALLOW_SET_SELF, None, OF_SET_SELF, None),
 ];
 
 fn shape_seen(view: &StatementView<'_>) -> Shape {
@@ -128,18 +155,18 @@ fn has_numbers(parsed: &ParsedModule) -> bool {
         && shown(parsed.name(3)) == "t"
 }
 
-// The first of six statements that isn't such, if there is one, or six where the numbers of their
+// The first of ten statements that isn't such, if there is one, or ten where the numbers of their
 // words are others.
 fn wrong_statement(parsed: &ParsedModule) -> Option<usize> {
-    if parsed.len() != 6 {
+    if parsed.len() != 10 {
         return Some(parsed.len());
     }
-    for i in 0..6usize {
+    for i in 0..10usize {
         if !is_told(parsed, &parsed.statement(i), &STATEMENTS[i]) {
             return Some(i);
         }
     }
-    if has_numbers(parsed) { None } else { Some(6) }
+    if has_numbers(parsed) { None } else { Some(10) }
 }
 
 // Nodes stand in front of their operands.
@@ -159,11 +186,12 @@ fn has_nodes(parsed: &ParsedModule) -> bool {
 }
 
 const LISTS: &[u8] =
-    b"(class f (r w))(allow a a (f (r w)))(allow b b (f (w r)))(allow c self (f (r w)))(type t)";
+    b"(class f (r w))(allow a a (f (r w)))(allow b b (f (w r)))(allow c self (f (r w)))(type t)\n\
+    (classpermissionset s (f (w r)))(allow a a s)";
 
 // The same permissions in the same order have one number, and others another.
 fn has_permission_lists(parsed: &ParsedModule) -> bool {
-    if parsed.len() != 5 {
+    if parsed.len() != 7 {
         return false;
     }
     let first = parsed.permission_list(1);
@@ -172,6 +200,8 @@ fn has_permission_lists(parsed: &ParsedModule) -> bool {
         && parsed.permission_list(3) == first
         && parsed.permission_list(2) != first
         && parsed.permission_list(4) != first
+        && parsed.permission_list(5) == parsed.permission_list(2)
+        && parsed.permission_list(6) == parsed.permission_list(4)
 }
 
 #[test]

@@ -1,12 +1,20 @@
 //! What small policies resolve to.
 
 use crate::policies::resolved;
-use cil_resolve::{Element, ElementView, Meter, NameView, Resolved, RuleView, SetView, TargetView};
+use cil_resolve::{
+    ClassPermission, Element, ElementView, Meter, NameView, PermissionSetView, PermissionsView,
+    Resolved, ResolvedPermissions, RuleView, SetView, TargetView,
+};
 use cil_text::RuleKind;
 
 const CLASS_AND_TYPE: &[u8] = b"(class p (use))(type a)";
 
 const RULE: &[u8] = b"(allow a a (p (use)))";
+
+const PERMISSION_SETS: &[u8] = b"(class f (r w))(class g (x))(type a)(classpermission s)\
+(classpermissionset s (g (all)))(classpermissionset s (f (not (w))))";
+
+const RULES_OF_BOTH: &[u8] = b"(allow a a s)(allow a a (f (all)))";
 
 const SETS: &[u8] = b"(type a)(type b)(typeattribute s)(typeattribute n)\
 (typeattributeset n (not (s)))(typeattributeset s (a))";
@@ -49,15 +57,24 @@ fn has_class_and_type(policy: &Resolved) -> bool {
         && policy.class_permission(0, 0) == Some(b"use".as_slice())
 }
 
+// Whether permissions are one of the class p.
+fn is_one_of_class(view: PermissionsView<'_>) -> bool {
+    match view {
+        PermissionsView::OfClass { class, permissions } => {
+            class == b"p".as_slice() && permissions == 1
+        }
+        PermissionsView::OfSet(_) => false,
+    }
+}
+
 // Whether a rule of the module n allows a accesses to a by the class p and one permission.
 fn is_rule(view: &RuleView<'_>) -> bool {
     let a = b"a".as_slice();
     matches!(view.source, ElementView::Type(name) if name == a)
         && matches!(view.target, TargetView::Element(ElementView::Type(name)) if name == a)
         && view.module == b"n".as_slice()
-        && view.class == b"p".as_slice()
         && view.kind == RuleKind::Allow
-        && view.permissions == 1
+        && is_one_of_class(view.permissions)
 }
 
 // What is known of a rule: the names are a, p and use, and the rule's are numbers of these.
@@ -142,4 +159,74 @@ fn set_statements_in_the_order_of_dependence(rt: HostRuntime) {
     assert!(rt; same);
     let same = evaluated(&policy) == ([true, false, true], 3, 0);
     assert!(rt; same);
+}
+
+// Whether a statement of the module m gives the set s permissions of that class, and names so many.
+fn is_permission_set(view: Option<PermissionSetView<'_>>, class: &[u8], named: usize) -> bool {
+    match view {
+        Some(view) => {
+            view.module == b"m".as_slice()
+                && view.set == b"s".as_slice()
+                && view.class == class
+                && view.permissions == named
+        }
+        None => false,
+    }
+}
+
+// The two statements of the set, of which the second names a permission.
+fn has_permission_sets(policy: &Resolved) -> bool {
+    policy.permission_sets_len() == 2
+        && is_permission_set(policy.permission_set_at(0), b"g", 0)
+        && is_permission_set(policy.permission_set_at(1), b"f", 1)
+        && policy.permission_set_at(2).is_none()
+        && policy.permission_set_permission(1, 0) == Some(b"w".as_slice())
+        && policy.permission_set_permission(0, 0) == None
+}
+
+// Which of four permissions a rule permits: w and r of f, x of g and r of g.
+fn permitted(policy: &Resolved, rule: usize) -> [bool; 4] {
+    [
+        policy.permits(rule, b"f", b"w"),
+        policy.permits(rule, b"f", b"r"),
+        policy.permits(rule, b"g", b"x"),
+        policy.permits(rule, b"g", b"r"),
+    ]
+}
+
+// The names are a, f, g, r, s, w and x, and the set gives r of f and x of g.
+const GIVEN: &[ClassPermission] = &[
+    ClassPermission {
+        class: 1,
+        permission: 3,
+    },
+    ClassPermission {
+        class: 2,
+        permission: 6,
+    },
+];
+
+// Whether the first rule is one of the set s, and has what it gives.
+fn has_rule_of_set(policy: &Resolved) -> bool {
+    let (Some(rule), Some(view)) = (policy.rules().first(), policy.rule_at(0)) else {
+        return false;
+    };
+    let is_given = match &rule.permissions {
+        ResolvedPermissions::OfSet(set) => set.as_slice() == GIVEN,
+        ResolvedPermissions::OfClass(_) => false,
+    };
+    is_given
+        && matches!(view.permissions, PermissionsView::OfSet(set) if set == b"s".as_slice())
+        && policy.rule_permission(0, 0) == None
+}
+
+#[test]
+fn rules_of_a_permission_set_and_of_a_class(rt: HostRuntime) {
+    let policy = resolved(&rt, rt.alloc(), PERMISSION_SETS, RULES_OF_BOTH);
+    let same = has_permission_sets(&policy) && has_rule_of_set(&policy);
+    assert!(rt; same);
+    let of_both = [permitted(&policy, 0), permitted(&policy, 1)];
+    assert!(rt; of_both == [[false, true, true, false], [true, true, false, false]]);
+    let of_none = permitted(&policy, 2);
+    assert!(rt; of_none == [false, false, false, false]);
 }

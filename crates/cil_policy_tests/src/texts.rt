@@ -1,7 +1,9 @@
 //! Texts that are read and recognised.
 
 use crate::shown::shown;
-use cil_text::{Expr, Module, RuleKind, Statement, Target, Tree, TreeSlice, Word, read, shape};
+use cil_text::{
+    ClassPermissions, Expr, Module, RuleKind, Statement, Target, Tree, TreeSlice, Word, read, shape,
+};
 use std::alloc::Global;
 use std::process::Abort;
 
@@ -82,12 +84,30 @@ fn form(statement: &Statement<'_>) -> &'static str {
         Statement::Class { .. } => "class",
         Statement::ClassCommon { .. } => "classcommon",
         Statement::ClassOrder { .. } => "classorder",
+        Statement::ClassPermission { .. } => "classpermission",
+        Statement::ClassPermissionSet { .. } => "classpermissionset",
         Statement::Rule { kind, .. } => match kind {
             RuleKind::Allow => "allow",
             RuleKind::AuditAllow => "auditallow",
             RuleKind::DontAudit => "dontaudit",
             RuleKind::NeverAllow => "neverallow",
         },
+    }
+}
+
+// The target of a rule.
+fn target_name<'a>(target: &Target<'a>) -> Name<'a> {
+    match target {
+        Target::Itself => ("self", 0),
+        Target::Named(word) => seen(word),
+    }
+}
+
+// The class or the permission set of a rule.
+fn permissions_name<'a>(permissions: &ClassPermissions<'a>) -> Name<'a> {
+    match permissions {
+        ClassPermissions::Anonymous { class, .. } => seen(class),
+        ClassPermissions::Named(set) => seen(set),
     }
 }
 
@@ -100,23 +120,23 @@ fn names<'a>(statement: &Statement<'a>) -> [Name<'a>; 3] {
         | Statement::TypeAlias { id, .. }
         | Statement::TypeAttribute { id, .. }
         | Statement::Common { id, .. }
-        | Statement::Class { id, .. } => [seen(id), NONE, NONE],
+        | Statement::Class { id, .. }
+        | Statement::ClassPermission { id, .. } => [seen(id), NONE, NONE],
         Statement::TypeAliasActual { alias, actual, .. } => [seen(alias), seen(actual), NONE],
         Statement::TypeAttributeSet { attribute, .. } => [seen(attribute), NONE, NONE],
         Statement::ClassCommon { class, common, .. } => [seen(class), seen(common), NONE],
         Statement::ClassOrder { .. } => [NONE, NONE, NONE],
+        Statement::ClassPermissionSet { set, class, .. } => [seen(set), seen(class), NONE],
         Statement::Rule {
             source,
             target,
-            class,
+            permissions,
             ..
-        } => {
-            let target = match target {
-                Target::Itself => ("self", 0),
-                Target::Named(word) => seen(word),
-            };
-            [seen(source), target, seen(class)]
-        }
+        } => [
+            seen(source),
+            target_name(target),
+            permissions_name(permissions),
+        ],
     }
 }
 
@@ -144,7 +164,11 @@ fn listed_at<'a>(statement: &Statement<'a>, i: usize) -> Name<'a> {
         Statement::Common { permissions, .. } | Statement::Class { permissions, .. } => {
             name_at(permissions.as_slice(), i)
         }
-        Statement::Rule { permissions, .. } => element_at(permissions, i),
+        Statement::ClassPermissionSet { permissions, .. }
+        | Statement::Rule {
+            permissions: ClassPermissions::Anonymous { permissions, .. },
+            ..
+        } => element_at(permissions, i),
         Statement::ClassOrder { classes, .. } => name_at(classes.as_slice(), i),
         _ => NONE,
     }
@@ -189,7 +213,8 @@ fn shaped<'a>(rt: &impl Abort, alloc: Global, text: &'a [u8]) -> Module<'a> {
 const FORMS_TEXT: &[u8] =
     b"(block a)(optional b)(type c)(typealias d)(typealiasactual e f)(typeattribute g)\n\
     (typeattributeset h all)(common i ())(class j ())(classcommon k l)(classorder (unordered m))\n\
-    (allow n o (p ()))(auditallow .q r (s ()))(dontaudit t.u v (w ()))(neverallow x y (z ()))";
+    (allow n o (p ()))(auditallow .q r (s ()))(dontaudit t.u v (w ()))(neverallow x y (z ()))\n\
+    (classpermission a)(classpermissionset b (c ()))(allow d e f)(dontaudit g self .h)";
 
 const FORMS: &[Said<'static>] = &[
     ("block", &[("a", 7)], &[]),
@@ -207,11 +232,20 @@ const FORMS: &[Said<'static>] = &[
     ("auditallow", &[(".q", 204), ("r", 207), ("s", 210)], &[]),
     ("dontaudit", &[("t.u", 227), ("v", 231), ("w", 234)], &[]),
     ("neverallow", &[("x", 252), ("y", 254), ("z", 257)], &[]),
+    ("classpermission", &[("a", 281)], &[]),
+    ("classpermissionset", &[("b", 303), ("c", 306)], &[]),
+    ("allow", &[("d", 319), ("e", 321), ("f", 323)], &[]),
+    (
+        "dontaudit",
+        &[("g", 336), ("self", 0), (".h", 343)],
+        &[],
+    ),
 ];
 
 // Statements with names in lists, and a rule to itself.
 const LISTS_TEXT: &[u8] =
-    b"(allow a b (c (d e)))(auditallow a self (c ()))(common e (f))(class g (h i))(classcommon c .d)";
+    b"(allow a b (c (d e)))(auditallow a self (c ()))(common e (f))(class g (h i))(classcommon c .d)\n\
+    (classpermissionset k (l (m n)))";
 
 const OF_LISTS: &[Said<'static>] = &[
     (
@@ -223,6 +257,11 @@ const OF_LISTS: &[Said<'static>] = &[
     ("common", &[("e", 55)], &[("f", 58)]),
     ("class", &[("g", 68)], &[("h", 71), ("i", 73)]),
     ("classcommon", &[("c", 89), (".d", 91)], &[]),
+    (
+        "classpermissionset",
+        &[("k", 115), ("l", 118)],
+        &[("m", 121), ("n", 123)],
+    ),
 ];
 
 const NESTED_TEXT: &[u8] = b"(block a (optional b (type c)) (type d))";

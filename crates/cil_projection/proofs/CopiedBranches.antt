@@ -11,7 +11,7 @@ use Rattle.cil_specs.specs.Trees.{Trees, none, a_word, a_string, a_list, are_lis
 use Rattle.cil_specs.specs.Shape.{is_among}
 use Rattle.cil_specs.proofs.Runs.{both_true}
 use Rattle.cil_projection.specs.declared.table.Table.TheVariants.{Booleans, Tunables}
-use Rattle.cil_projection.specs.Pieces.{Piece, copied, blanked, taken, declared, needed, a_class, opened, permission, closed}
+use Rattle.cil_projection.specs.Pieces.{Piece, copied, blanked, taken, declared, needed, a_class, a_permission_set, opened, permission, closed}
 use Rattle.cil_projection.specs.Forms.{joined, truth_word}
 use Rattle.cil_projection.specs.Conditions.{Settings, are_branches, branch_value, differ, first_value, list_value}
 use Rattle.cil_projection.specs.Statements.{behind_first, branch_projected, branches_need, chosen, condition_names, condition_value, conditional, is_taken, kept_branches, kept_rules, projected, rules, tunable_projected, value_for}
@@ -29,6 +29,7 @@ copies-append (taken keyword ∷ xs) ys = copies-append xs ys
 copies-append (declared table name ∷ xs) ys = copies-append xs ys
 copies-append (needed table name ∷ xs) ys = copies-append xs ys
 copies-append (a_class name ∷ xs) ys = copies-append xs ys
+copies-append (a_permission_set name ∷ xs) ys = copies-append xs ys
 copies-append (opened name ∷ xs) ys = copies-append xs ys
 copies-append (permission name ∷ xs) ys = copies-append xs ys
 copies-append (closed ∷ xs) ys = copies-append xs ys
@@ -52,6 +53,7 @@ no_copies (taken keyword ∷ pieces) h = no_copies pieces h
 no_copies (declared table name ∷ pieces) h = no_copies pieces h
 no_copies (needed table name ∷ pieces) h = no_copies pieces h
 no_copies (a_class name ∷ pieces) h = no_copies pieces h
+no_copies (a_permission_set name ∷ pieces) h = no_copies pieces h
 no_copies (opened name ∷ pieces) h = no_copies pieces h
 no_copies (permission name ∷ pieces) h = no_copies pieces h
 no_copies (closed ∷ pieces) h = no_copies pieces h

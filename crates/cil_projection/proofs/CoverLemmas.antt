@@ -9,7 +9,7 @@ use Rattle.cil_specs.specs.Trees.{Trees, Reads, none, a_word, a_string, a_list}
 use Rattle.cil_specs.specs.Shape.{is_among}
 use Rattle.cil_projection.specs.declared.table.Table.TheVariants.{Booleans, Tunables}
 use Rattle.cil_projection.specs.declared.part.Part.{Part}
-use Rattle.cil_projection.specs.Pieces.{Piece, copied, blanked, taken, declared, needed, a_class, opened, permission, closed, attribute_of, part_of, rendered, spelled}
+use Rattle.cil_projection.specs.Pieces.{Piece, copied, blanked, taken, declared, needed, a_class, a_permission_set, opened, permission, closed, attribute_of, part_of, rendered, spelled}
 use Rattle.cil_projection.specs.Forms.{fit, fitting, forms, joined, name_or_operator, names_in, or_else, taken_by}
 use Rattle.cil_projection.specs.Conditions.{Settings, are_branches, containers, list_value}
 use Rattle.cil_projection.specs.Statements.{behind_first, between, body_projected, branch_projected, branches_need, by_names, chosen, condition_names, condition_value, conditional, inner_projected, is_taken, kept_branches, kept_rules, one_projected, or_copied, projected, rules, statement, tunable_projected, value_for}
@@ -33,6 +33,8 @@ plain_spelled text (needed table name) h =
     (one_line_append (codes "(dontaudit ") (attribute_of table name) refl (one_line_attribute table name h)) refl
 plain_spelled text (a_class name) h =
     one_line_append (codes "(dontaudit cilsem__none self (" ++ name) (codes " ()))") (one_line_append (codes "(dontaudit cilsem__none self (") name refl h) refl
+plain_spelled text (a_permission_set name) h =
+    one_line_append (codes "(dontaudit cilsem__none self " ++ name) (codes ")") (one_line_append (codes "(dontaudit cilsem__none self ") name refl h) refl
 plain_spelled text (opened name) h =
     one_line_append (codes "(dontaudit cilsem__none self (" ++ name) (codes " (") (one_line_append (codes "(dontaudit cilsem__none self (") name refl h) refl
 plain_spelled text (permission name) h = one_line_append name (codes " ") h refl

@@ -190,10 +190,10 @@ form_keyword (block id) at place end operands inner rest fits h k =
     ap (λ operands. has_keywords (a_list at end (a_word place (codes "block") operands) rest)) fits.0 ∙ both_true _ _ h k
 form_keyword (optional id) at place end operands inner rest fits h k =
     ap (λ operands. has_keywords (a_list at end (a_word place (codes "optional") operands) rest)) fits.0 ∙ both_true _ _ h k
-form_keyword (rule allow source target the_class permissions) at place end operands inner rest fits h k = plain_keyword at place end (codes "allow") operands rest refl refl k
-form_keyword (rule auditallow source target the_class permissions) at place end operands inner rest fits h k = plain_keyword at place end (codes "auditallow") operands rest refl refl k
-form_keyword (rule dontaudit source target the_class permissions) at place end operands inner rest fits h k = plain_keyword at place end (codes "dontaudit") operands rest refl refl k
-form_keyword (rule neverallow source target the_class permissions) at place end operands inner rest fits h k = plain_keyword at place end (codes "neverallow") operands rest refl refl k
+form_keyword (rule allow source target permissions) at place end operands inner rest fits h k = plain_keyword at place end (codes "allow") operands rest refl refl k
+form_keyword (rule auditallow source target permissions) at place end operands inner rest fits h k = plain_keyword at place end (codes "auditallow") operands rest refl refl k
+form_keyword (rule dontaudit source target permissions) at place end operands inner rest fits h k = plain_keyword at place end (codes "dontaudit") operands rest refl refl k
+form_keyword (rule neverallow source target permissions) at place end operands inner rest fits h k = plain_keyword at place end (codes "neverallow") operands rest refl refl k
 form_keyword form at place end operands inner rest fits h k = plain_keyword at place end (first_word form) operands rest refl refl k
 
 -- trees that spell statements are such

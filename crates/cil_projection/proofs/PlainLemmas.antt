@@ -16,7 +16,7 @@ use Rattle.cil_projection.specs.declared.operand.Operand.TheVariants as operands
 use Rattle.cil_projection.specs.declared.part.Part.{Part}
 use Rattle.cil_projection.specs.declared.part.Part.TheVariants as parts
 use Rattle.cil_projection.specs.declared.part.Part.TheVariants.{Declared, Name, Target, Expression, Names, Truth, Ignored, Classes, ClassPermissions, Context, PerhapsContext, Range, Level, Address, ExtendedPermission, Constraint}
-use Rattle.cil_projection.specs.Pieces.{Piece, copied, blanked, taken, declared, needed, a_class, opened, permission, closed}
+use Rattle.cil_projection.specs.Pieces.{Piece, copied, blanked, taken, declared, needed, a_class, a_permission_set, opened, permission, closed}
 use Rattle.cil_projection.specs.Forms.{class_permissions, classes_in, compared, compared_list, comparison, comparisons, connectives, constraint, constraints, expression_names, expression_needs, fit, has_no_string, inner_parts, joined, level, level_compared, level_variables, listed, listed_names, name_or_operator, names_in, of_list, of_operand, of_string, of_word, operands_in, operation, operators, or_else, permissions_in, truth_word, unless_variable, variable}
 use Rattle.cil_projection.specs.Conditions.{Settings}
 use Rattle.cil_projection.specs.Statements.{branch_needs, branches, branches_need, condition_names, is_taken, rule_needs, rules, rules_need, type_rule_needs, type_rules}
@@ -36,6 +36,7 @@ module _ (good : List ℕ → Bool) where
   is_plain (declared table name) = good name
   is_plain (needed table name) = good name
   is_plain (a_class name) = good name
+  is_plain (a_permission_set name) = good name
   is_plain (opened name) = good name
   is_plain (permission name) = good name
   is_plain closed = true
@@ -176,7 +177,7 @@ module _ (good : List ℕ → Bool) where
   plain_of_word (Expression table) word h = plain_name table word h
   plain_of_word Truth word h = plain_truth (truth_word word)
   plain_of_word Ignored word h = refl
-  plain_of_word ClassPermissions word h = refl
+  plain_of_word ClassPermissions word h = plain_one (a_permission_set word) h
   plain_of_word Constraint word h = refl
   plain_of_word part word h = both_true (good word) true h refl
 

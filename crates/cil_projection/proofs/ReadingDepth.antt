@@ -5,7 +5,7 @@ use Rattle.std.proofs.Common.{arith}
 use Rattle.cil_specs.specs.Trees.{Trees, none, a_word, a_string, a_list}
 use Rattle.cil_specs.specs.Shape.{is_among}
 use Rattle.cil_projection.specs.declared.table.Table.TheVariants.{Tunables}
-use Rattle.cil_projection.specs.Pieces.{Piece, copied, blanked, taken, declared, needed, a_class, opened, permission, closed}
+use Rattle.cil_projection.specs.Pieces.{Piece, copied, blanked, taken, declared, needed, a_class, a_permission_set, opened, permission, closed}
 use Rattle.cil_projection.specs.Forms.{name_or_operator, names_in}
 use Rattle.cil_projection.specs.Conditions.{Settings, containers, list_value}
 use Rattle.cil_projection.specs.Statements.{rules, is_taken, condition_value, behind_first, statement, value_for}
@@ -39,6 +39,7 @@ permissions_depth (taken keyword ∷ pieces) = omega arith
 permissions_depth (declared table name ∷ pieces) = omega arith
 permissions_depth (needed table name ∷ pieces) = omega arith
 permissions_depth (a_class name ∷ pieces) = omega arith
+permissions_depth (a_permission_set name ∷ pieces) = omega arith
 permissions_depth (opened name ∷ pieces) = omega arith
 permissions_depth (permission name ∷ pieces) = permissions_depth pieces
 permissions_depth (closed ∷ pieces) = omega arith
@@ -51,6 +52,7 @@ made_depth (taken keyword ∷ pieces) = made_depth pieces
 made_depth (declared table name ∷ pieces) = omega (arith, made_depth pieces)
 made_depth (needed table name ∷ pieces) = omega (arith, made_depth pieces)
 made_depth (a_class name ∷ pieces) = omega (arith, made_depth pieces)
+made_depth (a_permission_set name ∷ pieces) = omega (arith, made_depth pieces)
 made_depth (opened name ∷ pieces) = omega (arith, made_depth pieces, permissions_depth pieces)
 made_depth (permission name ∷ pieces) = made_depth pieces
 made_depth (closed ∷ pieces) = made_depth pieces

@@ -5,7 +5,7 @@ use Rattle.std.proofs.lemmas.List.Folds.{list_all-append}
 use Rattle.cil_specs.proofs.Runs.{ends-closing, ends-opening, both_true, first_true, second_true}
 use Rattle.cil_projection.specs.declared.table.Table.{Table}
 use Rattle.cil_projection.specs.declared.table.Table.TheVariants.{Types, Roles, Users, Booleans, Tunables, Categories, Sensitivities, Levels, Ranges, Contexts, Sids, Addresses, ExtendedPermissions}
-use Rattle.cil_projection.specs.Pieces.{Piece, copied, blanked, taken, declared, needed, a_class, opened, permission, closed, attribute_of, is_dotted, last_component, prefix, rendered, spelled}
+use Rattle.cil_projection.specs.Pieces.{Piece, copied, blanked, taken, declared, needed, a_class, a_permission_set, opened, permission, closed, attribute_of, is_dotted, last_component, prefix, rendered, spelled}
 use Rattle.cil_projection.specs.Readings.{nowhere, made_trees, permissions_of}
 use Rattle.cil_projection.proofs.ComponentLemmas.{last_within}
 use Rattle.cil_projection.proofs.ReadingPieces.{AreMade}
@@ -185,6 +185,11 @@ module _ (text rest : List ℕ) where
       (word_at nowhere name ∷ opening_at nowhere ∷ closing_before 0 ∷ closing_before 0 ∷ closing_before 0 ∷ marks (made_trees pieces))
       (words name is refl (spaces (opens (closes (closes (closes more))))))))))))))
 
+  cut_set : (name : List ℕ) (pieces : List Piece) → IsWord name → CutPieces text false pieces rest → CutPieces text false (a_permission_set name ∷ pieces) rest
+  cut_set name pieces is more =
+      opens (words (codes "dontaudit") is_dontaudit refl (spaces (words (codes "cilsem__none") is_none refl (spaces (words (codes "self") is_self refl (spaces
+      (names name (codes ")") (rendered text pieces) rest (word_at nowhere name ∷ closing_before 0 ∷ marks (made_trees pieces)) (words name is refl (closes more)))))))))
+
   cut_opened : (name : List ℕ) (pieces : List Piece) → IsWord name → CutPieces text true pieces rest → CutPieces text false (opened name ∷ pieces) rest
   cut_opened name pieces is more =
       let inner : List Mark = marks (permissions_of pieces) in
@@ -210,6 +215,7 @@ module _ (text rest : List ℕ) where
   cut_pieces false (declared table name ∷ pieces) made = cut_declared table name pieces made.0 (cut_pieces false pieces made.1)
   cut_pieces false (needed table name ∷ pieces) made = cut_needed table name pieces made.0 (cut_pieces false pieces made.1)
   cut_pieces false (a_class name ∷ pieces) made = cut_class name pieces made.0 (cut_pieces false pieces made.1)
+  cut_pieces false (a_permission_set name ∷ pieces) made = cut_set name pieces made.0 (cut_pieces false pieces made.1)
   cut_pieces false (opened name ∷ pieces) made = cut_opened name pieces made.0 (cut_pieces true pieces made.1)
   cut_pieces false (permission name ∷ pieces) made = absurd made
   cut_pieces false (closed ∷ pieces) made = absurd made
@@ -219,6 +225,7 @@ module _ (text rest : List ℕ) where
   cut_pieces true (declared table name ∷ pieces) made = absurd made
   cut_pieces true (needed table name ∷ pieces) made = absurd made
   cut_pieces true (a_class name ∷ pieces) made = absurd made
+  cut_pieces true (a_permission_set name ∷ pieces) made = absurd made
   cut_pieces true (opened name ∷ pieces) made = absurd made
   cut_pieces true (permission name ∷ pieces) made = cut_permission name pieces made.0 (cut_pieces true pieces made.1)
   cut_pieces true (closed ∷ pieces) made = cut_closed pieces (cut_pieces false pieces made)

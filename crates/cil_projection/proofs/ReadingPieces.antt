@@ -11,7 +11,7 @@ use Rattle.cil_projection.specs.declared.operand.Operand.TheVariants as operands
 use Rattle.cil_projection.specs.declared.part.Part.{Part}
 use Rattle.cil_projection.specs.declared.part.Part.TheVariants as parts
 use Rattle.cil_projection.specs.declared.part.Part.TheVariants.{Declared, Name, Target, Expression, Names, Truth, Ignored, Classes, ClassPermissions, Context, PerhapsContext, Range, Level, Address, ExtendedPermission, Constraint}
-use Rattle.cil_projection.specs.Pieces.{Piece, copied, blanked, taken, declared, needed, a_class, opened, permission, closed}
+use Rattle.cil_projection.specs.Pieces.{Piece, copied, blanked, taken, declared, needed, a_class, a_permission_set, opened, permission, closed}
 use Rattle.cil_projection.specs.Forms.{joined, or_else, operators, name_or_operator, permission_or_operator, of_operand, operands_in, names_in, has_no_string, expression_names, listed_names, truth_word, classes_in, permissions_in, class_permissions, level, connectives, comparisons, level_variables, variable, unless_variable, compared, compared_list, level_compared, comparison, operation, constraints, constraint, of_word, inner_parts, of_list, of_string, fit}
 use Rattle.cil_projection.specs.Conditions.{Settings}
 use Rattle.cil_projection.specs.Statements.{rules, type_rules, branches, is_taken, type_rule_needs, rule_needs, rules_need, branch_needs, branches_need, condition_names}
@@ -24,6 +24,7 @@ AreMade Good false (taken keyword ∷ pieces) = AreMade Good false pieces
 AreMade Good false (declared table name ∷ pieces) = Good name × AreMade Good false pieces
 AreMade Good false (needed table name ∷ pieces) = Good name × AreMade Good false pieces
 AreMade Good false (a_class name ∷ pieces) = Good name × AreMade Good false pieces
+AreMade Good false (a_permission_set name ∷ pieces) = Good name × AreMade Good false pieces
 AreMade Good false (opened name ∷ pieces) = Good name × AreMade Good true pieces
 AreMade Good true (permission name ∷ pieces) = Good name × AreMade Good true pieces
 AreMade Good true (closed ∷ pieces) = AreMade Good false pieces
@@ -62,6 +63,7 @@ module _ (Good : List ℕ → Type 0) where
   made_append false (declared table name ∷ xs) ys made more = (made.0, made_append false xs ys made.1 more)
   made_append false (needed table name ∷ xs) ys made more = (made.0, made_append false xs ys made.1 more)
   made_append false (a_class name ∷ xs) ys made more = (made.0, made_append false xs ys made.1 more)
+  made_append false (a_permission_set name ∷ xs) ys made more = (made.0, made_append false xs ys made.1 more)
   made_append false (opened name ∷ xs) ys made more = (made.0, made_append true xs ys made.1 more)
   made_append false (permission name ∷ xs) ys made more = absurd made
   made_append false (closed ∷ xs) ys made more = absurd made
@@ -71,6 +73,7 @@ module _ (Good : List ℕ → Type 0) where
   made_append true (declared table name ∷ xs) ys made more = absurd made
   made_append true (needed table name ∷ xs) ys made more = absurd made
   made_append true (a_class name ∷ xs) ys made more = absurd made
+  made_append true (a_permission_set name ∷ xs) ys made more = absurd made
   made_append true (opened name ∷ xs) ys made more = absurd made
   made_append true (permission name ∷ xs) ys made more = (made.0, made_append true xs ys made.1 more)
   made_append true (closed ∷ xs) ys made more = made_append false xs ys made more
@@ -248,7 +251,7 @@ module _ (Good : List ℕ → Type 0) where
   word_made Level word good = (good, tt)
   word_made Address word good = (good, tt)
   word_made ExtendedPermission word good = (good, tt)
-  word_made ClassPermissions word good = tt
+  word_made ClassPermissions word good = (good, tt)
   word_made Constraint word good = tt
 
   perhaps_made : (items : Trees) (inner : Option (List Piece)) → MaybeMade Good inner → MaybeMade Good (of_list PerhapsContext items inner)

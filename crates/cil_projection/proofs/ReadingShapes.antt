@@ -6,7 +6,7 @@ use Rattle.std.proofs.lemmas.Bool.{true≢false}
 use Rattle.cil_specs.specs.Trees.{Trees, none, a_word, a_string, a_list, are_lists}
 use Rattle.cil_specs.specs.Shape.{is_among}
 use Rattle.cil_projection.specs.declared.table.Table.TheVariants.{Tunables}
-use Rattle.cil_projection.specs.Pieces.{Piece, copied, blanked, taken, declared, needed, a_class, opened, permission, closed}
+use Rattle.cil_projection.specs.Pieces.{Piece, copied, blanked, taken, declared, needed, a_class, a_permission_set, opened, permission, closed}
 use Rattle.cil_projection.specs.Forms.{name_or_operator, names_in}
 use Rattle.cil_projection.specs.Conditions.{Settings, containers, list_value}
 use Rattle.cil_projection.specs.Statements.{rules, is_taken, condition_value, behind_first, statement, value_for}
@@ -26,6 +26,7 @@ made_lists (taken keyword ∷ pieces) = made_lists pieces
 made_lists (declared table name ∷ pieces) = made_lists pieces
 made_lists (needed table name ∷ pieces) = made_lists pieces
 made_lists (a_class name ∷ pieces) = made_lists pieces
+made_lists (a_permission_set name ∷ pieces) = made_lists pieces
 made_lists (opened name ∷ pieces) = made_lists pieces
 made_lists (permission name ∷ pieces) = made_lists pieces
 made_lists (closed ∷ pieces) = made_lists pieces

@@ -10,7 +10,7 @@ use Rattle.cil_specs.specs.Trees.{Trees, none, a_word, a_string, a_list}
 use Rattle.cil_specs.specs.Shape.{is_among}
 use Rattle.cil_projection.specs.declared.part.Part.{Part}
 use Rattle.cil_projection.specs.declared.table.Table.TheVariants.{Booleans, Tunables}
-use Rattle.cil_projection.specs.Pieces.{Piece, copied, blanked, taken, declared, needed, a_class, opened, permission, closed}
+use Rattle.cil_projection.specs.Pieces.{Piece, copied, blanked, taken, declared, needed, a_class, a_permission_set, opened, permission, closed}
 use Rattle.cil_projection.specs.Forms.{joined, or_else, name_or_operator, names_in, fit, forms, fitting}
 use Rattle.cil_projection.specs.Conditions.{Settings, are_branches, containers, list_value}
 use Rattle.cil_projection.specs.Statements.{rules, is_taken, kept_rules, kept_branches, condition_names, condition_value, behind_first, branches_need, chosen, conditional, by_names, statement, or_copied, between, value_for, projected, one_projected, body_projected, tunable_projected, branch_projected, inner_projected}
@@ -43,6 +43,7 @@ module _ (settings : Settings) (trees : Trees) (size : ℕ) where
   made_sourced false (declared table name ∷ pieces) made = (tt, made_sourced false pieces made.1)
   made_sourced false (needed table name ∷ pieces) made = (tt, made_sourced false pieces made.1)
   made_sourced false (a_class name ∷ pieces) made = (tt, made_sourced false pieces made.1)
+  made_sourced false (a_permission_set name ∷ pieces) made = (tt, made_sourced false pieces made.1)
   made_sourced false (opened name ∷ pieces) made = (tt, made_sourced true pieces made.1)
   made_sourced false (permission name ∷ pieces) made = absurd made
   made_sourced false (closed ∷ pieces) made = absurd made
@@ -52,6 +53,7 @@ module _ (settings : Settings) (trees : Trees) (size : ℕ) where
   made_sourced true (declared table name ∷ pieces) made = absurd made
   made_sourced true (needed table name ∷ pieces) made = absurd made
   made_sourced true (a_class name ∷ pieces) made = absurd made
+  made_sourced true (a_permission_set name ∷ pieces) made = absurd made
   made_sourced true (opened name ∷ pieces) made = absurd made
   made_sourced true (permission name ∷ pieces) made = (tt, made_sourced true pieces made.1)
   made_sourced true (closed ∷ pieces) made = (tt, made_sourced false pieces made)

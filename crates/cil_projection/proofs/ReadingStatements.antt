@@ -9,7 +9,7 @@ use Rattle.cil_specs.specs.Place.{Place}
 use Rattle.cil_specs.specs.Trees.{Trees, none, a_word, a_string, a_list}
 use Rattle.cil_specs.specs.Shape.{is_among, keywords}
 use Rattle.cil_projection.specs.declared.table.Table.TheVariants.{Tunables}
-use Rattle.cil_projection.specs.Pieces.{Piece, copied, blanked, taken, declared, needed, a_class, opened, permission, closed}
+use Rattle.cil_projection.specs.Pieces.{Piece, copied, blanked, taken, declared, needed, a_class, a_permission_set, opened, permission, closed}
 use Rattle.cil_projection.specs.Forms.{name_or_operator, names_in}
 use Rattle.cil_projection.specs.Conditions.{Settings, containers, list_value}
 use Rattle.cil_projection.specs.Statements.{rules, is_taken, condition_value, behind_first, statement, value_for}
@@ -78,6 +78,9 @@ module _ (settings : Settings) (trees : Trees) (size : ℕ) (word : List ℕ) (a
   made_none (a_class name ∷ pieces) (inl h) = other_word (codes "dontaudit") refl h.0
   made_none (a_class name ∷ pieces) (inr (inl h)) = true≢false (sym h.0)
   made_none (a_class name ∷ pieces) (inr (inr h)) = made_none pieces h
+  made_none (a_permission_set name ∷ pieces) (inl h) = other_word (codes "dontaudit") refl h.0
+  made_none (a_permission_set name ∷ pieces) (inr (inl h)) = true≢false (sym h.0)
+  made_none (a_permission_set name ∷ pieces) (inr (inr h)) = made_none pieces h
   made_none (opened name ∷ pieces) (inl h) = other_word (codes "dontaudit") refl h.0
   made_none (opened name ∷ pieces) (inr (inl h)) = true≢false (sym h.0)
   made_none (opened name ∷ pieces) (inr (inr h)) = made_none pieces h

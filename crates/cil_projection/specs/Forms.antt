@@ -14,7 +14,7 @@ use Rattle.cil_projection.specs.declared.part.Part.TheVariants as parts
 use Rattle.cil_projection.specs.declared.part.Part.TheVariants.{Declared, Name, Target, Expression, Names, Truth, Ignored, Classes, ClassPermissions, Context, PerhapsContext, Range, Level, Address, ExtendedPermission, Constraint}
 use Rattle.cil_projection.specs.declared.piece.Piece as code
 use Rattle.cil_projection.specs.declared.kinds.TheConstants.{FORMS}
-use Rattle.cil_projection.specs.Pieces.{Piece, blanked, taken, declared, needed, a_class, opened, permission, closed, pieces_of}
+use Rattle.cil_projection.specs.Pieces.{Piece, blanked, taken, declared, needed, a_class, a_permission_set, opened, permission, closed, pieces_of}
 
 -- the pieces of one thing and then those of another, where both are there
 abbrev pub joined : Option (List Piece) → Option (List Piece) → Option (List Piece)
@@ -176,7 +176,7 @@ of_word Range word = Some (needed Ranges word ∷ [])
 of_word Level word = Some (needed Levels word ∷ [])
 of_word Address word = Some (needed Addresses word ∷ [])
 of_word ExtendedPermission word = Some (needed ExtendedPermissions word ∷ [])
-of_word ClassPermissions word = None
+of_word ClassPermissions word = Some (a_permission_set word ∷ [])
 of_word Constraint word = None
 
 -- what the trees of a list are that is such an argument

@@ -4,10 +4,10 @@ use Rattle.std.specs.List.{list_any}
 use Rattle.cil_projection.specs.declared.table.Table.{Table}
 use Rattle.cil_projection.specs.declared.table.Table.TheVariants.{Types, Roles, Users, Booleans, Tunables, Categories, Sensitivities, Levels, Ranges, Contexts, Sids, Addresses, ExtendedPermissions}
 use Rattle.cil_projection.specs.declared.piece.Piece as code
-use Rattle.cil_projection.specs.declared.piece.Piece.TheVariants.{Copied, Blanked, Taken, Declared, Needed, Class, Opened, Permission, Closed}
+use Rattle.cil_projection.specs.declared.piece.Piece.TheVariants.{Copied, Blanked, Taken, Declared, Needed, Class, PermissionSet, Opened, Permission, Closed}
 
 -- Bytes of the text as they are, or blanked; that a statement with this first word was taken by its names; a declaration of a name; a rule
--- that needs a name, or a class; the front of a rule that needs a class and permissions, each of them, and its end. Offsets are those of
+-- that needs a name, or a class, or a permission set; the front of a rule that needs a class and permissions, each of them, and its end. Offsets are those of
 -- the text.
 pub data Piece : Type 0 where
   copied : ℕ → ℕ → Piece
@@ -16,6 +16,7 @@ pub data Piece : Type 0 where
   declared : Table → List ℕ → Piece
   needed : Table → List ℕ → Piece
   a_class : List ℕ → Piece
+  a_permission_set : List ℕ → Piece
   opened : List ℕ → Piece
   permission : List ℕ → Piece
   closed : Piece
@@ -27,6 +28,7 @@ piece_of (Taken keyword) = taken keyword.now
 piece_of (Declared table name) = declared table name.now
 piece_of (Needed table name) = needed table name.now
 piece_of (Class name) = a_class name.now
+piece_of (PermissionSet name) = a_permission_set name.now
 piece_of (Opened the_class) = opened the_class.now
 piece_of (Permission name) = permission name.now
 piece_of Closed = closed
@@ -77,6 +79,7 @@ spelled text (taken keyword) = []
 spelled text (declared table name) = codes "(typeattribute " ++ attribute_of table name ++ codes ")"
 spelled text (needed table name) = codes "(dontaudit " ++ attribute_of table name ++ codes " cilsem__none (cilsem__none ()))"
 spelled text (a_class name) = codes "(dontaudit cilsem__none self (" ++ name ++ codes " ()))"
+spelled text (a_permission_set name) = codes "(dontaudit cilsem__none self " ++ name ++ codes ")"
 spelled text (opened the_class) = codes "(dontaudit cilsem__none self (" ++ the_class ++ codes " ("
 spelled text (permission name) = name ++ codes " "
 spelled text closed = codes ")))"

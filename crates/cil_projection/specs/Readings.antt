@@ -5,7 +5,7 @@ use Rattle.cil_specs.specs.Place.{Place}
 use Rattle.cil_specs.specs.Trees.{Trees, Reads, none, a_word, a_string, a_list}
 use Rattle.cil_specs.specs.Shape.{is_among}
 use Rattle.cil_projection.specs.declared.table.Table.TheVariants.{Tunables}
-use Rattle.cil_projection.specs.Pieces.{Piece, copied, declared, needed, a_class, opened, permission, attribute_of, rendered}
+use Rattle.cil_projection.specs.Pieces.{Piece, copied, declared, needed, a_class, a_permission_set, opened, permission, attribute_of, rendered}
 use Rattle.cil_projection.specs.Forms.{name_or_operator, names_in}
 use Rattle.cil_projection.specs.Conditions.{Settings, containers, list_value}
 use Rattle.cil_projection.specs.Statements.{behind_first, condition_value, is_taken, projected, rules, statement, value_for}
@@ -143,6 +143,8 @@ made_trees (declared table name ∷ pieces) = plain_list (plain_words (codes "ty
 made_trees (needed table name ∷ pieces) =
     needing (attribute_of table name ∷ codes "cilsem__none" ∷ []) (codes "cilsem__none") none (made_trees pieces)
 made_trees (a_class name ∷ pieces) = needing (codes "cilsem__none" ∷ codes "self" ∷ []) name none (made_trees pieces)
+made_trees (a_permission_set name ∷ pieces) =
+    plain_list (plain_words (codes "dontaudit" ∷ codes "cilsem__none" ∷ codes "self" ∷ name ∷ []) none) (made_trees pieces)
 made_trees (opened name ∷ pieces) = needing (codes "cilsem__none" ∷ codes "self" ∷ []) name (permissions_of pieces) (made_trees pieces)
 made_trees (piece ∷ pieces) = made_trees pieces
 

@@ -63,6 +63,10 @@ fn add_word<'a, A: Allocator>(
             pieces.push(Piece::Class { name })?;
             return Ok(true);
         }
+        Part::ClassPermissions => {
+            pieces.push(Piece::PermissionSet { name })?;
+            return Ok(true);
+        }
         Part::Expression(table) => {
             add_name(pieces, table, word)?;
             return Ok(true);
@@ -71,7 +75,7 @@ fn add_word<'a, A: Allocator>(
         Part::Target if name == b"self".as_slice() => return Ok(true),
         Part::Ignored => return Ok(true),
         Part::Name(_) if name == b"self".as_slice() => return Ok(false),
-        Part::ClassPermissions | Part::Constraint => return Ok(false),
+        Part::Constraint => return Ok(false),
         Part::Name(table) | Part::Names(table) => table,
         Part::Target => Table::Types,
         Part::Context | Part::PerhapsContext => Table::Contexts,

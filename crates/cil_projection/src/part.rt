@@ -21,7 +21,8 @@ pub enum Part {
     Class,
     /// A class, or a list of classes.
     Classes,
-    /// A class and a list of its permissions, with lists among them (CIL Reference Guide, "Expressions").
+    /// A class and a list that is an expression of its permissions (CIL Reference Guide, "Expressions"), or the name of a permission set
+    /// ("classpermission").
     ClassPermissions,
     /// A name of a context, or its user, role, type and range (CIL Reference Guide, "context").
     Context,

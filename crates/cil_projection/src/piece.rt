@@ -17,6 +17,8 @@ pub enum Piece<'a> {
     Needed { table: Table, name: &'a [u8] },
     /// A rule that needs the class and gives nothing.
     Class { name: &'a [u8] },
+    /// A rule that needs the permission set and gives nothing.
+    PermissionSet { name: &'a [u8] },
     /// The front of a rule that needs the class and permissions, and gives nothing.
     Opened { class: &'a [u8] },
     /// One of its permissions.

@@ -112,6 +112,12 @@ fn put_piece<A: Allocator>(
         Piece::Declared { table, name } => put_declared(out, table, name)?,
         Piece::Needed { table, name } => put_needed(out, table, name)?,
         Piece::Class { name } => put_three(out, b"(dontaudit cilsem__none self (", name, b" ()))")?,
+        Piece::PermissionSet { name } => put_three(
+            out,
+            b"(dontaudit cilsem__none self ",
+            name,
+            b")",
+        )?,
         Piece::Opened { class } => put_three(out, b"(dontaudit cilsem__none self (", class, b" (")?,
         Piece::Permission { name } => put_three(out, b"", name, b" ")?,
         Piece::Closed => out.extend_from_slice(b")))")?,

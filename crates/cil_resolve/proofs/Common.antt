@@ -23,16 +23,18 @@ pub use Rattle.cil_expression.specs.declared.expression.Element.TheVariants.{Att
 pub use Rattle.cil_parse.specs.Builder.{read}
 pub use Rattle.cil_parse.specs.Forms.{expr_nodes, kind_of, nodes_in, permissions_in, rule_kind, words_in}
 pub use Rattle.cil_parse.specs.Parsed.{permission_lists_of, texts_of}
-pub use Rattle.cil_resolve.specs.Below.{is_class_below, is_element_below, is_name_below, is_rule_below, is_set_below, is_target_below, is_written_below}
-pub use Rattle.cil_resolve.specs.Consistent.{are_placed_in, are_rules_of, is_aim_of, is_class_with, is_consistent, is_declared, is_element_of, is_rule_of}
+pub use Rattle.cil_resolve.specs.Below.{are_permissions_below, is_class_below, is_element_below, is_name_below, is_permission_below, is_permission_set_below, is_rule_below, is_set_below, is_target_below, is_written_below}
+pub use Rattle.cil_resolve.specs.Consistent.{are_permission_sets_of, are_permissions_of, are_placed_in, are_rules_of, is_aim_of, is_class_and_permissions_of, is_class_with, is_consistent, is_declared, is_element_of, is_rule_of}
 pub use Rattle.cil_resolve.specs.Dropped.{HaveMarks, dropped_if}
 pub use Rattle.cil_resolve.specs.FullNames.{full_name_of, full_name_or, is_numbered, is_numbered_kind, name_in, numbered_id, space_text}
 pub use Rattle.cil_resolve.specs.KnownPermissions.{HaveNumbers, KnowNumbers, known_at, list_at}
-pub use Rattle.cil_resolve.specs.Lowering.{AreElements, ArePartsOf, ArePermissions, AreRules, AreSets, HaveElements, IsClass, IsDeclared, IsElement, IsExpression, IsIn, IsLowering, IsRuleWith, IsRuleWritten, IsSpeltBy, attribute_if, class_if, common_in, common_of, is_set, modules_of, rule_if, set_if, type_if}
+pub use Rattle.cil_resolve.specs.Lowering.{AreElements, ArePartsOf, ArePermissionSets, ArePermissions, AreRules, AreSets, GivePermissions, GivesSet, HaveElements, IsClass, IsDeclared, IsElement, IsExpression, IsIn, IsLowering, IsPermissionSet, IsRule, IsRuleOfClass, IsRuleOfSet, IsRuleStart, IsSpeltBy, KnowSets, NamesPermissions, WritesPermissions, attribute_if, class_if, common_in, common_of, is_set, modules_of, permission_set_if, rule_if, rule_with, set_if, type_if}
 pub use Rattle.cil_resolve.specs.Numbering.{AreNamesOf, AreNumbersIn, HavePermissionsOf, HavePlaces, listed_names, names_of, names_with, number_in}
-pub use Rattle.cil_resolve.specs.Numbers.{GivesNumbered, class_of, declared_of, dropped_with, element_of, keeps_no_list, resolved_target_of, set_of}
+pub use Rattle.cil_resolve.specs.GivenSets.{AreGathered, ArePutInOrder, AreSetNumbers, GivesSets, given_to, set_gives}
+pub use Rattle.cil_resolve.specs.Numbers.{GivesNumbered, class_of, declared_of, dropped_with, element_of, given_in, given_with, has_named, keeps_no_list, permission_set_of, resolved_permissions_of, resolved_target_of, set_of, written_in}
 pub use Rattle.cil_resolve.specs.Resolved.{meaning_in}
 pub use Rattle.cil_resolve.specs.Same.{same_element, same_set}
+pub use Rattle.cil_resolve.specs.SetPermissions.{AreInOrder, IsOrdered, permission_cmp}
 pub use Rattle.cil_resolve.specs.SetOrder.{AreNamed, AreStraight, DependsThrough, IsNext, IsSetOrder, Mentions, StandTogether, attributes_in, names_in, sets_at}
 pub use Rattle.cil_resolve.specs.declared.numbered.NumberedSet.{NumberedSet}
 pub use Rattle.cil_specs.proofs.DependsLemmas.{any-contained, first-step}
@@ -45,16 +47,16 @@ pub use Rattle.cil_specs.proofs.Runs.{both_true, first_true, second_true}
 pub use Rattle.cil_specs.specs.Expr.{Expr, WordExpr, both, either, elements, every, leaves, map_leaves, named, nothing, one_of, opposite}
 pub use Rattle.cil_specs.specs.Joined.{Module, Placed, joined}
 pub use Rattle.cil_specs.specs.Kept.{AreApart, AreKept, Compiles, IsFirst, IsFirstFault, IsPolicyFault, Optionals, dropped_of, has_innermost, is_within, judged, restricted}
-pub use Rattle.cil_specs.specs.Lookup.{Table, actual_in, actual_of, actual_statement, classes, common_permissions, commons, declaration, declared_in, declared_name, declares, distinct, from_namespace, full_name, gives_actual, gives_common, has_block, has_name, holds_of, inside, is_alias, is_attribute, is_global, is_same, is_type, is_word, leads, listed_by, named_permissions, nearest_block, outward, own_permissions, permissions_of, references, same_namespace, scopes, texts, types, with_name, word_text}
+pub use Rattle.cil_specs.specs.Lookup.{Table, actual_in, actual_of, actual_statement, classes, common_permissions, commons, declaration, declared_in, declared_name, declares, distinct, from_namespace, full_name, gives_actual, gives_common, has_block, has_name, holds_of, inside, is_alias, is_attribute, is_global, is_same, is_type, is_word, leads, listed_by, named_permissions, nearest_block, outward, own_permissions, permission_reference, permission_sets, permissions_of, permissions_with, references, same_namespace, scopes, texts, types, with_name, word_text}
 pub use Rattle.cil_specs.specs.Meaning.{Meaning, Means, holds, is_in, keeps_type, meaning_of}
 pub use Rattle.cil_specs.specs.Members.{HasSoundSets, keeps_element}
 unfoldable pub use Rattle.cil_specs.specs.Members.{is_member}
 pub use Rattle.cil_specs.specs.Names.{Word, components}
 pub use Rattle.cil_specs.specs.PolicyFault.{IsFaultOf, IsFaulty, PolicyFault, PolicyFaultKind, alias_twice, alias_unset, circular, common_words, element_words, has_earlier_common, is_lacking, is_of_another_kind, is_outside, is_unfound, is_unset, kinds_asked, missing, missing_words, second_common, too_many_permissions, twice, wrong_kind}
 pub use Rattle.cil_specs.specs.Report.{name_cmp, names_rise}
-pub use Rattle.cil_specs.specs.Rule.{Declared, IsSameSet, Rule, SetContent, SetStatement, a_type, an_attribute, at_element, attributes_of, class_as, class_name, classes_of, declared_as, element_at, element_or_none, is_class, name_or_none, rule_of, rules_of, set_statement_of, sets_of, types_of}
+pub use Rattle.cil_specs.specs.Rule.{Declared, IsSameSet, Rule, SetContent, SetStatement, a_type, an_attribute, at_element, attributes_of, class_as, class_name, classes_of, declared_as, element_at, element_or_none, is_class, name_or_none, permission_sets_of, rule_of, rules_of, set_statement_of, sets_of, texts_of as texts_in, types_of}
 pub use Rattle.cil_specs.specs.Sets.{DependsOn, HasNoCircle, IsNextOf, element_holds, holds_with, is_the_attribute, mentions}
-pub use Rattle.cil_specs.specs.Statements.{Form, RuleKind, Target, alias_actual, allow, attribute_set, auditallow, block, class, class_common, class_order, common, dontaudit, is_optional, itself, neverallow, optional, rule, target_words, the_named, type_alias, type_attribute, type_name}
+pub use Rattle.cil_specs.specs.Statements.{ClassPermissions, Form, RuleKind, Target, alias_actual, allow, anonymous, attribute_set, auditallow, block, by_name, class, class_common, class_order, class_permission, class_permission_set, common, dontaudit, is_optional, itself, neverallow, optional, rule, target_words, the_named, type_alias, type_attribute, type_name}
 pub use Rattle.cil_text.specs.Image.{place_of, rule_kind_of}
 pub use Rattle.std.proofs.Common.{All, Bool, Contains, Err, IfOk, IsTrue, List, None, Ok, Option, Result, Some, Vec, [], ap, append-nil, append_assoc, arith, bytes_eq, cond, eq-eqb, false, filter, flat_map, fold, get_or, if◌then◌else◌, inl, inr, is_some, length, length-take-le, map, nat_lt, not, of_calls, option_map, position, refl, rules, set, slice_index_or, subst, suc, sym, take, true, true≢false, zero, ℕ, ◌&&◌, ◌++◌, ◌+◌, ◌<◌, ◌==◌, ◌^◌, ◌||◌, ◌↔◌, ◌∙◌, ◌∷◌, ◌≡◌, ◌≢◌, ◌≤◌, ◌⊎◌}
 pub use Rattle.std.proofs.Math.Bool.{or-false, or-true}

@@ -1,5 +1,5 @@
 -- The commons of classes.
-use Rattle.cil_resolve.proofs.Common.{◌≡◌, ℕ, Bool, true, false, ◌||◌, List, [], ◌∷◌, ◌++◌, flat_map, filter, append_assoc, Contains, Option, Some, None, is_some, refl, sym, ap, ◌∙◌, subst, true≢false, append-nil, if◌then◌else◌, cond, find, list_any, option_and_then, Word, Form, block, optional, type_name, type_alias, alias_actual, type_attribute, attribute_set, common, class, class_common, class_order, rule, Placed, commons, classes, references, leads, gives_common, is_same, holds_of, common_permissions, permissions_of, own_permissions, texts, listed_by, declared_in, second_common, has_earlier_common, common_words, contains-first, or-false, list_any-append, kind_of, IsFaultless, lists_own, IsFirstOf, none-there, common_in, common_of}
+use Rattle.cil_resolve.proofs.Common.{◌≡◌, ℕ, Bool, true, false, ◌||◌, List, [], ◌∷◌, ◌++◌, flat_map, filter, append_assoc, Contains, Option, Some, None, is_some, refl, sym, ap, ◌∙◌, subst, true≢false, append-nil, if◌then◌else◌, cond, find, list_any, option_and_then, Word, Form, block, optional, type_name, type_alias, alias_actual, type_attribute, attribute_set, common, class, class_common, class_order, class_permission, class_permission_set, rule, Placed, commons, classes, references, leads, gives_common, is_same, holds_of, common_permissions, permissions_of, own_permissions, texts, listed_by, declared_in, second_common, has_earlier_common, common_words, contains-first, or-false, list_any-append, kind_of, IsFaultless, lists_own, IsFirstOf, none-there, common_in, common_of}
 use Rattle.std.proofs.Common.{slice_get}
 use Rattle.cil_check.proofs.FirstsLemmas.{same-test}
 use Rattle.cil_check.proofs.PositionLemmas.{any-same}
@@ -21,7 +21,9 @@ common-form policy s namespace (attribute_set attribute expr) e = absurd (true�
 common-form policy s namespace (common id permissions) e = absurd (true≢false (sym e))
 common-form policy s namespace (class id permissions) e = absurd (true≢false (sym e))
 common-form policy s namespace (class_order the_classes) e = absurd (true≢false (sym e))
-common-form policy s namespace (rule kind source target the_class permissions) e = absurd (true≢false (sym e))
+common-form policy s namespace (class_permission id) e = absurd (true≢false (sym e))
+common-form policy s namespace (class_permission_set set the_class permissions) e = absurd (true≢false (sym e))
+common-form policy s namespace (rule kind source target permissions) e = absurd (true≢false (sym e))
 
 -- whether a statement gives a common to the class
 abbrev pub giving : List Placed → Placed → Placed → Bool
@@ -78,7 +80,9 @@ giving-same policy s u same namespace (attribute_set attribute expr) = refl
 giving-same policy s u same namespace (common id permissions) = refl
 giving-same policy s u same namespace (class id permissions) = refl
 giving-same policy s u same namespace (class_order the_classes) = refl
-giving-same policy s u same namespace (rule kind source target the_class permissions) = refl
+giving-same policy s u same namespace (class_permission id) = refl
+giving-same policy s u same namespace (class_permission_set set the_class permissions) = refl
+giving-same policy s u same namespace (rule kind source target permissions) = refl
 
 module _ (policy : List Placed) (faultless : IsFaultless policy) (s : Placed) where
   -- no two statements give a common to a class
@@ -145,7 +149,9 @@ module _ (policy : List Placed) (faultless : IsFaultless policy) (s : Placed) wh
   common-listed namespace (common id permissions) = refl
   common-listed namespace (class id permissions) = refl
   common-listed namespace (class_order the_classes) = refl
-  common-listed namespace (rule kind source target the_class permissions) = refl
+  common-listed namespace (class_permission id) = refl
+  common-listed namespace (class_permission_set set the_class permissions) = refl
+  common-listed namespace (rule kind source target permissions) = refl
 
   -- the permissions of a class are its own and those of its common
   pub class-permissions : permissions_of policy s ≡ texts (own_permissions s.form) ++ listed_by (common_of policy s)
@@ -168,4 +174,6 @@ common-lists (attribute_set attribute expr) e = absurd (true≢false (sym e))
 common-lists (class id permissions) e = absurd (true≢false (sym e))
 common-lists (class_common the_class the_common) e = absurd (true≢false (sym e))
 common-lists (class_order the_classes) e = absurd (true≢false (sym e))
-common-lists (rule kind source target the_class permissions) e = absurd (true≢false (sym e))
+common-lists (class_permission id) e = absurd (true≢false (sym e))
+common-lists (class_permission_set set the_class permissions) e = absurd (true≢false (sym e))
+common-lists (rule kind source target permissions) e = absurd (true≢false (sym e))

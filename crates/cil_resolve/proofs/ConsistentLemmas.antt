@@ -1,6 +1,6 @@
--- The rules of a policy without faults name what it declares.
-use Rattle.cil_resolve.proofs.Common.{◌≡◌, true, false, ◌&&◌, ◌||◌, List, [], ◌∷◌, ◌++◌, map, Contains, Option, Some, None, is_some, bytes_eq, refl, sym, ap, ◌∙◌, subst, true≢false, if◌then◌else◌, list_all, list_any, option_and_then, Word, Placed, RuleKind, Form, block, optional, type_name, type_alias, alias_actual, type_attribute, attribute_set, common, class, class_common, class_order, rule, Target, itself, the_named, target_words, types, classes, declared_in, declared_name, leads, references, named_permissions, has_name, texts, distinct, permissions_of, gives_actual, actual_statement, actual_in, actual_of, is_type, is_alias, is_attribute, element_words, kinds_asked, declared_as, class_as, is_class, types_of, attributes_of, classes_of, rules_of, rule_of, element_or_none, element_at, class_name, name_or_none, contains-first, contains-other, contains-map, contains-middle, both_true, bytes_eq-refl, IsFaultless, has-fold, WordExpr, leaves, map_leaves, leaves-mapped, is_declared, is_element_of, is_aim_of, is_class_with, is_rule_of, are_rules_of}
-use Rattle.cil_specs.specs.Rule.{element_of, resolved_target_of}
+-- The rules of a policy without faults, and its statements of permission sets, name what it declares.
+use Rattle.cil_resolve.proofs.Common.{◌≡◌, true, false, ◌&&◌, ◌||◌, List, [], ◌∷◌, ◌++◌, map, Contains, Option, Some, None, is_some, bytes_eq, refl, sym, ap, ◌∙◌, subst, true≢false, if◌then◌else◌, list_all, list_any, option_and_then, Word, Placed, RuleKind, Form, block, optional, type_name, type_alias, alias_actual, type_attribute, attribute_set, common, class, class_common, class_order, class_permission, class_permission_set, rule, Target, itself, the_named, target_words, types, classes, declared_in, declared_name, leads, references, named_permissions, permission_reference, permission_sets, permissions_with, has_name, texts, distinct, permissions_of, gives_actual, actual_statement, actual_in, actual_of, is_type, is_alias, is_attribute, element_words, kinds_asked, declared_as, class_as, is_class, types_of, attributes_of, classes_of, permission_sets_of, rules_of, rule_of, element_or_none, element_at, class_name, name_or_none, contains-first, contains-other, contains-map, contains-middle, both_true, bytes_eq-refl, IsFaultless, has-fold, WordExpr, leaves, leaves-mapped, ClassPermissions, anonymous, by_name, texts_in, is_declared, is_element_of, is_aim_of, is_class_and_permissions_of, is_class_with, is_rule_of, are_permission_sets_of, are_permissions_of, are_rules_of}
+use Rattle.cil_specs.specs.Rule.{element_of, permission_set_of, resolved_permissions_of, resolved_target_of}
 use Rattle.cil_resolve.proofs.ElementLemmas.{IsTypeKind, is_a_type, is_an_alias, is_an_attribute, type-kind, find-holds, gives-form}
 use Rattle.cil_resolve.proofs.FaultlessLemmas.{word-found, permission-found, kind-found, alias-set}
 use Rattle.cil_resolve.proofs.LedLemmas.{IsLed, leads-led}
@@ -18,7 +18,9 @@ class-declared (attribute_set attribute expr) = refl
 class-declared (common id permissions) = refl
 class-declared (class_common the_class the_common) = refl
 class-declared (class_order the_classes) = refl
-class-declared (rule kind source target the_class permissions) = refl
+class-declared (class_permission id) = refl
+class-declared (class_permission_set set the_class permissions) = refl
+class-declared (rule kind source target permissions) = refl
 
 module _ (policy : List Placed) where
   -- what a statement declares is declared
@@ -103,32 +105,57 @@ module _ (policy : List Placed) (faultless : IsFaultless policy) where
             ∙ class-has policy t permissions (leads-led policy classes t s.namespace the_class.text e)
             (λ w is. permission-found policy faultless s there the_class w (subst (λ l. Contains l (the_class, w)) (sym named) (contains-map (λ v. (the_class, v)) permissions w is)) t e)
 
-    target-declared : (kind : RuleKind) (source : Word) (target : Target) (the_class : Word) (permissions : WordExpr) → s.form ≡ rule kind source target the_class permissions
+    -- so a class is with the permissions of an expression
+    class-and-permissions : (the_class : Word) (permissions : WordExpr) → Contains (references s.form) (classes, the_class) → named_permissions s.form ≡ map (λ w. (the_class, w)) (leaves permissions)
+        → is_class_and_permissions_of (classes_of policy) (class_name policy s.namespace the_class) (texts_in permissions) ≡ true
+    class-and-permissions the_class permissions refers named =
+        subst (λ l. list_any (is_class_with (class_name policy s.namespace the_class) l) (classes_of policy) ≡ true) (sym (leaves-mapped (λ w. w.text) permissions)) (class-declares-them the_class (leaves permissions) refers named)
+
+    permissions-declared : (permissions : ClassPermissions) → Contains (references s.form) (permission_reference permissions) → named_permissions s.form ≡ permissions_with permissions
+        → are_permissions_of (classes_of policy) (resolved_permissions_of policy s.namespace permissions) ≡ true
+    permissions-declared (anonymous the_class permissions) refers named = class-and-permissions the_class permissions refers named
+    permissions-declared (by_name set) refers named = refl
+
+    target-declared : (kind : RuleKind) (source : Word) (target : Target) (permissions : ClassPermissions) → s.form ≡ rule kind source target permissions
         → is_aim_of (types_of policy) (attributes_of policy) (resolved_target_of policy s.namespace target) ≡ true
-    target-declared kind source itself the_class permissions form = refl
-    target-declared kind source (the_named word) the_class permissions form =
+    target-declared kind source itself permissions form = refl
+    target-declared kind source (the_named word) permissions form =
         word-declared word
         (subst (λ f. Contains (references f) (types, word)) (sym form)
-        (contains-other (types, source) ((types, word) ∷ (classes, the_class) ∷ []) (types, word) (contains-first (types, word) ((classes, the_class) ∷ []))))
+        (contains-other (types, source) ((types, word) ∷ permission_reference permissions ∷ []) (types, word) (contains-first (types, word) (permission_reference permissions ∷ []))))
         (subst (λ f. Contains (element_words f) word) (sym form) (contains-other source (word ∷ []) word (contains-first word [])))
 
     rule-declared : (form : Form) → s.form ≡ form → list_all (is_rule_of (types_of policy) (attributes_of policy) (classes_of policy)) (rule_of policy s form) ≡ true
-    rule-declared (rule kind source target the_class permissions) form =
+    rule-declared (rule kind source target permissions) form =
         let others = map (λ w. (types, w)) (target_words target) in
+        let last = permission_reference permissions in
         let source_is = word-declared source
-        (subst (λ f. Contains (references f) (types, source)) (sym form) (contains-first (types, source) (others ++ (classes, the_class) ∷ [])))
+        (subst (λ f. Contains (references f) (types, source)) (sym form) (contains-first (types, source) (others ++ last ∷ [])))
         (subst (λ f. Contains (element_words f) source) (sym form) (contains-first source (target_words target))) in
-        let class_is = subst (λ l. list_any (is_class_with (class_name policy s.namespace the_class) l) (classes_of policy) ≡ true) (sym (leaves-mapped (λ w. w.text) permissions)) (class-declares-them the_class (leaves permissions)
-        (subst (λ f. Contains (references f) (classes, the_class)) (sym form)
-        (contains-other (types, source) (others ++ (classes, the_class) ∷ []) (classes, the_class) (contains-middle others (classes, the_class) [])))
-        (ap named_permissions form)) in
+        let given_is = permissions-declared permissions
+        (subst (λ f. Contains (references f) last) (sym form) (contains-other (types, source) (others ++ last ∷ []) last (contains-middle others last [])))
+        (ap named_permissions form) in
+        let are = are_permissions_of (classes_of policy) (resolved_permissions_of policy s.namespace permissions) in
+        let aims = is_aim_of (types_of policy) (attributes_of policy) (resolved_target_of policy s.namespace target) in
         ap (λ b. b && true)
-        (both_true (is_element_of (types_of policy) (attributes_of policy) (element_of policy s.namespace source))
-        (is_aim_of (types_of policy) (attributes_of policy) (resolved_target_of policy s.namespace target) && list_any (is_class_with (class_name policy s.namespace the_class) (leaves (map_leaves (λ w. w.text) permissions))) (classes_of policy)) source_is
-        (both_true (is_aim_of (types_of policy) (attributes_of policy) (resolved_target_of policy s.namespace target)) (list_any (is_class_with (class_name policy s.namespace the_class) (leaves (map_leaves (λ w. w.text) permissions))) (classes_of policy))
-        (target-declared kind source target the_class permissions form) class_is))
+        (both_true (is_element_of (types_of policy) (attributes_of policy) (element_of policy s.namespace source)) (aims && are) source_is
+        (both_true aims are (target-declared kind source target permissions form) given_is))
     rule-declared _ form = refl
+
+    set-declared : (form : Form) → s.form ≡ form → list_all (λ x. is_class_and_permissions_of (classes_of policy) x.the_class x.permissions) (permission_set_of policy s form) ≡ true
+    set-declared (class_permission_set set the_class permissions) form =
+        ap (λ b. b && true)
+        (class-and-permissions the_class permissions
+        (subst (λ f. Contains (references f) (classes, the_class)) (sym form) (contains-other (permission_sets, set) ((classes, the_class) ∷ []) (classes, the_class) (contains-first (classes, the_class) [])))
+        (ap named_permissions form))
+    set-declared _ form = refl
 
   -- each rule of the policy
   pub rules-declared : are_rules_of (types_of policy) (attributes_of policy) (classes_of policy) (rules_of policy) ≡ true
   rules-declared = all-of-flat (is_rule_of (types_of policy) (attributes_of policy) (classes_of policy)) (λ s. rule_of policy s s.form) policy (λ s there. rule-declared s there s.form refl)
+
+  -- and each statement of a permission set
+  pub sets-declared : are_permission_sets_of (classes_of policy) (permission_sets_of policy) ≡ true
+  sets-declared =
+      all-of-flat (λ x. is_class_and_permissions_of (classes_of policy) x.the_class x.permissions) (λ s. permission_set_of policy s s.form) policy
+      (λ s there. set-declared s there s.form refl)

@@ -1,5 +1,5 @@
 -- Optionals of a bound policy.
-use Rattle.cil_resolve.proofs.Common.{◌≡◌, ℕ, true, false, not, ◌&&◌, if◌then◌else◌, ◌∷◌, ◌<◌, List, [], length, map, get_or, Some, refl, sym, ap, ◌∙◌, subst, same_Some, slice_get-get_or, Word, Form, block, optional, type_name, type_alias, alias_actual, type_attribute, attribute_set, common, class, class_common, class_order, rule, is_optional, Placed, scopes, full_name, declared_as, Optionals, IsBoundTo, NamedModule, Row, row-at, from-at, dropped_if, name_in}
+use Rattle.cil_resolve.proofs.Common.{◌≡◌, ℕ, true, false, not, ◌&&◌, if◌then◌else◌, ◌∷◌, ◌<◌, List, [], length, map, get_or, Some, refl, sym, ap, ◌∙◌, subst, same_Some, slice_get-get_or, Word, Form, block, optional, type_name, type_alias, alias_actual, type_attribute, attribute_set, common, class, class_common, class_order, class_permission, class_permission_set, rule, is_optional, Placed, scopes, full_name, declared_as, Optionals, IsBoundTo, NamedModule, Row, row-at, from-at, dropped_if, name_in}
 use Rattle.std.proofs.Common.{slice_get}
 use Rattle.cil_bind.specs.Scope.{IsFrom}
 use Rattle.cil_bind.specs.declared.policy.Policy.{Policy}
@@ -19,7 +19,9 @@ optional-named (common id permissions) is = cc
 optional-named (class id permissions) is = cc
 optional-named (class_common the_class the_common) is = cc
 optional-named (class_order the_classes) is = cc
-optional-named (rule kind source target the_class permissions) is = cc
+optional-named (class_permission id) is = cc
+optional-named (class_permission_set set the_class permissions) is = cc
+optional-named (rule kind source target permissions) is = cc
 
 -- A statement stands at a place of a bound policy, and this is its row.
 module _ {A : Type 0} (p : Policy A) (parsed : List (NamedModule A)) (policy : List Placed) (i : ℕ) (row : Row) (s : Placed) (bound : IsBoundTo p parsed policy) (here : slice_get p.rows.items i ≡ Some row)

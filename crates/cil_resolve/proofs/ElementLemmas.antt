@@ -1,6 +1,6 @@
 -- What names of rules lead to: types, attributes, and aliases with their types.
 use Rattle.std.proofs.Common.{slice_get}
-use Rattle.cil_resolve.proofs.Common.{◌≡◌, ◌⊎◌, inl, inr, ◌+◌, ◌++◌, arith, ℕ, ◌<◌, suc, Bool, true, false, not, ◌&&◌, List, [], ◌∷◌, length, get_or, Contains, Option, Some, None, is_some, option_map, position, cond, refl, sym, ap, ◌∙◌, subst, true≢false, cases_order, get_or_append_left, get_or_push, find, option_and_then, unwrap_or, lt-ltb, none-some, same_Some, Word, Form, block, optional, type_name, type_alias, alias_actual, type_attribute, attribute_set, common, class, class_common, class_order, rule, Placed, Table, types, declared_in, declared_name, full_name, word_text, same_namespace, holds_of, gives_actual, actual_statement, actual_in, actual_of, is_type, is_alias, is_word, references, leads, kinds_asked, a_type, an_attribute, name_or_none, element_at, first_true, contains-first, contains-other, kind_of, IsLead, IsFirstOf, IsFaultless, numbered_id, is_numbered, full_name_or, full_name_of, IsElement, is_set, number_in, HavePlaces, Element}
+use Rattle.cil_resolve.proofs.Common.{◌≡◌, ◌⊎◌, inl, inr, ◌+◌, ◌++◌, arith, ℕ, ◌<◌, suc, Bool, true, false, not, ◌&&◌, List, [], ◌∷◌, length, get_or, Contains, Option, Some, None, is_some, option_map, position, cond, refl, sym, ap, ◌∙◌, subst, true≢false, cases_order, get_or_append_left, get_or_push, find, option_and_then, unwrap_or, lt-ltb, none-some, same_Some, Word, Form, block, optional, type_name, type_alias, alias_actual, type_attribute, attribute_set, common, class, class_common, class_order, class_permission, class_permission_set, rule, Placed, Table, types, declared_in, declared_name, full_name, word_text, same_namespace, holds_of, gives_actual, actual_statement, actual_in, actual_of, is_type, is_alias, is_word, references, leads, kinds_asked, a_type, an_attribute, name_or_none, element_at, first_true, contains-first, contains-other, kind_of, IsLead, IsFirstOf, IsFaultless, numbered_id, is_numbered, full_name_or, full_name_of, IsElement, is_set, number_in, HavePlaces, Element}
 use Rattle.cil_parse.specs.declared.row.StatementKind.{StatementKind}
 use Rattle.cil_parse.specs.declared.row.StatementKind.TheVariants as kinds
 use Rattle.cil_check.specs.Associations.{first_at, gives, HasFirsts}
@@ -40,7 +40,9 @@ type-form (common id permissions) e = absurd (true≢false (sym e))
 type-form (class id permissions) e = absurd (true≢false (sym e))
 type-form (class_common the_class the_common) e = absurd (true≢false (sym e))
 type-form (class_order the_classes) e = absurd (true≢false (sym e))
-type-form (rule kind source target the_class permissions) e = absurd (true≢false (sym e))
+type-form (class_permission id) e = absurd (true≢false (sym e))
+type-form (class_permission_set set the_class permissions) e = absurd (true≢false (sym e))
+type-form (rule kind source target permissions) e = absurd (true≢false (sym e))
 
 -- the full name of what a statement declares in a table
 pub full-name-in : (table : Table) (s : Placed) (id : Word) → numbered_id s.form ≡ Some id → declared_in table s.form ≡ Some id → full_name_of s ≡ declared_name table s
@@ -64,7 +66,9 @@ type-kind (common id permissions) d = absurd (true≢false (sym d))
 type-kind (class id permissions) d = absurd (true≢false (sym d))
 type-kind (class_common the_class the_common) d = absurd (true≢false (sym d))
 type-kind (class_order the_classes) d = absurd (true≢false (sym d))
-type-kind (rule kind source target the_class permissions) d = absurd (true≢false (sym d))
+type-kind (class_permission id) d = absurd (true≢false (sym d))
+type-kind (class_permission_set set the_class permissions) d = absurd (true≢false (sym d))
+type-kind (rule kind source target permissions) d = absurd (true≢false (sym d))
 
 -- whether a kind is that of attributes, and of aliases
 abbrev is_attribute_kind : StatementKind → Bool
@@ -156,7 +160,9 @@ gives-form policy s namespace (common id permissions) e = absurd (true≢false (
 gives-form policy s namespace (class id permissions) e = absurd (true≢false (sym e))
 gives-form policy s namespace (class_common the_class the_common) e = absurd (true≢false (sym e))
 gives-form policy s namespace (class_order the_classes) e = absurd (true≢false (sym e))
-gives-form policy s namespace (rule kind source target the_class permissions) e = absurd (true≢false (sym e))
+gives-form policy s namespace (class_permission id) e = absurd (true≢false (sym e))
+gives-form policy s namespace (class_permission_set set the_class permissions) e = absurd (true≢false (sym e))
+gives-form policy s namespace (rule kind source target permissions) e = absurd (true≢false (sym e))
 
 -- the statement that gives an alias its type, and the type
 pub record IsActual (policy : List Placed) (s : Placed) (place : ℕ) : Type 0 where

@@ -1,52 +1,145 @@
--- Statements that are rules, by their kinds.
-use Rattle.cil_resolve.proofs.Common.{◌≡◌, refl, ap, Word, WordExpr, RuleKind, itself, the_named, Form, block, optional, type_name, type_alias, alias_actual, type_attribute, attribute_set, common, class, class_common, class_order, rule, kind_of, references, named_permissions, permissions_in, nodes_in, IsRuleWith}
+-- Statements that are rules, or that are of permission sets, by their kinds.
+use Rattle.cil_resolve.proofs.Common.{◌≡◌, ℕ, Bool, true, false, true≢false, refl, sym, ap, Some, Word, WordExpr, RuleKind, Target, itself, the_named, ClassPermissions, anonymous, by_name, Form, block, optional, type_name, type_alias, alias_actual, type_attribute, attribute_set, common, class, class_common, class_order, class_permission, class_permission_set, rule, kind_of, rule_kind, classes, references, named_permissions, permissions_in, nodes_in, IsPermissionSet, IsRuleOfClass, IsRuleOfSet, NamesPermissions}
 use Rattle.std.proofs.Common.{slice_get}
 use Rattle.cil_text.specs.declared.statement.RuleKind as code
+use Rattle.cil_text.specs.declared.statement.RuleKind.TheVariants as codes
+use Rattle.cil_parse.specs.declared.row.StatementKind.{StatementKind}
 use Rattle.cil_parse.specs.declared.row.StatementKind.TheVariants as kinds
 
-pub form-rule : (form : Form) (kind : code.RuleKind) → kind_of form ≡ kinds.Rule kind
-    → (k : RuleKind) × (source word the_class : Word) × (permissions : WordExpr) × (form ≡ rule k source (the_named word) the_class permissions)
-form-rule (block id) kind is = cc
-form-rule (optional id) kind is = cc
-form-rule (type_name id) kind is = cc
-form-rule (type_alias id) kind is = cc
-form-rule (alias_actual alias actual) kind is = cc
-form-rule (type_attribute id) kind is = cc
-form-rule (attribute_set attribute expr) kind is = cc
-form-rule (common id permissions) kind is = cc
-form-rule (class id permissions) kind is = cc
-form-rule (class_common the_class the_common) kind is = cc
-form-rule (class_order the_classes) kind is = cc
-form-rule (rule k source itself the_class permissions) kind is = cc
-form-rule (rule k source (the_named word) the_class permissions) kind is = (k, source, word, the_class, permissions, refl)
+-- whether a statement of a kind is a rule of a class, and whether it is one of a permission set
+abbrev pub is_of_class : StatementKind → Bool
+is_of_class (kinds.Rule kind) = true
+is_of_class (kinds.RuleToSelf kind) = true
+is_of_class _ = false
 
-pub form-to-self : (form : Form) (kind : code.RuleKind) → kind_of form ≡ kinds.RuleToSelf kind
-    → (k : RuleKind) × (source the_class : Word) × (permissions : WordExpr) × (form ≡ rule k source itself the_class permissions)
-form-to-self (block id) kind is = cc
-form-to-self (optional id) kind is = cc
-form-to-self (type_name id) kind is = cc
-form-to-self (type_alias id) kind is = cc
-form-to-self (alias_actual alias actual) kind is = cc
-form-to-self (type_attribute id) kind is = cc
-form-to-self (attribute_set attribute expr) kind is = cc
-form-to-self (common id permissions) kind is = cc
-form-to-self (class id permissions) kind is = cc
-form-to-self (class_common the_class the_common) kind is = cc
-form-to-self (class_order the_classes) kind is = cc
-form-to-self (rule k source itself the_class permissions) kind is = (k, source, the_class, permissions, refl)
-form-to-self (rule k source (the_named word) the_class permissions) kind is = cc
+abbrev pub is_of_set : StatementKind → Bool
+is_of_set (kinds.RuleOfSet kind) = true
+is_of_set (kinds.RuleToSelfOfSet kind) = true
+is_of_set _ = false
 
--- a rule's class is the reference behind its target, and behind its source where each source itself is the target
-pub named-with : (form : Form) (k : RuleKind) (source word the_class : Word) (permissions : WordExpr) → form ≡ rule k source (the_named word) the_class permissions → IsRuleWith form 2 the_class permissions
-named-with form k source word the_class permissions is = record {
-  refers = ap (λ f. slice_get (references f) 2) is;
+abbrev pub is_set_statement : StatementKind → Bool
+is_set_statement kinds.ClassPermissionSet = true
+is_set_statement _ = false
+
+pub no-set-statement : (kind : StatementKind) → (kind ≡ kinds.ClassPermissionSet → ⊥) → is_set_statement kind ≡ false
+no-set-statement kinds.ClassPermissionSet never = absurd (never refl)
+no-set-statement _ never = refl
+
+pub form-of-class : (form : Form) → is_of_class (kind_of form) ≡ true → IsRuleOfClass form
+form-of-class (block id) e = absurd (true≢false (sym e))
+form-of-class (optional id) e = absurd (true≢false (sym e))
+form-of-class (type_name id) e = absurd (true≢false (sym e))
+form-of-class (type_alias id) e = absurd (true≢false (sym e))
+form-of-class (alias_actual alias actual) e = absurd (true≢false (sym e))
+form-of-class (type_attribute id) e = absurd (true≢false (sym e))
+form-of-class (attribute_set attribute expr) e = absurd (true≢false (sym e))
+form-of-class (common id permissions) e = absurd (true≢false (sym e))
+form-of-class (class id permissions) e = absurd (true≢false (sym e))
+form-of-class (class_common the_class the_common) e = absurd (true≢false (sym e))
+form-of-class (class_order the_classes) e = absurd (true≢false (sym e))
+form-of-class (class_permission id) e = absurd (true≢false (sym e))
+form-of-class (class_permission_set set the_class permissions) e = absurd (true≢false (sym e))
+form-of-class (rule kind source itself (anonymous the_class permissions)) e = (kind, source, itself, the_class, permissions, refl)
+form-of-class (rule kind source itself (by_name set)) e = absurd (true≢false (sym e))
+form-of-class (rule kind source (the_named word) (anonymous the_class permissions)) e = (kind, source, the_named word, the_class, permissions, refl)
+form-of-class (rule kind source (the_named word) (by_name set)) e = absurd (true≢false (sym e))
+
+pub form-of-set : (form : Form) → is_of_set (kind_of form) ≡ true → IsRuleOfSet form
+form-of-set (block id) e = absurd (true≢false (sym e))
+form-of-set (optional id) e = absurd (true≢false (sym e))
+form-of-set (type_name id) e = absurd (true≢false (sym e))
+form-of-set (type_alias id) e = absurd (true≢false (sym e))
+form-of-set (alias_actual alias actual) e = absurd (true≢false (sym e))
+form-of-set (type_attribute id) e = absurd (true≢false (sym e))
+form-of-set (attribute_set attribute expr) e = absurd (true≢false (sym e))
+form-of-set (common id permissions) e = absurd (true≢false (sym e))
+form-of-set (class id permissions) e = absurd (true≢false (sym e))
+form-of-set (class_common the_class the_common) e = absurd (true≢false (sym e))
+form-of-set (class_order the_classes) e = absurd (true≢false (sym e))
+form-of-set (class_permission id) e = absurd (true≢false (sym e))
+form-of-set (class_permission_set set the_class permissions) e = absurd (true≢false (sym e))
+form-of-set (rule kind source itself (anonymous the_class permissions)) e = absurd (true≢false (sym e))
+form-of-set (rule kind source itself (by_name set)) e = (kind, source, itself, set, refl)
+form-of-set (rule kind source (the_named word) (anonymous the_class permissions)) e = absurd (true≢false (sym e))
+form-of-set (rule kind source (the_named word) (by_name set)) e = (kind, source, the_named word, set, refl)
+
+pub permission-set-form : (form : Form) → is_set_statement (kind_of form) ≡ true → IsPermissionSet form
+permission-set-form (block id) e = absurd (true≢false (sym e))
+permission-set-form (optional id) e = absurd (true≢false (sym e))
+permission-set-form (type_name id) e = absurd (true≢false (sym e))
+permission-set-form (type_alias id) e = absurd (true≢false (sym e))
+permission-set-form (alias_actual alias actual) e = absurd (true≢false (sym e))
+permission-set-form (type_attribute id) e = absurd (true≢false (sym e))
+permission-set-form (attribute_set attribute expr) e = absurd (true≢false (sym e))
+permission-set-form (common id permissions) e = absurd (true≢false (sym e))
+permission-set-form (class id permissions) e = absurd (true≢false (sym e))
+permission-set-form (class_common the_class the_common) e = absurd (true≢false (sym e))
+permission-set-form (class_order the_classes) e = absurd (true≢false (sym e))
+permission-set-form (class_permission id) e = absurd (true≢false (sym e))
+permission-set-form (class_permission_set set the_class permissions) e = (set, the_class, permissions, refl)
+permission-set-form (rule kind source itself (anonymous the_class permissions)) e = absurd (true≢false (sym e))
+permission-set-form (rule kind source itself (by_name set)) e = absurd (true≢false (sym e))
+permission-set-form (rule kind source (the_named word) (anonymous the_class permissions)) e = absurd (true≢false (sym e))
+permission-set-form (rule kind source (the_named word) (by_name set)) e = absurd (true≢false (sym e))
+
+-- the kind of the rules of a kind of statements
+abbrev pub code_in : StatementKind → code.RuleKind
+code_in (kinds.Rule kind) = kind
+code_in (kinds.RuleToSelf kind) = kind
+code_in (kinds.RuleOfSet kind) = kind
+code_in (kinds.RuleToSelfOfSet kind) = kind
+code_in _ = codes.Allow
+
+pub rule-code : (kind : RuleKind) (source : Word) (target : Target) (permissions : ClassPermissions) → code_in (kind_of (rule kind source target permissions)) ≡ rule_kind kind
+rule-code kind source itself (anonymous the_class permissions) = refl
+rule-code kind source (the_named word) (anonymous the_class permissions) = refl
+rule-code kind source itself (by_name set) = refl
+rule-code kind source (the_named word) (by_name set) = refl
+
+-- whether a rule's statement has a word as its target, and whether each source itself is
+abbrev pub aims_at_word : StatementKind → Bool
+aims_at_word (kinds.Rule kind) = true
+aims_at_word (kinds.RuleOfSet kind) = true
+aims_at_word _ = false
+
+abbrev pub aims_at_self : StatementKind → Bool
+aims_at_self (kinds.RuleToSelf kind) = true
+aims_at_self (kinds.RuleToSelfOfSet kind) = true
+aims_at_self _ = false
+
+pub word-aimed : (kind : RuleKind) (source : Word) (target : Target) (permissions : ClassPermissions) → aims_at_word (kind_of (rule kind source target permissions)) ≡ true → (word : Word) × (target ≡ the_named word)
+word-aimed kind source itself (anonymous the_class permissions) e = absurd (true≢false (sym e))
+word-aimed kind source (the_named word) (anonymous the_class permissions) e = (word, refl)
+word-aimed kind source itself (by_name set) e = absurd (true≢false (sym e))
+word-aimed kind source (the_named word) (by_name set) e = (word, refl)
+
+pub self-aimed : (kind : RuleKind) (source : Word) (target : Target) (permissions : ClassPermissions) → aims_at_self (kind_of (rule kind source target permissions)) ≡ true → target ≡ itself
+self-aimed kind source itself (anonymous the_class permissions) e = refl
+self-aimed kind source (the_named word) (anonymous the_class permissions) e = absurd (true≢false (sym e))
+self-aimed kind source itself (by_name set) e = refl
+self-aimed kind source (the_named word) (by_name set) e = absurd (true≢false (sym e))
+
+-- one of both it has
+pub rule-aims : (kind : RuleKind) (source : Word) (target : Target) (permissions : ClassPermissions) → aims_at_word (kind_of (rule kind source target permissions)) ≡ false
+    → aims_at_self (kind_of (rule kind source target permissions)) ≡ false → ⊥
+rule-aims kind source itself (anonymous the_class permissions) e f = true≢false f
+rule-aims kind source (the_named word) (anonymous the_class permissions) e f = true≢false e
+rule-aims kind source itself (by_name set) e f = true≢false f
+rule-aims kind source (the_named word) (by_name set) e f = true≢false e
+
+-- a rule of a class names its permissions, and its class where this reference leads
+pub rule-names : (form : Form) (k : ℕ) (kind : RuleKind) (source : Word) (target : Target) (the_class : Word) (permissions : WordExpr) → form ≡ rule kind source target (anonymous the_class permissions)
+    → slice_get (references form) k ≡ Some (classes, the_class) → NamesPermissions form k the_class permissions
+rule-names form k kind source target the_class permissions is refers = record {
+  refers = refers;
   named = ap named_permissions is;
   words = ap permissions_in is;
   nodes = ap nodes_in is;
 }
 
-pub itself-with : (form : Form) (k : RuleKind) (source the_class : Word) (permissions : WordExpr) → form ≡ rule k source itself the_class permissions → IsRuleWith form 1 the_class permissions
-itself-with form k source the_class permissions is = record {
+-- so does a statement of a permission set, behind the set
+pub set-names : (form : Form) (set the_class : Word) (permissions : WordExpr) → form ≡ class_permission_set set the_class permissions → NamesPermissions form 1 the_class permissions
+set-names form set the_class permissions is = record {
   refers = ap (λ f. slice_get (references f) 1) is;
   named = ap named_permissions is;
   words = ap permissions_in is;

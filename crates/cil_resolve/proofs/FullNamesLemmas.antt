@@ -1,5 +1,5 @@
 -- The names of namespaces, and the full names of what statements declare.
-use Rattle.cil_resolve.proofs.Common.{◌≡◌, ℕ, ◌<◌, ◌≤◌, zero, suc, true, false, List, [], ◌∷◌, ◌++◌, length, get_or, take, map, Option, Some, None, is_some, option_map, refl, sym, ap, ◌∙◌, subst, true≢false, arith, length-take-le, AllByRecursion, length-map, take_all, get_or-map, get_or-take, none-some, slice_get-get_or, get_or_from_slice_get, Word, Placed, Form, block, optional, type_name, type_alias, alias_actual, type_attribute, attribute_set, common, class, class_common, class_order, rule, itself, the_named, full_name, kind_of, words_in, word_at, namespace_at, distinct-place, all-get, Row, Reads, space_text, name_in, numbered_id, is_numbered, is_numbered_kind}
+use Rattle.cil_resolve.proofs.Common.{◌≡◌, ℕ, ◌<◌, ◌≤◌, zero, suc, true, false, List, [], ◌∷◌, ◌++◌, length, get_or, take, map, Option, Some, None, is_some, option_map, refl, sym, ap, ◌∙◌, subst, true≢false, arith, length-take-le, AllByRecursion, length-map, take_all, get_or-map, get_or-take, none-some, slice_get-get_or, get_or_from_slice_get, Word, Placed, Form, block, optional, type_name, type_alias, alias_actual, type_attribute, attribute_set, common, class, class_common, class_order, class_permission, class_permission_set, rule, anonymous, by_name, itself, the_named, full_name, kind_of, words_in, word_at, namespace_at, distinct-place, all-get, Row, Reads, space_text, name_in, numbered_id, is_numbered, is_numbered_kind}
 use Rattle.std.proofs.Common.{slice_get}
 use Rattle.cil_bind.specs.Lookup.{named}
 use Rattle.cil_bind.specs.Rows.{IsRow, AreNumbered}
@@ -81,8 +81,12 @@ numbered-first (attribute_set attribute expr) e = absurd (true≢false (sym e))
 numbered-first (common id permissions) e = absurd (true≢false (sym e))
 numbered-first (class_common the_class the_common) e = absurd (true≢false (sym e))
 numbered-first (class_order the_classes) e = absurd (true≢false (sym e))
-numbered-first (rule kind source itself the_class permissions) e = absurd (true≢false (sym e))
-numbered-first (rule kind source (the_named word) the_class permissions) e = absurd (true≢false (sym e))
+numbered-first (class_permission id) e = (id, refl, refl)
+numbered-first (class_permission_set set the_class permissions) e = absurd (true≢false (sym e))
+numbered-first (rule kind source itself (anonymous the_class permissions)) e = absurd (true≢false (sym e))
+numbered-first (rule kind source itself (by_name set)) e = absurd (true≢false (sym e))
+numbered-first (rule kind source (the_named word) (anonymous the_class permissions)) e = absurd (true≢false (sym e))
+numbered-first (rule kind source (the_named word) (by_name set)) e = absurd (true≢false (sym e))
 
 pub kind-numbered : (form : Form) → is_numbered_kind (kind_of form) ≡ is_numbered form
 kind-numbered (block id) = refl
@@ -96,8 +100,12 @@ kind-numbered (common id permissions) = refl
 kind-numbered (class id permissions) = refl
 kind-numbered (class_common the_class the_common) = refl
 kind-numbered (class_order the_classes) = refl
-kind-numbered (rule kind source itself the_class permissions) = refl
-kind-numbered (rule kind source (the_named word) the_class permissions) = refl
+kind-numbered (class_permission id) = refl
+kind-numbered (class_permission_set set the_class permissions) = refl
+kind-numbered (rule kind source itself (anonymous the_class permissions)) = refl
+kind-numbered (rule kind source itself (by_name set)) = refl
+kind-numbered (rule kind source (the_named word) (anonymous the_class permissions)) = refl
+kind-numbered (rule kind source (the_named word) (by_name set)) = refl
 
 -- a statement of another kind declares no such name
 pub kind-absent : (form : Form) → is_numbered_kind (kind_of form) ≡ false → numbered_id form ≡ None

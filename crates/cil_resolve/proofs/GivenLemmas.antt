@@ -1,24 +1,24 @@
--- The permissions of the rules of a policy without faults, by numbers.
-use Rattle.cil_resolve.proofs.Common.{◌≡◌, ◌∙◌, ℕ, ◌==◌, ◌++◌, Bool, true, false, true≢false, if◌then◌else◌, not, ◌&&◌, nat_lt, List, [], ◌∷◌, length, get_or, map, filter, cond, Contains, Some, None, is_some, bytes_eq, refl, sym, ap, subst, unwrap_or, list_all, list_any, length-map, Word, WordExpr, Expr, every, named, opposite, both, either, one_of, nothing, elements, leaves, map_leaves, leaves-mapped, Placed, classes, leads, references, has_name, texts, distinct, permissions_of, declared_name, is_class, class_name, name_or_none, meaning_of, permissions_in, expr_nodes, seen-lead, IsLead, both_true, first_true, second_true, expr-is, filled, nodes-mapped, written-spelt, IsIn, IsRuleWith, IsSpeltBy, ArePermissions, AreNumbersIn, listed_names, number_in}
+-- The permissions of the rules of a policy without faults, and of its statements of permission sets, by numbers.
+use Rattle.cil_resolve.proofs.Common.{◌≡◌, ◌∙◌, ℕ, ◌==◌, ◌++◌, Bool, true, false, true≢false, if◌then◌else◌, not, ◌&&◌, nat_lt, List, [], ◌∷◌, length, get_or, map, filter, cond, Contains, Some, None, is_some, bytes_eq, refl, sym, ap, subst, unwrap_or, list_all, list_any, length-map, Word, WordExpr, Expr, every, named, opposite, both, either, one_of, nothing, elements, leaves, map_leaves, leaves-mapped, Placed, classes, leads, references, has_name, texts, distinct, permissions_of, declared_name, is_class, class_name, name_or_none, meaning_of, permissions_in, expr_nodes, seen-lead, IsLead, both_true, first_true, second_true, expr-is, filled, nodes-mapped, written-spelt, IsIn, NamesPermissions, IsSpeltBy, has_named, texts_in, written_in, ArePermissions, AreNumbersIn, listed_names, number_in}
 use Rattle.std.proofs.Common.{slice_get}
 use Rattle.cil_specs.specs.Expr.{holds_by, listed}
-use Rattle.cil_specs.specs.Meaning.{has_permission}
+use Rattle.cil_specs.specs.Meaning.{class_permits, has_permission}
 use Rattle.cil_parse.specs.Forms.{is_plain, permission_nodes}
 use Rattle.cil_parse.specs.declared.row.SetNode.{SetNode}
 use Rattle.std.proofs.Math.Dec.{eqb-suc-zero}
 use Rattle.cil_check.specs.declared.bound.Seen.{Seen}
 use Rattle.cil_expression.specs.Spelling.{expr_of, IsSpelt}
 use Rattle.cil_expression.proofs.ListedLemmas.{leaves-listed, listed-mapped, plain-listed, plain-mapped}
-use Rattle.cil_resolve.specs.Numbers.{written_or, is_no_list}
+use Rattle.cil_resolve.specs.Numbers.{is_no_list}
 use Rattle.cil_resolve.specs.declared.lowering.Lowering.{Lowering}
-use Rattle.cil_resolve.specs.declared.rule_permissions.RulePermissions.{RulePermissions}
+use Rattle.cil_resolve.specs.declared.numbered.NumberedPermissions.{NumberedPermissions}
 use Rattle.cil_resolve.proofs.ClassLemmas.{class-permission}
 use Rattle.cil_resolve.proofs.ConsistentLemmas.{class-declared, class-declares-them}
 use Rattle.cil_resolve.proofs.ElementLemmas.{first-declares}
 use Rattle.cil_resolve.proofs.FaultlessLemmas.{word-found}
 use Rattle.cil_resolve.proofs.LoweringLemmas.{found-at}
-use Rattle.cil_resolve.proofs.NumberLemmas.{numbers-are, numbers-below}
-use Rattle.cil_resolve.proofs.PermitLemmas.{plain-gives, written-gives}
+use Rattle.cil_resolve.proofs.NumberLemmas.{number-is, numbers-are, numbers-below}
+use Rattle.cil_resolve.proofs.PermitLemmas.{named-of-class, plain-gives, written-gives}
 use Rattle.cil_resolve.proofs.RuleLemmas.{rule-listed}
 use Rattle.cil_resolve.proofs.StatementLemmas.{contained}
 
@@ -85,15 +85,15 @@ pub record IsClassAt (policy : List Placed) (s : Placed) (the_class : Word) (pla
   pub is : is_class t.form ≡ true
   pub named : class_name policy s.namespace the_class ≡ declared_name classes t
 
-module _ {A : Type 0} (l : Lowering A) (seen : Seen A) (policy : List Placed) (s : Placed) (is : IsIn l seen policy s) (k : ℕ) (the_class : Word) (permissions : WordExpr) (rule : IsRuleWith s.form k the_class permissions) where
+module _ {A : Type 0} (l : Lowering A) (seen : Seen A) (policy : List Placed) (s : Placed) (is : IsIn l seen policy s) (k : ℕ) (the_class : Word) (permissions : WordExpr) (names_them : NamesPermissions s.form k the_class permissions) where
   abbrev numbered_names : List (List ℕ)
   numbered_names = l.numbering.now.names.items
 
   refers : Contains (references s.form) (classes, the_class)
-  refers = contained (references s.form) k (classes, the_class) rule.refers
+  refers = contained (references s.form) k (classes, the_class) names_them.refers
 
   lead : IsLead classes policy (get_or seen.bound.now k None) (leads policy classes s.namespace the_class.text)
-  lead = seen-lead seen policy s k classes the_class is.seen_is rule.refers
+  lead = seen-lead seen policy s k classes the_class is.seen_is names_them.refers
 
   leads_on : is_some (leads policy classes s.namespace the_class.text) ≡ true
   leads_on = word-found policy is.lowering.faultless s is.there classes the_class refers
@@ -101,8 +101,8 @@ module _ {A : Type 0} (l : Lowering A) (seen : Seen A) (policy : List Placed) (s
   -- The permissions that it names are permissions that statements list.
   pub permissions-listed : list_all (has_name (listed_names policy)) (texts (permissions_in s.form)) ≡ true
   permissions-listed =
-      subst (λ words. list_all (has_name (listed_names policy)) (texts words) ≡ true) (sym rule.words)
-      (rule-listed policy l.checker.now.bound.policy.now.bound.0 is.lowering.noted.is.bound.bound is.lowering.faultless s is.there the_class (leaves permissions) rule.named
+      subst (λ words. list_all (has_name (listed_names policy)) (texts words) ≡ true) (sym names_them.words)
+      (rule-listed policy l.checker.now.bound.policy.now.bound.0 is.lowering.noted.is.bound.bound is.lowering.faultless s is.there the_class (leaves permissions) names_them.named
       (get_or seen.bound.now k None) lead leads_on)
 
   -- Its class stands where the reference leads.
@@ -116,48 +116,64 @@ module _ {A : Type 0} (l : Lowering A) (seen : Seen A) (policy : List Placed) (s
         named = ap (name_or_none classes) a.lead_is;
       }
 
+  -- by its class's number
+  abbrev Gives : ℕ → List ℕ → Type 0
+  Gives class given = (c q : List ℕ) → class_permits (meaning_of policy []) (class_name policy s.namespace the_class) (texts_in permissions) c q
+      ≡ has_named numbered_names (map (λ n. record { class = class; permission = n }) given) c q
+
+  gives-numbered : (class : ℕ) (given : List ℕ) → number_in numbered_names (class_name policy s.namespace the_class) ≡ Some class
+      → ((c q : List ℕ) → class_permits (meaning_of policy []) (class_name policy s.namespace the_class) (texts_in permissions) c q
+      ≡ (bytes_eq (class_name policy s.namespace the_class) c && list_any (bytes_eq q) (map (λ n. get_or numbered_names n []) given))) → Gives class given
+  gives-numbered class given numbered gives c q =
+      gives c q ∙ ap (λ x. bytes_eq x c && list_any (bytes_eq q) (map (λ n. get_or numbered_names n []) given)) (sym (number-is numbered_names (class_name policy s.namespace the_class) class numbered).1)
+      ∙ sym (named-of-class numbered_names class c q given)
+
   -- Of a plain list it gives the permissions that stand in it.
-  pub plain-given : is_plain permissions ≡ true → (numbers : List ℕ) → AreNumbersIn numbered_names (texts (leaves permissions)) numbers
-      → ArePermissions {A = A} numbered_names policy (class_name policy s.namespace the_class) permissions (record { given = numbers; written = None })
-  plain-given plain numbers are =
+  pub plain-given : is_plain permissions ≡ true → (class : ℕ) → number_in numbered_names (class_name policy s.namespace the_class) ≡ Some class
+      → (numbers : List ℕ) → AreNumbersIn numbered_names (texts (leaves permissions)) numbers
+      → ArePermissions {A = A} numbered_names policy (class_name policy s.namespace the_class) permissions (record { class = class; given = numbers; written = None })
+  plain-given plain class numbered numbers are =
       let f = λ (n : ℕ). get_or numbered_names n [] in
       let plain_is : map_leaves text permissions ≡ listed (texts (leaves permissions)) = ap (map_leaves text) (plain-listed permissions plain) ∙ listed-mapped text (leaves permissions) in
       let by_name = numbers-are numbered_names (texts (leaves permissions)) numbers are in
       let below = numbers-below numbered_names (texts (leaves permissions)) numbers are in
       record {
+        of_class = numbered;
         spelt = record {
           named = listed-mapped f numbers ∙ ap listed by_name ∙ sym plain_is;
           below = subst (λ words. list_all (λ n. nat_lt n (length numbered_names)) words ≡ true) (sym (leaves-listed numbers)) below;
         };
         no_list = refl;
         below = below;
-        gives = λ c q.
+        gives = gives-numbered class numbers numbered (λ c q.
             ap (λ e. bytes_eq (class_name policy s.namespace the_class) c && (has_permission (meaning_of policy []) c q && holds_by (bytes_eq q) e)) plain_is
             ∙ plain-gives (meaning_of policy []) (class_name policy s.namespace the_class) (texts (leaves permissions))
-            (class-declares-them policy is.lowering.faultless s is.there the_class (leaves permissions) refers rule.named) c q
-            ∙ ap (λ words. bytes_eq (class_name policy s.namespace the_class) c && list_any (bytes_eq q) words) (sym by_name);
+            (class-declares-them policy is.lowering.faultless s is.there the_class (leaves permissions) refers names_them.named) c q
+            ∙ ap (λ words. bytes_eq (class_name policy s.namespace the_class) c && list_any (bytes_eq q) words) (sym by_name));
       }
 
   -- Of another expression it gives those of its class that the expression holds.
   pub written-given : is_plain permissions ≡ false → (e : Expr ℕ) → IsSpeltBy numbered_names e permissions → (place : ℕ) → (a : IsClassAt policy s the_class place)
       → (numbers : List ℕ) → AreNumbersIn numbered_names (distinct (permissions_of policy a.t)) numbers
-      → (p : RulePermissions A) → p.given ≡ filter (λ n. holds_by (λ q. n == q) e) numbers → written_or p.written p.given ≡ e → is_no_list p.written ≡ not (is_plain e)
+      → (p : NumberedPermissions A) → number_in numbered_names (class_name policy s.namespace the_class) ≡ Some p.class
+      → p.given ≡ filter (λ n. holds_by (λ q. n == q) e) numbers → written_in p ≡ e → is_no_list p.written ≡ not (is_plain e)
       → ArePermissions numbered_names policy (class_name policy s.namespace the_class) permissions p
-  written-given other e spelt place a numbers are p given written no_list =
+  written-given other e spelt place a numbers are p numbered given written no_list =
       let f = λ (n : ℕ). get_or numbered_names n [] in
       let below = numbers-below numbered_names (distinct (permissions_of policy a.t)) numbers are in
       record {
+        of_class = numbered;
         spelt = subst (λ x. IsSpeltBy numbered_names x permissions) (sym written) spelt;
         no_list = no_list ∙ ap not (sym (plain-mapped f e) ∙ ap is_plain spelt.named ∙ plain-mapped text permissions ∙ other);
         below =
             subst (λ ns. list_all (λ n. nat_lt n (length numbered_names)) ns ≡ true) (sym given)
             (all-filter (λ n. nat_lt n (length numbered_names)) (λ n. holds_by (λ q. n == q) e) numbers below);
-        gives = λ c q.
+        gives = gives-numbered p.class p.given numbered (λ c q.
             ap (λ x. bytes_eq (class_name policy s.namespace the_class) c && (has_permission (meaning_of policy []) c q && holds_by (bytes_eq q) x)) (sym spelt.named)
             ∙ written-gives numbered_names l.numbering.now.ordered e spelt.below (meaning_of policy []) (class_name policy s.namespace the_class) numbers p.given below
             (λ x.
             ap (λ name. has_permission (meaning_of policy []) name x) a.named
             ∙ class-permission policy is.lowering.faultless is.lowering.noted.is.spelt a.t (contained policy place a.t a.at) a.is x
             ∙ ap (λ some. has_name some x) (sym (numbers-are numbered_names (distinct (permissions_of policy a.t)) numbers are)))
-            given c q;
+            given c q);
       }

@@ -1,5 +1,5 @@
 -- What is known of the numbers of permissions, as lists come.
-use Rattle.cil_resolve.proofs.Common.{◌≡◌, ◌⊎◌, inl, inr, ℕ, zero, suc, List, [], ◌∷◌, ◌++◌, get_or, Option, Some, None, sym, subst, Placed, known_at, list_at, HaveNumbers, KnowNumbers}
+use Rattle.cil_resolve.proofs.Common.{◌≡◌, ◌∙◌, ◌⊎◌, inl, inr, ℕ, zero, suc, List, [], ◌∷◌, ◌++◌, get_or, Option, Some, None, none-some, sym, subst, Placed, known_at, list_at, HaveNumbers, KnowNumbers}
 use Rattle.cil_resolve.specs.declared.known_permissions.KnownPermissions.{KnownPermissions}
 use Rattle.cil_resolve.specs.declared.lowering.Lowering.{Lowering}
 
@@ -11,6 +11,10 @@ room-more (y ∷ ys) zero x is = is
 room-more (y ∷ ys) (suc n) x is = room-more ys n x is
 
 module _ {A : Type 0} where
+  -- nothing is known
+  pub none-known : (l : Lowering A) (known : KnownPermissions A) (policy : List Placed) → ((m n : ℕ) → known_at known m n ≡ None) → KnowNumbers l known policy
+  none-known l known policy none m n numbers found = absurd (none-some numbers (sym (none m n) ∙ found))
+
   -- the numbers of one more list
   pub know-more : (l : Lowering A) (old new : KnownPermissions A) (policy : List Placed) (m0 i : ℕ) (v : List ℕ) → KnowNumbers l old policy → HaveNumbers l.numbering.now.names.items policy (list_at l.checker.now.bound.joined.now m0 i) v
       → ((m n : ℕ) (some : List ℕ) → known_at new m n ≡ Some some → (known_at old m n ≡ Some some) ⊎ ((m ≡ m0) × (n ≡ i) × (some ≡ v))) → KnowNumbers l new policy

@@ -19,6 +19,11 @@ pub mod ClassLemmas
 pub mod PermitLemmas
 pub mod RuleLemmas
 pub mod GivenLemmas
+pub mod NamedLemmas
+pub mod OrderedLemmas
+pub mod PermissionSetLemmas
+pub mod SetGivenLemmas
+pub mod GatheredLemmas
 pub mod RuleOrderLemmas
 pub mod SetLemmas
 pub mod OneNameLemmas

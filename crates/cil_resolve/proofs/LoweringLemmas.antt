@@ -1,5 +1,5 @@
 -- What statements of a policy without faults mean, by numbers.
-use Rattle.cil_resolve.proofs.Common.{◌≡◌, ℕ, Bool, true, false, not, ◌&&◌, List, [], get_or, map, Contains, Option, Some, None, is_some, refl, sym, ap, ◌∙◌, subst, true≢false, unwrap_or, none-some, same_Some, Word, Placed, Table, types, classes, leads, references, declared_in, actual_statement, is_alias, is_attribute, WordExpr, leaves, element_words, kinds_asked, contains-first, element_or_none, class_name, name_or_none, Form, block, optional, type_name, type_alias, alias_actual, type_attribute, attribute_set, common, class, class_common, class_order, rule, IsFaultless, none-there, IsLead, IsFirstOf, numbered_id, IsElement, HaveElements, is_set, number_in, HavePlaces, Element}
+use Rattle.cil_resolve.proofs.Common.{◌≡◌, ℕ, Bool, true, false, not, ◌&&◌, List, [], get_or, map, Contains, Option, Some, None, is_some, refl, sym, ap, ◌∙◌, subst, true≢false, unwrap_or, none-some, same_Some, Word, Placed, Table, types, classes, permission_sets, leads, references, declared_in, actual_statement, is_alias, is_attribute, WordExpr, leaves, element_words, kinds_asked, contains-first, element_or_none, class_name, name_or_none, Form, block, optional, type_name, type_alias, alias_actual, type_attribute, attribute_set, common, class, class_common, class_order, class_permission, class_permission_set, rule, IsFaultless, none-there, IsLead, IsFirstOf, numbered_id, IsElement, HaveElements, is_set, number_in, HavePlaces, Element}
 use Rattle.std.proofs.Common.{slice_get}
 use Rattle.cil_specs.specs.Rule.{element_of}
 use Rattle.cil_expression.specs.declared.expression.Element.TheVariants as elements
@@ -19,7 +19,7 @@ found-at table policy None lead leads some = absurd (true≢false (sym some ∙ 
 found-at table policy (Some i) None leads some = absurd (true≢false (sym some))
 found-at table policy (Some i) (Some t) leads some = record { t = t; lead_is = refl; at = leads.is; first = leads.first }
 
--- what declares a class is one
+-- what declares a class has its full name's number
 class-declares : (form : Form) → is_some (declared_in classes form) ≡ true → (id : Word) × (declared_in classes form ≡ Some id) × (numbered_id form ≡ Some id)
 class-declares (class id permissions) e = (id, refl, refl)
 class-declares (block id) e = absurd (true≢false (sym e))
@@ -32,7 +32,26 @@ class-declares (attribute_set attribute expr) e = absurd (true≢false (sym e))
 class-declares (common id permissions) e = absurd (true≢false (sym e))
 class-declares (class_common the_class the_common) e = absurd (true≢false (sym e))
 class-declares (class_order the_classes) e = absurd (true≢false (sym e))
-class-declares (rule kind source target the_class permissions) e = absurd (true≢false (sym e))
+class-declares (class_permission id) e = absurd (true≢false (sym e))
+class-declares (class_permission_set set the_class permissions) e = absurd (true≢false (sym e))
+class-declares (rule kind source target permissions) e = absurd (true≢false (sym e))
+
+-- so is what declares a permission set
+set-declares : (form : Form) → is_some (declared_in permission_sets form) ≡ true → (id : Word) × (declared_in permission_sets form ≡ Some id) × (numbered_id form ≡ Some id)
+set-declares (block id) e = absurd (true≢false (sym e))
+set-declares (optional id) e = absurd (true≢false (sym e))
+set-declares (type_name id) e = absurd (true≢false (sym e))
+set-declares (type_alias id) e = absurd (true≢false (sym e))
+set-declares (alias_actual alias actual) e = absurd (true≢false (sym e))
+set-declares (type_attribute id) e = absurd (true≢false (sym e))
+set-declares (attribute_set attribute expr) e = absurd (true≢false (sym e))
+set-declares (common id permissions) e = absurd (true≢false (sym e))
+set-declares (class id permissions) e = absurd (true≢false (sym e))
+set-declares (class_common the_class the_common) e = absurd (true≢false (sym e))
+set-declares (class_order the_classes) e = absurd (true≢false (sym e))
+set-declares (class_permission id) e = (id, refl, refl)
+set-declares (class_permission_set set the_class permissions) e = absurd (true≢false (sym e))
+set-declares (rule kind source target permissions) e = absurd (true≢false (sym e))
 
 module _ (policy : List Placed) (faultless : IsFaultless policy) (s : Placed) (there : Contains policy s) where
   -- a word of a rule stands for what was noted where it leads
@@ -51,15 +70,28 @@ module _ (policy : List Placed) (faultless : IsFaultless policy) (s : Placed) (t
           never false = refl
       by t false e some = ap (λ b. not (b && not (is_some (actual_statement policy t)))) e
 
-  -- a class has the number that stands where its name leads
+  -- a name of a table whose names have numbers has the number that stands where it leads
+  number-led : (table : Table) → ((form : Form) → is_some (declared_in table form) ≡ true → (id : Word) × (declared_in table form ≡ Some id) × (numbered_id form ≡ Some id))
+      → (names : List (List ℕ)) (places : List ℕ) (word : Word) (found : Option ℕ) → HavePlaces names policy places → Contains (references s.form) (table, word)
+      → IsLead table policy found (leads policy table s.namespace word.text)
+      → number_in names (name_or_none table (leads policy table s.namespace word.text)) ≡ Some (get_or places (unwrap_or found 0) 0)
+  number-led table declares names places word found have refers lead =
+      let a = found-at table policy found (leads policy table s.namespace word.text) lead (word-found policy faultless s there table word refers) in
+      let (id, declared, numbered) = declares a.t.form (first-declares table policy (unwrap_or found 0) a.t a.at a.first) in
+      ap (λ o. number_in names (name_or_none table o)) a.lead_is ∙ ap (number_in names) (sym (full-name-in table a.t id numbered declared)) ∙ have (unwrap_or found 0) a.t a.at (ap is_some numbered)
+
+  -- so has a class
   pub class-led : (names : List (List ℕ)) (places : List ℕ) (word : Word) (found : Option ℕ) → HavePlaces names policy places → Contains (references s.form) (classes, word)
       → IsLead classes policy found (leads policy classes s.namespace word.text) → number_in names (class_name policy s.namespace word) ≡ Some (get_or places (unwrap_or found 0) 0)
-  class-led names places word found have refers lead =
-      let a = found-at classes policy found (leads policy classes s.namespace word.text) lead (word-found policy faultless s there classes word refers) in
-      let (id, declared, numbered) = class-declares a.t.form (first-declares classes policy (unwrap_or found 0) a.t a.at a.first) in
-      ap (λ o. number_in names (name_or_none classes o)) a.lead_is ∙ ap (number_in names) (sym (full-name-in classes a.t id numbered declared)) ∙ have (unwrap_or found 0) a.t a.at (ap is_some numbered)
+  class-led = number-led classes class-declares
 
-  -- so has the attribute of a set statement
+  -- and a permission set
+  pub set-led : (names : List (List ℕ)) (places : List ℕ) (word : Word) (found : Option ℕ) → HavePlaces names policy places → Contains (references s.form) (permission_sets, word)
+      → IsLead permission_sets policy found (leads policy permission_sets s.namespace word.text)
+      → number_in names (name_or_none permission_sets (leads policy permission_sets s.namespace word.text)) ≡ Some (get_or places (unwrap_or found 0) 0)
+  set-led = number-led permission_sets set-declares
+
+  -- and the attribute of a set statement
   pub attribute-led : (names : List (List ℕ)) (places : List ℕ) (attribute : Word) (expr : WordExpr) (found : Option ℕ) → s.form ≡ attribute_set attribute expr → HavePlaces names policy places
       → IsLead types policy found (leads policy types s.namespace attribute.text)
       → number_in names (name_or_none types (leads policy types s.namespace attribute.text)) ≡ Some (get_or places (unwrap_or found 0) 0)

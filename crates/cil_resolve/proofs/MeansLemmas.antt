@@ -1,6 +1,6 @@
 -- What a policy means is consistent.
-use Rattle.cil_resolve.proofs.Common.{◌≡◌, ◌∙◌, ℕ, true, List, [], ◌∷◌, Contains, refl, sym, ap, subst, if◌then◌else◌, Word, Placed, PolicyFault, twice, missing, missing_words, is_outside, IsFaultOf, Optionals, restricted, AreKept, AreApart, judged, Compiles, Meaning, Means, around, contains-first, IsFaultless, is_consistent}
-use Rattle.cil_resolve.proofs.ConsistentLemmas.{rules-declared}
+use Rattle.cil_resolve.proofs.Common.{◌≡◌, ◌∙◌, ℕ, true, List, [], ◌∷◌, Contains, refl, sym, ap, subst, if◌then◌else◌, Word, Placed, PolicyFault, twice, missing, missing_words, is_outside, IsFaultOf, Optionals, restricted, AreKept, AreApart, judged, Compiles, Meaning, Means, around, contains-first, IsFaultless, both_true, types_of, attributes_of, classes_of, rules_of, permission_sets_of, are_permission_sets_of, are_rules_of, is_consistent}
+use Rattle.cil_resolve.proofs.ConsistentLemmas.{rules-declared, sets-declared}
 use Rattle.cil_resolve.proofs.JudgedLemmas.{fault-of-within, kept-inside}
 
 -- The statements in kept optionals of a policy that compiles have no fault.
@@ -37,4 +37,8 @@ module _ (policy : List Placed) (kept : Optionals) (apart : AreApart policy) (ar
 
 pub means-consistent : (policy : List Placed) (kept : Optionals) (meaning : Meaning) → AreApart policy → Means policy kept meaning → is_consistent meaning ≡ true
 means-consistent policy kept meaning apart means =
-    ap is_consistent means.is ∙ rules-declared (restricted kept policy) (kept-faultless policy kept apart means.are_kept means.compiles)
+    let left = restricted kept policy in
+    let faultless = kept-faultless policy kept apart means.are_kept means.compiles in
+    ap is_consistent means.is
+    ∙ both_true (are_rules_of (types_of left) (attributes_of left) (classes_of left) (rules_of left)) (are_permission_sets_of (classes_of left) (permission_sets_of left)) (rules-declared left faultless)
+    (sets-declared left faultless)

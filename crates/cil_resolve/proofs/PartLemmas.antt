@@ -1,10 +1,12 @@
 -- The types, attributes, classes, set statements and rules of a policy, statement by statement.
-use Rattle.cil_resolve.proofs.Common.{◌≡◌, ℕ, Bool, true, false, ◌&&◌, nat_lt, List, [], ◌∷◌, ◌++◌, length, map, flat_map, Some, refl, sym, ap, ◌∙◌, true≢false, append-nil, if◌then◌else◌, list_all, lt-ltb, map-append, list_all-append, flat_map-append, Word, Placed, Form, block, optional, type_name, type_alias, alias_actual, type_attribute, attribute_set, common, class, class_common, class_order, rule, types, classes, declared_in, distinct, permissions_of, declared_as, class_as, is_class, is_type, is_attribute, itself, the_named, kind_of, kind-form, both_true, is_name_below, numbered_id, full_name_of, IsDeclared, IsClass, type_if, attribute_if, class_if, set_if, rule_if, AreNumbersIn, declared_of, AreRules, GivesNumbered, is_rule_below, is_written_below, keeps_no_list, meaning_of, Contains, Contains-push_cases, contains-first, first_true, inl, inr, subst}
+use Rattle.cil_resolve.proofs.Common.{◌≡◌, ℕ, Bool, true, false, ◌&&◌, nat_lt, List, [], ◌∷◌, ◌++◌, length, map, flat_map, Some, refl, sym, ap, ◌∙◌, true≢false, append-nil, if◌then◌else◌, list_all, lt-ltb, map-append, list_all-append, flat_map-append, Word, Placed, Form, block, optional, type_name, type_alias, alias_actual, type_attribute, attribute_set, common, class, class_common, class_order, class_permission, class_permission_set, rule, anonymous, by_name, types, classes, declared_in, distinct, permissions_of, declared_as, class_as, is_class, is_type, is_attribute, itself, the_named, kind_of, kind-form, both_true, is_name_below, numbered_id, full_name_of, IsDeclared, IsClass, type_if, attribute_if, class_if, set_if, rule_if, AreNumbersIn, class_of, declared_of, set_of, ArePartsOf, AreRules, GivesNumbered, Vec, is_rule_below, is_written_below, keeps_no_list, meaning_of, Contains, Contains-push_cases, contains-first, first_true, inl, inr, subst}
 use Rattle.cil_specs.specs.Rule as spec
+use Rattle.cil_text.specs.declared.statement.RuleKind as code
 use Rattle.cil_parse.specs.declared.row.StatementKind.{StatementKind}
 use Rattle.cil_parse.specs.declared.row.StatementKind.TheVariants as kinds
 use Rattle.cil_check.specs.Kinds.{is_kind}
 use Rattle.cil_check.specs.declared.kinds.Kind.TheVariants.{«Type», Attribute}
+use Rattle.cil_resolve.specs.declared.lowering.Parts.{Parts}
 use Rattle.cil_resolve.specs.declared.numbered.NumberedName.{NumberedName}
 use Rattle.cil_resolve.specs.Numbers.{rule_of}
 use Rattle.cil_resolve.specs.declared.numbered.NumberedClass.{NumberedClass}
@@ -24,7 +26,9 @@ class-form (attribute_set attribute expr) e = absurd (true≢false (sym e))
 class-form (common id permissions) e = absurd (true≢false (sym e))
 class-form (class_common the_class the_common) e = absurd (true≢false (sym e))
 class-form (class_order the_classes) e = absurd (true≢false (sym e))
-class-form (rule kind source target the_class permissions) e = absurd (true≢false (sym e))
+class-form (class_permission id) e = absurd (true≢false (sym e))
+class-form (class_permission_set set the_class permissions) e = absurd (true≢false (sym e))
+class-form (rule kind source target permissions) e = absurd (true≢false (sym e))
 
 -- a type or an attribute, by its parts
 pub declared-made : (modules names : List (List ℕ)) (d : NumberedName) (s : Placed) (id : Word) → IsDeclared modules names d s → numbered_id s.form ≡ Some id → declared_in types s.form ≡ Some id
@@ -72,7 +76,9 @@ attribute-form (common id permissions) e = absurd (true≢false (sym e))
 attribute-form (class id permissions) e = absurd (true≢false (sym e))
 attribute-form (class_common the_class the_common) e = absurd (true≢false (sym e))
 attribute-form (class_order the_classes) e = absurd (true≢false (sym e))
-attribute-form (rule kind source target the_class permissions) e = absurd (true≢false (sym e))
+attribute-form (class_permission id) e = absurd (true≢false (sym e))
+attribute-form (class_permission_set set the_class permissions) e = absurd (true≢false (sym e))
+attribute-form (rule kind source target permissions) e = absurd (true≢false (sym e))
 
 abbrev pub is_class_kind : StatementKind → Bool
 is_class_kind kinds.Class = true
@@ -81,6 +87,8 @@ is_class_kind _ = false
 abbrev pub is_rule_kind : StatementKind → Bool
 is_rule_kind (kinds.Rule kind) = true
 is_rule_kind (kinds.RuleToSelf kind) = true
+is_rule_kind (kinds.RuleOfSet kind) = true
+is_rule_kind (kinds.RuleToSelfOfSet kind) = true
 is_rule_kind _ = false
 
 class-kind : (form : Form) → is_class form ≡ is_class_kind (kind_of form)
@@ -95,12 +103,18 @@ class-kind (attribute_set attribute expr) = refl
 class-kind (common id permissions) = refl
 class-kind (class_common the_class the_common) = refl
 class-kind (class_order the_classes) = refl
-class-kind (rule kind source itself the_class permissions) = refl
-class-kind (rule kind source (the_named word) the_class permissions) = refl
+class-kind (class_permission id) = refl
+class-kind (class_permission_set set the_class permissions) = refl
+class-kind (rule kind source itself (anonymous the_class permissions)) = refl
+class-kind (rule kind source itself (by_name set)) = refl
+class-kind (rule kind source (the_named word) (anonymous the_class permissions)) = refl
+class-kind (rule kind source (the_named word) (by_name set)) = refl
 
 no-rule : (policy : List Placed) (s : Placed) (form : Form) → is_rule_kind (kind_of form) ≡ false → spec.rule_of policy s form ≡ []
-no-rule policy s (rule kind source itself the_class permissions) e = absurd (true≢false e)
-no-rule policy s (rule kind source (the_named word) the_class permissions) e = absurd (true≢false e)
+no-rule policy s (rule kind source itself (anonymous the_class permissions)) e = absurd (true≢false e)
+no-rule policy s (rule kind source itself (by_name set)) e = absurd (true≢false e)
+no-rule policy s (rule kind source (the_named word) (anonymous the_class permissions)) e = absurd (true≢false e)
+no-rule policy s (rule kind source (the_named word) (by_name set)) e = absurd (true≢false e)
 no-rule policy s (class id permissions) e = refl
 no-rule policy s (block id) e = refl
 no-rule policy s (optional id) e = refl
@@ -112,6 +126,8 @@ no-rule policy s (attribute_set attribute expr) e = refl
 no-rule policy s (common id permissions) e = refl
 no-rule policy s (class_common the_class the_common) e = refl
 no-rule policy s (class_order the_classes) e = refl
+no-rule policy s (class_permission id) e = refl
+no-rule policy s (class_permission_set set the_class permissions) e = refl
 
 abbrev pub is_set_kind : StatementKind → Bool
 is_set_kind kinds.TypeAttributeSet = true
@@ -154,6 +170,14 @@ pub no-set-kind : (kind : StatementKind) → (kind ≡ kinds.TypeAttributeSet �
 no-set-kind kinds.TypeAttributeSet never = absurd (never refl)
 no-set-kind _ never = refl
 
+pub no-rule-kind : (kind : StatementKind) → ((k : code.RuleKind) → kind ≡ kinds.Rule k → ⊥) → ((k : code.RuleKind) → kind ≡ kinds.RuleToSelf k → ⊥) → ((k : code.RuleKind) → kind ≡ kinds.RuleOfSet k → ⊥)
+    → ((k : code.RuleKind) → kind ≡ kinds.RuleToSelfOfSet k → ⊥) → is_rule_kind kind ≡ false
+no-rule-kind (kinds.Rule k) word self set both = absurd (word k refl)
+no-rule-kind (kinds.RuleToSelf k) word self set both = absurd (self k refl)
+no-rule-kind (kinds.RuleOfSet k) word self set both = absurd (set k refl)
+no-rule-kind (kinds.RuleToSelfOfSet k) word self set both = absurd (both k refl)
+no-rule-kind _ word self set both = refl
+
 -- what a statement is not
 pub no-type : (s : Placed) → is_type s.form ≡ false → type_if s ≡ []
 no-type s e = ap (λ b. if b then declared_as types s ∷ [] else []) e
@@ -189,3 +213,47 @@ rules-grow modules names policy old new r statements s so_far pushed one = recor
     | inr same ↦ subst (GivesNumbered (meaning_of policy []) modules names) same (one.give r (contains-first r []))
   ];
 }
+
+-- what a statement of a rule's kind is not
+rule-alone : (kind : StatementKind) → is_rule_kind kind ≡ true → (is_kind «Type» kind ≡ false) × (is_kind Attribute kind ≡ false) × (is_class_kind kind ≡ false) × (is_set_kind kind ≡ false)
+rule-alone (kinds.Rule kind) e = (refl, refl, refl, refl)
+rule-alone (kinds.RuleToSelf kind) e = (refl, refl, refl, refl)
+rule-alone (kinds.RuleOfSet kind) e = (refl, refl, refl, refl)
+rule-alone (kinds.RuleToSelfOfSet kind) e = (refl, refl, refl, refl)
+rule-alone _ e = absurd (true≢false (sym e))
+
+module _ {A : Type 0} (modules names : List (List ℕ)) (policy statements : List Placed) (s : Placed) (parts : Parts A) where
+  -- the parts with one rule more
+  pub with-rule : (rules : Vec (NumberedRule A) A) (r : NumberedRule A) → is_rule_kind (kind_of s.form) ≡ true → ArePartsOf modules names policy statements parts → rules.items ≡ parts.rules.items ++ r ∷ []
+      → AreRules modules names policy (r ∷ []) (rule_if policy s) → ArePartsOf modules names policy (statements ++ s ∷ []) (record parts { rules = rules })
+  with-rule rules r is so_far pushed one =
+      let kind = of-kind policy s (kind_of s.form) refl in
+      let (type, attribute, a_class, a_set) = rule-alone (kind_of s.form) is in
+      record {
+        types_are = stay (declared_of modules names) type_if parts.types.items parts.types.items statements s so_far.types_are refl (no-type s (kind.type ∙ type));
+        types_below = so_far.types_below;
+        attributes_are = stay (declared_of modules names) attribute_if parts.attributes.items parts.attributes.items statements s so_far.attributes_are refl (no-attribute s (kind.attribute ∙ attribute));
+        attributes_below = so_far.attributes_below;
+        classes_are = stay (class_of modules names) (class_if policy) parts.classes.items parts.classes.items statements s so_far.classes_are refl (no-class policy s (kind.a_class ∙ a_class));
+        classes_below = so_far.classes_below;
+        permission_sets_are = so_far.permission_sets_are;
+        sets_are = record { is = stay (set_of modules names) (set_if policy) parts.sets.items parts.sets.items statements s so_far.sets_are.is refl (kind.no_set a_set); below = so_far.sets_are.below };
+        rules_are = rules-grow modules names policy parts.rules.items rules.items r statements s so_far.rules_are pushed one;
+      }
+
+  -- with none more
+  pub with-none : (kind : StatementKind) → kind_of s.form ≡ kind → is_kind «Type» kind ≡ false → is_kind Attribute kind ≡ false → is_class_kind kind ≡ false → is_set_kind kind ≡ false → is_rule_kind kind ≡ false
+      → ArePartsOf modules names policy statements parts → ArePartsOf modules names policy (statements ++ s ∷ []) parts
+  with-none kind is type attribute a_class a_set a_rule so_far =
+      let of = of-kind policy s kind is in
+      record {
+        types_are = stay (declared_of modules names) type_if parts.types.items parts.types.items statements s so_far.types_are refl (no-type s (of.type ∙ type));
+        types_below = so_far.types_below;
+        attributes_are = stay (declared_of modules names) attribute_if parts.attributes.items parts.attributes.items statements s so_far.attributes_are refl (no-attribute s (of.attribute ∙ attribute));
+        attributes_below = so_far.attributes_below;
+        classes_are = stay (class_of modules names) (class_if policy) parts.classes.items parts.classes.items statements s so_far.classes_are refl (no-class policy s (of.a_class ∙ a_class));
+        classes_below = so_far.classes_below;
+        permission_sets_are = so_far.permission_sets_are;
+        sets_are = record { is = stay (set_of modules names) (set_if policy) parts.sets.items parts.sets.items statements s so_far.sets_are.is refl (of.no_set a_set); below = so_far.sets_are.below };
+        rules_are = rules-stay modules names policy parts.rules.items statements s so_far.rules_are (of.no_rule a_rule);
+      }

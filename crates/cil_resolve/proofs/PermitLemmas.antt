@@ -1,5 +1,5 @@
 -- What rules give of the permissions of their classes.
-use Rattle.cil_resolve.proofs.Common.{◌≡◌, ◌∙◌, ℕ, ◌<◌, ◌==◌, Bool, true, false, ◌&&◌, ◌||◌, nat_lt, List, [], ◌∷◌, map, filter, cond, length, get_or, Contains, bytes_eq, IsTrue, refl, sym, ap, subst, true≢false, list_all, list_any, ltb-true, bytes_eq-Decides, bytes_eq-true, Expr, leaves, map_leaves, has_name, Meaning, is_class_with, both_true, first_true, second_true, any-contained, passes-among, contains-middle, names_rise}
+use Rattle.cil_resolve.proofs.Common.{◌≡◌, ◌∙◌, ℕ, ◌<◌, ◌==◌, Bool, true, false, ◌&&◌, ◌||◌, nat_lt, List, [], ◌∷◌, map, filter, cond, length, get_or, Contains, bytes_eq, IsTrue, refl, sym, ap, subst, true≢false, list_all, list_any, ltb-true, bytes_eq-Decides, bytes_eq-true, Expr, leaves, map_leaves, has_name, Meaning, has_named, is_class_with, both_true, first_true, second_true, any-contained, passes-among, contains-middle, names_rise}
 use Rattle.cil_specs.specs.Expr.{holds_by, listed}
 use Rattle.cil_specs.specs.Meaning.{has_permission}
 use Rattle.cil_specs.proofs.ExistsLemmas.{of-all}
@@ -10,6 +10,18 @@ use Rattle.cil_resolve.proofs.RisingNames.{same-name}
 and-false : (b : Bool) → (b && false) ≡ false
 and-false true = refl
 and-false false = refl
+
+-- permissions of one class, by names
+pub named-of-class : (names : List (List ℕ)) (class : ℕ) (c q : List ℕ) (given : List ℕ)
+    → has_named names (map (λ n. record { class = class; permission = n }) given) c q ≡ (bytes_eq (get_or names class []) c && list_any (bytes_eq q) (map (λ n. get_or names n []) given))
+named-of-class names class c q [] = sym (and-false (bytes_eq (get_or names class []) c))
+named-of-class names class c q (n ∷ given) =
+    ap (λ b. (bytes_eq (get_or names class []) c && bytes_eq q (get_or names n [])) || b) (named-of-class names class c q given)
+    ∙ by (bytes_eq (get_or names class []) c) (bytes_eq q (get_or names n [])) (list_any (bytes_eq q) (map (λ n. get_or names n []) given))
+  where
+    by : (b one more : Bool) → ((b && one) || (b && more)) ≡ (b && (one || more))
+    by true one more = refl
+    by false one more = refl
 
 -- one of some permissions that a class has is one of the class
 named-there : (names has : List (List ℕ)) (q : List ℕ) → list_all (has_name has) names ≡ true → list_any (bytes_eq q) names ≡ true → has_name has q ≡ true

@@ -46,7 +46,7 @@ all-placed modules policy each =
         (λ s there. one-or-none (λ c. has_name modules c.module_name) (is_class s.form) (class_as policy s) (each s there))
 
     in_rule : (s : Placed) (form : Form) → has_name modules s.module_name ≡ true → list_all (λ r. has_name modules r.module_name) (rule_of policy s form) ≡ true
-    in_rule s (rule kind source target the_class permissions) e = ap (λ c. c && true) e
+    in_rule s (rule kind source target permissions) e = ap (λ c. c && true) e
     in_rule s _ e = refl
 
     rules_in : list_all (λ r. has_name modules r.module_name) (rules_of policy) ≡ true

@@ -1,43 +1,81 @@
 -- Rules by numbers.
-use Rattle.cil_resolve.proofs.Common.{◌≡◌, ℕ, Bool, true, false, ◌&&◌, ◌||◌, nat_lt, List, [], ◌∷◌, length, get_or, map, flat_map, Contains, inl, inr, arith, list_any, contains-cases, WordExpr, meaning_of, Option, Some, None, is_some, bytes_eq, refl, sym, ap, ◌∙◌, subst, true≢false, if◌then◌else◌, list_all, lt-ltb, none-some, slice_get-get_or, Word, Placed, RuleKind, allow, auditallow, dontaudit, neverallow, Target, Form, block, optional, type_name, type_alias, alias_actual, type_attribute, attribute_set, common, class, class_common, class_order, rule, unwrap_or, list_any-append, contains-first, contains-other, contains-map, rule_kind, IsLead, IsFaultless, lead-of, bound-at, Table, commons, classes, has_name, texts, own_permissions, listed_by, leads, references, named_permissions, gives_common, common_permissions, permissions_of, class_name, both_true, place_of, rule_kind_of, is_element_below, is_target_below, is_rule_below, is_written_below, keeps_no_list, IsElement, ArePermissions, AreRules, GivesNumbered, number_in, listed_names, resolved_target_of}
+use Rattle.cil_resolve.proofs.Common.{◌≡◌, ℕ, Bool, true, false, ◌&&◌, ◌||◌, nat_lt, List, [], ◌∷◌, length, get_or, map, flat_map, Contains, inl, inr, arith, contains-cases, WordExpr, meaning_of, Option, Some, None, is_some, bytes_eq, refl, sym, ap, ◌∙◌, subst, true≢false, if◌then◌else◌, list_all, lt-ltb, none-some, slice_get-get_or, Word, Placed, RuleKind, allow, auditallow, dontaudit, neverallow, Target, Form, block, optional, type_name, type_alias, alias_actual, type_attribute, attribute_set, common, class, class_common, class_order, class_permission, class_permission_set, rule, unwrap_or, list_any-append, contains-first, contains-other, contains-map, rule_kind, IsLead, IsFaultless, lead-of, bound-at, Table, commons, classes, has_name, texts, own_permissions, listed_by, leads, references, named_permissions, gives_common, common_permissions, permissions_of, both_true, rule_kind_of, is_element_below, is_target_below, is_rule_below, is_written_below, keeps_no_list, ArePermissions, AreRules, GivesNumbered, listed_names, ClassPermissions, GivePermissions, IsRuleStart, rule_with, are_permissions_below, texts_in, place_of, IsElement, resolved_target_of, at_element, itself, the_named, Element}
 use Rattle.std.proofs.Common.{slice_get}
 use Rattle.cil_bind.specs.Binding.{AreBound}
 use Rattle.cil_resolve.proofs.FaultlessLemmas.{permission-found}
 use Rattle.cil_resolve.proofs.LoweringLemmas.{found-at}
 use Rattle.cil_resolve.proofs.StatementLemmas.{contained}
 use Rattle.cil_specs.specs.Rule as spec
-use Rattle.cil_specs.specs.Expr.{holds_by}
-use Rattle.cil_specs.specs.Meaning.{has_permission}
+use Rattle.cil_specs.specs.Meaning.{permissions_permit}
+use Rattle.cil_resolve.specs.declared.numbered.NumberedPermissions.{NumberedPermissions}
 use Rattle.cil_resolve.specs.declared.numbered.NumberedRule.{NumberedRule}
+use Rattle.cil_resolve.specs.declared.numbered.ResolvedPermissions.{ResolvedPermissions}
+use Rattle.cil_resolve.specs.declared.numbered.ResolvedPermissions.TheVariants as permits
+use Rattle.cil_resolve.specs.declared.numbered.ResolvedTarget.TheVariants as aims
+use Rattle.cil_resolve.specs.declared.rules.RuleStart.{RuleStart}
 use Rattle.cil_resolve.proofs.NumberLemmas.{named-in, number-is}
 
 -- a rule, by its parts
-pub rule-made : {A : Type 0} (modules names : List (List ℕ)) (policy : List Placed) (s : Placed) (r : NumberedRule A) (kind : RuleKind) (source : Word) (target : Target) (the_class : Word) (permissions : WordExpr)
-    → get_or modules r.«module» [] ≡ s.module_name → place_of r.at ≡ s.at → rule_kind_of r.kind ≡ kind → IsElement names r.source (spec.element_of policy s.namespace source)
-    → resolved_target_of names r.target ≡ spec.resolved_target_of policy s.namespace target → is_target_below (length names) r.target ≡ true → number_in names (class_name policy s.namespace the_class) ≡ Some r.class
-    → ArePermissions {A = A} names policy (class_name policy s.namespace the_class) permissions (record { given = r.permissions; written = r.written })
-    → AreRules modules names policy (r ∷ []) (spec.rule_of policy s (rule kind source target the_class permissions))
-rule-made modules names policy s r kind source target the_class permissions m a k from aim aim_below cls are =
-    let (low, named) = number-is names (class_name policy s.namespace the_class) r.class cls in
+pub rule-made : {A : Type 0} (modules names : List (List ℕ)) (policy : List Placed) (s : Placed) (r : RuleStart) (p : ResolvedPermissions A) (kind : RuleKind) (source : Word) (target : Target)
+    (permissions : ClassPermissions) → IsRuleStart modules names policy s kind source target permissions r → GivePermissions names policy (spec.resolved_permissions_of policy s.namespace permissions) p
+    → AreRules modules names policy (rule_with r p ∷ []) (spec.rule_of policy s (rule kind source target permissions))
+rule-made {A = A} modules names policy s r p kind source target permissions start are =
+    let n = length names in
+    let x : NumberedRule A = rule_with r p in
     record {
-      is = λ j. record { module_name = m j; at = a j; kind = k j; source = from.named j; target = aim j; the_class = named j; permissions = are.spelt.named j } ∷ [];
+      is = λ j. record { module_name = start.placed_in j; at = start.placed j; kind = start.of_kind j; source = start.from.named j; target = start.to j; permissions = are.is j } ∷ [];
       below =
-          both_true (is_rule_below (length names) r) true
-          (both_true (is_element_below (length names) r.source) (is_target_below (length names) r.target && (nat_lt r.class (length names) && list_all (λ p. nat_lt p (length names)) r.permissions)) from.below
-          (both_true (is_target_below (length names) r.target) (nat_lt r.class (length names) && list_all (λ p. nat_lt p (length names)) r.permissions) aim_below
-          (both_true (nat_lt r.class (length names)) (list_all (λ p. nat_lt p (length names)) r.permissions) (lt-ltb r.class (length names) low) are.below))) refl;
-      written_below = both_true (is_written_below (length names) r) true are.spelt.below refl;
-      no_lists = both_true (keeps_no_list r) true are.no_list refl;
-      give = λ x c. elim (contains-cases r [] x c) [
-        | inl same ↦ subst (GivesNumbered (meaning_of policy []) modules names) same (gives named)
+          both_true (is_rule_below n x) true
+          (both_true (is_element_below n r.source) (is_target_below n r.target && are_permissions_below n p) start.from.below
+          (both_true (is_target_below n r.target) (are_permissions_below n p) start.to_below are.below)) refl;
+      written_below = both_true (is_written_below n x) true are.written_below refl;
+      no_lists = both_true (keeps_no_list x) true are.no_list refl;
+      give = λ y there. elim (contains-cases x [] y there) [
+        | inl same ↦ subst (GivesNumbered (meaning_of policy []) modules names) same (λ c q. ap (λ m. permissions_permit (meaning_of policy []) m c q) are.is ∙ are.gives c q)
         | inr none ↦ absurd (omega (arith, none.1))
       ];
     }
-  where
-    gives : get_or names r.class [] ≡ class_name policy s.namespace the_class → GivesNumbered (meaning_of policy []) modules names r
-    gives named c q =
-        (λ i. bytes_eq (named i) c && (has_permission (meaning_of policy []) c q && holds_by (bytes_eq q) (are.spelt.named i))) ∙ are.gives c q
-        ∙ ap (λ x. bytes_eq x c && list_any (bytes_eq q) (map (λ n. get_or names n []) r.permissions)) (sym named)
+
+module _ (modules names : List (List ℕ)) (policy : List Placed) (s : Placed) (kind : RuleKind) (source : Word) (target : Target) (permissions : ClassPermissions) (r : RuleStart) (form : s.form ≡ rule kind source target permissions) where
+  -- a rule that aims at a word
+  pub start-named : (word : Word) → target ≡ the_named word → (element : Element) → get_or modules r.«module» [] ≡ s.module_name → place_of r.at ≡ s.at → rule_kind_of r.kind ≡ kind
+      → IsElement names r.source (spec.element_of policy s.namespace source) → r.target ≡ aims.Element element → IsElement names element (spec.element_of policy s.namespace word) → r.reference ≡ 2
+      → IsRuleStart modules names policy s kind source target permissions r
+  start-named word aimed element m a k from is_target to reference = record {
+    placed_in = m;
+    placed = a;
+    of_kind = k;
+    from = from;
+    to = ap (resolved_target_of names) is_target ∙ ap at_element to.named ∙ ap (spec.resolved_target_of policy s.namespace) (sym aimed);
+    to_below = ap (is_target_below (length names)) is_target ∙ to.below;
+    refers = ap (slice_get (references s.form)) reference ∙ ap (λ f. slice_get (references f) 2) (form ∙ ap (λ t. rule kind source t permissions) aimed);
+  }
+
+  -- one that aims at each source itself
+  pub start-itself : target ≡ itself → get_or modules r.«module» [] ≡ s.module_name → place_of r.at ≡ s.at → rule_kind_of r.kind ≡ kind → IsElement names r.source (spec.element_of policy s.namespace source)
+      → r.target ≡ aims.Itself → r.reference ≡ 1 → IsRuleStart modules names policy s kind source target permissions r
+  start-itself aimed m a k from is_target reference = record {
+    placed_in = m;
+    placed = a;
+    of_kind = k;
+    from = from;
+    to = ap (resolved_target_of names) is_target ∙ ap (spec.resolved_target_of policy s.namespace) (sym aimed);
+    to_below = ap (is_target_below (length names)) is_target;
+    refers = ap (slice_get (references s.form)) reference ∙ ap (λ f. slice_get (references f) 1) (form ∙ ap (λ t. rule kind source t permissions) aimed);
+  }
+
+-- permissions of a class
+pub class-gives : {A : Type 0} (names : List (List ℕ)) (policy : List Placed) (the_class : List ℕ) (permissions : WordExpr) (p : NumberedPermissions A) → ArePermissions names policy the_class permissions p
+    → GivePermissions names policy (spec.of_class the_class (texts_in permissions)) (permits.OfClass p)
+class-gives names policy the_class permissions p are =
+    let (low, named) = number-is names the_class p.class are.of_class in
+    record {
+      is = λ j. spec.of_class (named j) (are.spelt.named j);
+      below = both_true (nat_lt p.class (length names)) (list_all (λ q. nat_lt q (length names)) p.given) (lt-ltb p.class (length names) low) are.below;
+      written_below = are.spelt.below;
+      no_list = are.no_list;
+      gives = are.gives;
+    }
 
 -- no rules
 pub no-rules : {A : Type 0} (modules names : List (List ℕ)) (policy : List Placed) (rules : List (NumberedRule A)) → rules ≡ [] → AreRules modules names policy rules []
@@ -83,7 +121,9 @@ module _ (policy : List Placed) (bound : List (List (Option ℕ))) (are : AreBou
   common-listed v i name at (common id permissions) form has = absurd (true≢false (sym has))
   common-listed v i name at (class id permissions) form has = absurd (true≢false (sym has))
   common-listed v i name at (class_order the_classes) form has = absurd (true≢false (sym has))
-  common-listed v i name at (rule kind source target the_class permissions) form has = absurd (true≢false (sym has))
+  common-listed v i name at (class_permission id) form has = absurd (true≢false (sym has))
+  common-listed v i name at (class_permission_set set the_class permissions) form has = absurd (true≢false (sym has))
+  common-listed v i name at (rule kind source target permissions) form has = absurd (true≢false (sym has))
 
   -- the permissions of a class are permissions that statements list
   class-listed : (t : Placed) (n : ℕ) (name : List ℕ) → slice_get policy n ≡ Some t → has_name (permissions_of policy t) name ≡ true → has_name (listed_names policy) name ≡ true

@@ -5,7 +5,7 @@ use Rattle.cil_specs.specs.Violations.{rule_cmp}
 
 -- a rule stands where its statement does
 rule-stands : (whole : List Placed) (s : Placed) (form : Form) (r : Rule) → Contains (rule_of whole s form) r → (s.module_name ≡ r.module_name) × (s.at.offset ≡ r.at.offset)
-rule-stands whole s (rule kind source target the_class permissions) r c = elim (contains-cases _ [] r c) [
+rule-stands whole s (rule kind source target permissions) r c = elim (contains-cases _ [] r c) [
   | inl same ↦ (ap (λ (y : Rule). y.module_name) same, ap (λ (y : Rule). y.at.offset) same)
   | inr none ↦ absurd (omega (arith, none.1))
 ]
@@ -13,7 +13,7 @@ rule-stands whole s _ r c = absurd (omega (arith, c.1))
 
 -- a statement gives one rule at most
 rule-alone : (whole : List Placed) (s : Placed) (form : Form) → length (rule_of whole s form) ≤ 1
-rule-alone whole s (rule kind source target the_class permissions) = omega arith
+rule-alone whole s (rule kind source target permissions) = omega arith
 rule-alone whole s _ = omega arith
 
 -- what stands at statements in order is in order

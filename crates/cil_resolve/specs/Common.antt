@@ -14,7 +14,7 @@ pub use Rattle.cil_resolve.specs.Below.{is_element_below, is_rule_below, is_writ
 pub use Rattle.cil_resolve.specs.FullNames.{full_name_of, is_numbered, is_numbered_kind, numbered_id, space_text}
 pub use Rattle.cil_resolve.specs.Judged.{AreJudged, IsInOrder, IsJudged, IsWhole}
 pub use Rattle.cil_resolve.specs.KnownPermissions.{KnowNumbers, known_at, list_at}
-pub use Rattle.cil_resolve.specs.Lowering.{AreElements, ArePartsOf, ArePermissions, AreRules, AreSets, HaveElements, IsClass, IsDeclared, IsElement, IsExpression, IsIn, IsLowering, IsRuleWith, IsRuleWritten, IsSet, IsSpeltBy, common_of, is_set, modules_of, rule_if, set_if}
+pub use Rattle.cil_resolve.specs.Lowering.{AreElements, ArePartsOf, ArePermissionSets, ArePermissions, AreRules, AreSets, HaveElements, IsClass, IsDeclared, IsElement, IsExpression, IsIn, IsLowering, IsPermissionSet, IsRule, IsRuleOfClass, IsRuleOfSet, IsRuleStart, IsSet, IsSpeltBy, KnowSets, NamesPermissions, WritesPermissions, common_of, is_set, modules_of, permission_set_if, rule_if, rule_with, set_if}
 pub use Rattle.cil_resolve.specs.Meter.{adjustments_in, evaluations_in}
 pub use Rattle.cil_resolve.specs.Modules.{AreParsedFrom}
 pub use Rattle.cil_resolve.specs.Numbering.{AreNumbersIn, HavePlaces, listed_names, number_in}
@@ -24,7 +24,7 @@ pub use Rattle.cil_resolve.specs.Sets.{IsAnswer, TellsMembers, name_in, sets_in}
 pub use Rattle.cil_specs.specs.Expr.{Expr, WordExpr, leaves, map_leaves}
 pub use Rattle.cil_specs.specs.Joined.{Placed}
 pub use Rattle.cil_specs.specs.Kept.{AreApart, AreKept, IsFirstFault, IsGood, IsWithin, Optionals, dropped_of, restricted}
-pub use Rattle.cil_specs.specs.Lookup.{Table, classes, commons, distinct, has_name, leads, own_permissions, permissions_of, references, scopes, texts, types, with_name}
+pub use Rattle.cil_specs.specs.Lookup.{Table, classes, commons, distinct, has_name, leads, own_permissions, permission_sets, permissions_of, references, scopes, texts, types, with_name}
 pub use Rattle.cil_specs.specs.Meaning.{Meaning, Means, holds, is_in, keeps_type, meaning_of, permits}
 pub use Rattle.cil_specs.specs.Members.{HasSoundSets, is_member, keeps_attribute}
 pub use Rattle.cil_specs.specs.Names.{Word}

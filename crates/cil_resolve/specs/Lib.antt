@@ -8,6 +8,8 @@ pub mod Views
 pub mod Modules
 pub mod FullNames
 pub mod Numbering
+pub mod SetPermissions
+pub mod GivenSets
 pub mod Lowering
 pub mod KnownPermissions
 pub mod Dropped

@@ -5,7 +5,7 @@ use Rattle.cil_specs.specs.Joined.{Placed}
 use Rattle.cil_specs.specs.Lookup.{has_name, texts, own_permissions}
 use Rattle.cil_resolve.specs.FullNames.{is_numbered, full_name_of}
 
--- the names that a statement brings: the full name of a type, an attribute or a class, and the names of permissions
+-- the names that a statement brings: the full name of a type, an attribute, a class or a permission set, and the names of permissions
 abbrev pub names_with : Placed → List (List ℕ)
 names_with s = (if is_numbered s.form then full_name_of s ∷ [] else []) ++ texts (own_permissions s.form)
 
@@ -28,7 +28,7 @@ number_in names name = position (bytes_eq name) names
 abbrev pub AreNumbersIn : List (List ℕ) → List (List ℕ) → List ℕ → Type 0
 AreNumbersIn names some numbers = map Some numbers ≡ map (number_in names) some
 
--- For each statement that declares a type, an attribute or a class, the number of its full name stands at its place.
+-- For each statement that declares a type, an attribute, a class or a permission set, the number of its full name stands at its place.
 abbrev pub HavePlaces : List (List ℕ) → List Placed → List ℕ → Type 0
 HavePlaces names policy places = (i : ℕ) (s : Placed) → slice_get policy i ≡ Some s → IsTrue (is_numbered s.form) → number_in names (full_name_of s) ≡ Some (slice_index_or places i 0)
 

@@ -74,7 +74,7 @@ pub fn space_names<A: Allocator + Copy>(
     Ok(names)
 }
 
-/// Whether statements of a kind declare a type, an attribute or a class.
+/// Whether statements of a kind declare a type, an attribute, a class or a permission set.
 pub fn is_numbered(kind: StatementKind) -> bool
     ensures { result ≡ is_numbered_kind kind }
 {
@@ -82,11 +82,13 @@ pub fn is_numbered(kind: StatementKind) -> bool
         StatementKind::TypeName => true,
         StatementKind::TypeAttribute => true,
         StatementKind::Class => true,
+        StatementKind::ClassPermission => true,
         _ => false,
     }
 }
 
-/// The name of the type, the attribute or the class that a statement declares, without the names of the blocks around.
+/// The name of the type, the attribute, the class or the permission set that a statement declares, without the names of the blocks
+/// around.
 fn numbered_word<A: Allocator>(seen: &Seen<'_, '_, A>) -> Option<NumberedWord>
     ensures { (policy : List Placed) (s : Placed) → IsSeen seen.now policy s → Reads seen.now result (numbered_id s.form) }
 {
@@ -115,8 +117,8 @@ fn add_name<A: Allocator + Copy>(
     Ok(())
 }
 
-/// Puts in the full name of the statement of a place, if it declares a type, an attribute or a class, and closes its list. Only such a
-/// statement is looked at whole.
+/// Puts in the full name of the statement of a place, if it declares a type, an attribute, a class or a permission set, and closes its
+/// list. Only such a statement is looked at whole.
 fn add_statement<A: Allocator + Copy>(
     names: &mut Lists<u8, A>,
     bound: &BoundPolicy<'_, '_, A>,
@@ -141,7 +143,8 @@ fn add_statement<A: Allocator + Copy>(
     Ok(())
 }
 
-/// For each statement of a policy the full name of the type, the attribute or the class that it declares, and nothing where it declares none.
+/// For each statement of a policy the full name of the type, the attribute, the class or the permission set that it declares, and
+/// nothing where it declares none.
 pub fn full_names<A: Allocator + Copy>(
     alloc: A,
     bound: &BoundPolicy<'_, '_, A>,

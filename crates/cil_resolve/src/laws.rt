@@ -33,7 +33,7 @@ pub fn kept_is_one()
 {}
 
 /// In what a policy means the rules name what is declared: their sources and targets are among the types, or among the attributes,
-/// as they say, and their classes among the classes, with these permissions.
+/// as they say, and their classes among the classes, with these permissions; so do the statements of permission sets.
 pub fn meanings_are_consistent()
     ensures { (policy : List Placed) (kept : Optionals) (meaning : Meaning) → AreApart policy
         → Means policy kept meaning → IsTrue (is_consistent meaning) }
@@ -78,7 +78,7 @@ pub fn resolved_rules_are_in_order<A: Allocator>(resolved: &Resolved<A>)
     ensures { IsStrictlySortedBy rule_cmp (meaning_in resolved.now).rules }
 {}
 
-/// Each of them gives the permissions at its numbers, of its class, and no others.
+/// Each of them gives the permissions at its numbers, each of its class, and no others.
 pub fn resolved_rules_permit<A: Allocator>(resolved: &Resolved<A>)
     ensures { (r : NumberedRule A) → Contains resolved.now.rules.items r
         → GivesNumbered (meaning_in resolved.now) resolved.now.modules.items resolved.now.names.items r }

@@ -1,10 +1,13 @@
 //! What a joined policy of parsed modules resolves to.
 #![tactic(auto)]
 
+mod class_permissions;
 mod dropped;
 mod elements;
 mod evaluate;
 mod full_names;
+mod gathering;
+mod given_sets;
 mod judged;
 mod known_permissions;
 mod laws;
@@ -15,13 +18,18 @@ mod names;
 mod numbered;
 mod numbering;
 mod one_name;
+mod permission_lists;
 mod permission_numbers;
+mod permission_sets;
 mod permits;
 mod resolved;
 mod resolver;
-mod rule_permissions;
+mod rules;
 mod same;
 mod set_order;
+mod set_permissions;
+mod set_statements;
+mod statement_permissions;
 mod text;
 mod views;
 mod words;
@@ -37,10 +45,15 @@ pub use laws::{
 };
 pub use meter::Meter;
 pub use numbered::{
-    DroppedOptional, NumberedClass, NumberedName, NumberedRule, NumberedSet, ResolvedTarget,
+    DroppedOptional, NumberedClass, NumberedName, NumberedPermissionSet, NumberedPermissions,
+    NumberedRule, NumberedSet, ResolvedPermissions, ResolvedTarget,
 };
 pub use permission_numbers::PermissionNumbers;
 pub use resolved::Resolved;
 pub use resolver::resolve;
+pub use set_permissions::{ClassPermission, SetPermissions};
 pub use text::Text;
-pub use views::{ClassView, ElementView, NameView, RuleView, SetView, TargetView};
+pub use views::{
+    ClassView, ElementView, NameView, PermissionSetView, PermissionsView, RuleView, SetView,
+    TargetView,
+};

@@ -54,6 +54,7 @@ pub fn lowered<A: Allocator + Copy>(
         types: parts.types,
         attributes: parts.attributes,
         classes: parts.classes,
+        permission_sets: parts.permission_sets,
         sets,
         rules: parts.rules,
         dropped,

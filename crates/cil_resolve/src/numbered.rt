@@ -1,6 +1,7 @@
 //! Types, classes, set statements and rules by the numbers of their names.
 
 use crate::permission_numbers::PermissionNumbers;
+use crate::set_permissions::SetPermissions;
 use crate::text::Text;
 use cil_expression::{Element, Expression, SetExpression};
 use cil_text::{Place, RuleKind};
@@ -40,8 +41,32 @@ pub struct NumberedSet<A: Allocator = Global> {
     pub expression: SetExpression<A>,
 }
 
-/// A rule whose names are numbers: places in a list of names. Its permissions are those that it gives of its class; where they are
-/// written as an expression that is no plain list, it keeps that too, with the permissions that it names.
+/// Permissions of a class: those that are given; and, where they are written as an expression that is no plain list, that expression,
+/// with the permissions that it names.
+#[derive(Drop)]
+pub struct NumberedPermissions<A: Allocator = Global> {
+    pub class: usize,
+    pub given: PermissionNumbers<A>,
+    pub written: Option<Box<Expression<usize, A>, A>>,
+}
+
+/// A statement that gives a permission set permissions of a class.
+#[derive(Drop)]
+pub struct NumberedPermissionSet<A: Allocator = Global> {
+    pub module: usize,
+    pub at: Place,
+    pub set: usize,
+    pub permissions: NumberedPermissions<A>,
+}
+
+/// A rule's permissions: those of a class, or those of a permission set.
+#[derive(Drop)]
+pub enum ResolvedPermissions<A: Allocator = Global> {
+    OfClass(NumberedPermissions<A>),
+    OfSet(SetPermissions<A>),
+}
+
+/// A rule whose names are numbers: places in a list of names.
 #[derive(Drop)]
 pub struct NumberedRule<A: Allocator = Global> {
     pub module: usize,
@@ -49,9 +74,7 @@ pub struct NumberedRule<A: Allocator = Global> {
     pub kind: RuleKind,
     pub source: Element,
     pub target: ResolvedTarget,
-    pub class: usize,
-    pub permissions: PermissionNumbers<A>,
-    pub written: Option<Box<Expression<usize, A>, A>>,
+    pub permissions: ResolvedPermissions<A>,
 }
 
 /// An optional that drops, also one inside another: the place of its module's name, the place of its statement, and its full name.

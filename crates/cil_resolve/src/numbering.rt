@@ -24,9 +24,9 @@ use cil_names::Names;
 use cil_parse::{Lists, NumberedWord, StatementKind};
 use std::alloc::{AllocError, Allocator, Global};
 
-/// The names of types, attributes, classes and permissions in the order of their bytes. For each statement that declares a type, an
-/// attribute or a class, the number of its full name stands at its place; and for each permission that statements list, its number
-/// stands at the number of its word.
+/// The names of types, attributes, classes, permission sets and permissions in the order of their bytes. For each statement that
+/// declares a type, an attribute, a class or a permission set, the number of its full name stands at its place; and for each permission
+/// that statements list, its number stands at the number of its word.
 #[derive(Drop)]
 pub struct Numbering<A: Allocator = Global> {
     pub names: Vec<Text<A>, A>,
@@ -67,7 +67,8 @@ fn insert_words<'t, 'm: 't, A: Allocator + Copy>(
     Ok(())
 }
 
-/// Puts in the names that a statement brings: its full name, if it declares a type, an attribute or a class, and permissions.
+/// Puts in the names that a statement brings: its full name, if it declares a type, an attribute, a class or a permission set, and
+/// permissions.
 fn insert_names<'t, 'm: 't, A: Allocator + Copy>(
     names: &mut Names<'t, A>,
     seen: &Seen<'_, 'm, A>,
@@ -109,7 +110,7 @@ fn insert_names_at<'t, 'm: 't, A: Allocator + Copy>(
     insert_names(names, &seen, full_names.get(i))
 }
 
-/// The full names of types, attributes and classes and the names of permissions, in the order of their bytes.
+/// The full names of types, attributes, classes and permission sets and the names of permissions, in the order of their bytes.
 fn sorted_names<'t, 'm: 't, A: Allocator + Copy>(
     alloc: A,
     bound: &BoundPolicy<'_, 'm, A>,
@@ -127,7 +128,7 @@ fn sorted_names<'t, 'm: 't, A: Allocator + Copy>(
     Ok(names)
 }
 
-/// For each statement that declares a type, an attribute or a class, the number of its full name; 0 for others.
+/// For each statement that declares a type, an attribute, a class or a permission set, the number of its full name; 0 for others.
 fn place_numbers<A: Allocator + Copy>(
     alloc: A,
     bound: &BoundPolicy<'_, '_, A>,

@@ -11,16 +11,18 @@ ghost use Rattle.std.proofs.Props.{props};
 ghost use Rattle.cil_resolve.specs.Apart.{StandApart};
 ghost use Rattle.cil_resolve.specs.Numbers.{AreConsistent, GivesNumbered, keeps_no_list, meaning_by, rule_of, set_of};
 
-use crate::numbered::{DroppedOptional, NumberedClass, NumberedName, NumberedRule};
+use crate::numbered::{
+    DroppedOptional, NumberedClass, NumberedName, NumberedPermissionSet, NumberedRule,
+};
 use crate::set_order::OrderedSets;
 use crate::text::Text;
 use std::alloc::{Allocator, Global};
 
-/// A policy that compiles, by full names, which it owns. The names of types, attributes, classes and permissions are numbered in
-/// the order of their bytes, so that the order of the numbers is that of the names. Its rules name what it declares: types,
-/// attributes, and classes with their permissions; so do its set statements, and no attribute depends on itself. No two set
-/// statements stand at one place, and there are fewer than 2^32. Its rules stand in the order of their modules and offsets, and each
-/// gives the permissions that it has by number.
+/// A policy that compiles, by full names, which it owns. The names of types, attributes, classes, permission sets and permissions are
+/// numbered in the order of their bytes, so that the order of the numbers is that of the names. Its rules name what it declares: types,
+/// attributes, and classes with their permissions; so do its set statements, and what it says of permission sets; and no attribute
+/// depends on itself. No two set statements stand at one place, and there are fewer than 2^32. Its rules stand in the order of their
+/// modules and offsets, and each gives the permissions that it has by number.
 #[derive(Drop)]
 pub struct Resolved<A: Allocator = Global> {
     pub(crate) modules: Vec<Text<A>, A>,
@@ -28,6 +30,7 @@ pub struct Resolved<A: Allocator = Global> {
     pub(crate) types: Vec<NumberedName, A>,
     pub(crate) attributes: Vec<NumberedName, A>,
     pub(crate) classes: Vec<NumberedClass<A>, A>,
+    pub(crate) permission_sets: Vec<NumberedPermissionSet<A>, A>,
     pub(crate) sets: OrderedSets<A>,
     pub(crate) rules: Vec<NumberedRule<A>, A>,
     pub(crate) dropped: Vec<DroppedOptional<A>, A>,
@@ -39,10 +42,10 @@ pub struct Resolved<A: Allocator = Global> {
     pub(crate) ghost rules_within: { IsTrue (list_all (is_rule_below (length names.items)) rules.items) },
     pub(crate) ghost written_within: { IsTrue (list_all (is_written_below (length names.items)) rules.items) },
     pub(crate) ghost no_lists: { IsTrue (list_all keeps_no_list rules.items) },
-    pub(crate) ghost sound: { HasSoundSets (meaning_by modules.items names.items types.items attributes.items classes.items sets.sets.items rules.items dropped.items) },
+    pub(crate) ghost sound: { HasSoundSets (meaning_by modules.items names.items types.items attributes.items classes.items permission_sets.items sets.sets.items rules.items dropped.items) },
     pub(crate) ghost apart: { AllPairs StandApart (map (set_of modules.items names.items) sets.sets.items) },
     pub(crate) ghost few: { length sets.sets.items < 2 ^ 32 },
     pub(crate) ghost rules_ordered: { IsStrictlySortedBy rule_cmp (map (rule_of modules.items names.items) rules.items) } by { Prim.hlevel props },
-    pub(crate) ghost permitted: { (r : _) → Contains rules.items r → GivesNumbered (meaning_by modules.items names.items types.items attributes.items classes.items sets.sets.items rules.items dropped.items) modules.items names.items r } by { Prim.hlevel props },
-    pub(crate) ghost consistent: { AreConsistent modules.items names.items types.items attributes.items classes.items rules.items },
+    pub(crate) ghost permitted: { (r : _) → Contains rules.items r → GivesNumbered (meaning_by modules.items names.items types.items attributes.items classes.items permission_sets.items sets.sets.items rules.items dropped.items) modules.items names.items r } by { Prim.hlevel props },
+    pub(crate) ghost consistent: { AreConsistent modules.items names.items types.items attributes.items classes.items permission_sets.items rules.items },
 }

@@ -29,9 +29,9 @@ fn checked<'p, 'm, A: Allocator + Copy>(
     Ok(checker)
 }
 
-/// The types, attributes, classes, set statements and rules of a policy by full names, with the optionals that drop, or its first fault: that of
-/// the least code, then of the least module name by bytes, then of the least offset. What stands in optionals that drop is left
-/// out, but for names that are declared twice.
+/// The types, attributes, classes, statements of permission sets, set statements and rules of a policy by full names, with the optionals
+/// that drop, or its first fault: that of the least code, then of the least module name by bytes, then of the least offset. What stands
+/// in optionals that drop is left out, but for names that are declared twice.
 pub fn resolve<'m, A: Allocator + Copy>(
     alloc: A,
     joined: &Joined<'m, A>,

@@ -3,9 +3,10 @@
 ghost use Rattle.std.specs.Prelude.{◌≡◌, ◌<◌, ◌↔◌, false, Some, IfNone, IfSome, IsTrue, [], length, slice_get, slice_index_or, option_map};
 ghost use Rattle.cil_resolve.specs.Common.{list_all, prefix_len, option_and_then, has_name, name_cmp, names_rise, is_rule_below, is_written_below, keeps_no_list, leaves, element_of, resolved_target_of, meaning_in, name_in, sets_in};
 ghost use Rattle.std.specs.Ordering.{is_lt};
-ghost use Rattle.cil_resolve.specs.Views.{declared_seen, class_seen, class_head, element_seen, resolved_target_seen, rule_seen, rule_head, set_seen, set_head};
+ghost use Rattle.cil_resolve.specs.Numbers.{resolved_permissions_of};
+ghost use Rattle.cil_resolve.specs.Views.{declared_seen, class_seen, class_head, element_seen, named_in, permission_set_head, permission_set_seen, permissions_head, permissions_seen, resolved_target_seen, rule_seen, rule_head, set_seen, set_head};
 
-use crate::numbered::{NumberedRule, ResolvedTarget};
+use crate::numbered::{NumberedRule, ResolvedPermissions, ResolvedTarget};
 use crate::resolved::Resolved;
 use crate::text::Text;
 use cil_expression::Element;
@@ -43,7 +44,14 @@ pub enum TargetView<'r> {
     Element(ElementView<'r>),
 }
 
-/// A rule by full names, and how many permissions it names.
+/// A rule's permissions by full names: of a class, and how many it names; or those of a permission set.
+#[derive(Clone, Copy, Debug)]
+pub enum PermissionsView<'r> {
+    OfClass { class: &'r [u8], permissions: usize },
+    OfSet(&'r [u8]),
+}
+
+/// A rule by full names.
 #[derive(Clone, Copy, Debug)]
 pub struct RuleView<'r> {
     pub module: &'r [u8],
@@ -51,6 +59,15 @@ pub struct RuleView<'r> {
     pub kind: RuleKind,
     pub source: ElementView<'r>,
     pub target: TargetView<'r>,
+    pub permissions: PermissionsView<'r>,
+}
+
+/// A statement of a permission set by full names, and how many permissions it names.
+#[derive(Clone, Copy, Debug)]
+pub struct PermissionSetView<'r> {
+    pub module: &'r [u8],
+    pub at: Place,
+    pub set: &'r [u8],
     pub class: &'r [u8],
     pub permissions: usize,
 }
@@ -75,7 +92,7 @@ impl<A: Allocator> Resolved<A> {
         }
     }
 
-    /// How many names there are: of types, attributes, classes and permissions.
+    /// How many names there are: of types, attributes, classes, permission sets and permissions.
     pub fn names_len(&self) -> usize
         ensures { result ≡ length self.now.names.items }
     {
@@ -148,6 +165,18 @@ impl<A: Allocator> Resolved<A> {
         match aim {
             ResolvedTarget::Itself => TargetView::Itself,
             ResolvedTarget::Element(element) => TargetView::Element(self.element(element)),
+        }
+    }
+
+    fn permissions(&self, permissions: &ResolvedPermissions<A>) -> PermissionsView<'_>
+        ensures { permissions_seen result ≡ permissions_head (resolved_permissions_of self.now.names.items permissions.now) }
+    {
+        match permissions {
+            ResolvedPermissions::OfClass(of_class) => PermissionsView::OfClass {
+                class: self.name(of_class.class),
+                permissions: of_class.named_permissions().len(),
+            },
+            ResolvedPermissions::OfSet(of_set) => PermissionsView::OfSet(self.name(of_set.set)),
         }
     }
 
@@ -236,6 +265,38 @@ impl<A: Allocator> Resolved<A> {
         Some(self.name(*permission))
     }
 
+    /// How many statements of permission sets there are.
+    pub fn permission_sets_len(&self) -> usize
+        ensures { result ≡ length (meaning_in self.now).permission_sets }
+    {
+        self.permission_sets.len()
+    }
+
+    /// The statement of a permission set at a place, in the order of the statements.
+    pub fn permission_set_at(&self, i: usize) -> Option<PermissionSetView<'_>>
+        ensures { option_map permission_set_seen result
+            ≡ option_map permission_set_head (slice_get (meaning_in self.now).permission_sets i) }
+    {
+        let statement = self.permission_sets.get(i)?;
+        Some(PermissionSetView {
+            module: self.module(statement.module),
+            at: statement.at,
+            set: self.name(statement.set),
+            class: self.name(statement.permissions.class),
+            permissions: statement.permissions.named_permissions().len(),
+        })
+    }
+
+    /// A permission that the statement of a permission set at a place names.
+    pub fn permission_set_permission(&self, i: usize, k: usize) -> Option<&[u8]>
+        ensures { option_map (λ name. name.now) result
+            ≡ option_and_then (λ s. slice_get (leaves s.permissions) k) (slice_get (meaning_in self.now).permission_sets i) }
+    {
+        let statement = self.permission_sets.get(i)?;
+        let permission = statement.permissions.named_permissions().get(k)?;
+        Some(self.name(*permission))
+    }
+
     /// The set statement at a place, in the order of dependence.
     pub fn set_at(&self, i: usize) -> Option<SetView<'_>>
         ensures { option_map set_seen result ≡ option_map set_head (slice_get (sets_in self.now) i) }
@@ -267,17 +328,16 @@ impl<A: Allocator> Resolved<A> {
             kind: rule.kind,
             source: self.element(rule.source),
             target: self.aim(rule.target),
-            class: self.name(rule.class),
-            permissions: rule.named_permissions().len(),
+            permissions: self.permissions(&rule.permissions),
         })
     }
 
-    /// A permission that the rule at a place names.
+    /// A permission that the rule at a place names of its class.
     pub fn rule_permission(&self, i: usize, k: usize) -> Option<&[u8]>
-        ensures { option_map (λ name. name.now) result ≡ option_and_then (λ r. slice_get (leaves r.permissions) k) (slice_get (meaning_in self.now).rules i) }
+        ensures { option_map (λ name. name.now) result ≡ option_and_then (λ r. slice_get (named_in r.permissions) k) (slice_get (meaning_in self.now).rules i) }
     {
         let rule = self.rules.get(i)?;
-        let permission = rule.named_permissions().get(k)?;
+        let permission = rule.permissions.named_permissions().get(k)?;
         Some(self.name(*permission))
     }
 

@@ -1,3 +1,4 @@
 pub mod LineLemmas
 pub mod PermitLemmas
+pub mod IdleLemmas
 pub mod NamedLemmas

@@ -7,7 +7,7 @@ use Rattle.std.proofs.lemmas.List.{length-map}
 use Rattle.std.proofs.lemmas.Option.{slice_get_within, get_or_from_slice_get, slice_get-get_or}
 use Rattle.std.proofs.lemmas.Slice.Eq.{bytes_eq-Decides}
 use Rattle.cil_bind.proofs.DeclareLemmas.{same-bool}
-use Rattle.cil_specs.specs.Meaning.{aims, gives, holds, keeps_type, permits, Meaning}
+use Rattle.cil_specs.specs.Meaning.{aims, gives, holds, keeps_type, permissions_permit, permits, Meaning}
 use Rattle.cil_specs.specs.Members.{is_member, keeps_element}
 use Rattle.cil_specs.specs.Rule as spec
 use Rattle.cil_specs.specs.Rule.{Declared}
@@ -16,15 +16,18 @@ use Rattle.cil_expression.specs.declared.expression.Element.{Element}
 use Rattle.cil_expression.specs.declared.expression.Element.TheVariants.{«Type», Attribute}
 use Rattle.cil_keyed_lines.specs.Keyed.{is_kind}
 use Rattle.cil_keyed_lines.specs.declared.symbol_key.SymbolKey.{SymbolKey}
-use Rattle.cil_resolve.specs.Below.{is_element_below, is_rule_below, is_target_below}
+use Rattle.cil_resolve.specs.Below.{are_permissions_below, is_element_below, is_permission_below, is_rule_below, is_target_below}
 use Rattle.cil_resolve.specs.Consistent.{is_aim_of, is_declared, is_element_of, is_rule_of}
-use Rattle.cil_resolve.specs.Numbers.{element_of, resolved_target_of, rule_of, GivesNumbered}
+use Rattle.cil_resolve.specs.Numbers.{element_of, given_in, has_named, resolved_permissions_of, resolved_target_of, rule_of, GivesNumbered}
 use Rattle.cil_resolve.specs.Resolved.{meaning_in}
 use Rattle.cil_resolve.specs.Sets.{name_in}
 use Rattle.cil_resolve.specs.declared.numbered.NumberedRule.{NumberedRule}
+use Rattle.cil_resolve.specs.declared.numbered.ResolvedPermissions.{ResolvedPermissions}
+use Rattle.cil_resolve.specs.declared.numbered.ResolvedPermissions.TheVariants as kinds
 use Rattle.cil_resolve.specs.declared.numbered.ResolvedTarget.{ResolvedTarget}
 use Rattle.cil_resolve.specs.declared.numbered.ResolvedTarget.TheVariants as targets
 use Rattle.cil_resolve.specs.declared.resolved.Resolved.{Resolved}
+use Rattle.cil_resolve.specs.declared.set_permissions.ClassPermission.{ClassPermission}
 use Rattle.cil_rule_reach.specs.Named.{atom_of, is_named, name_at, AreMembersOf}
 use Rattle.cil_rule_reach.specs.Reaches.{aims_by, covers_by, has_by, permits_by}
 
@@ -57,22 +60,37 @@ element-kept meaning (spec.a_type name) declared = sym (kept-as meaning.types na
 element-kept meaning (spec.an_attribute name) declared = sym (kept-as meaning.attributes name) ∙ declared
 
 module _ {A : Type 0} (r : Resolved A) where
+  abbrev bounded : ClassPermission → Bool
+  bounded = is_permission_below (length r.names.items)
+
+  -- the permissions that are given have names, with their classes
+  below-given : (permissions : ResolvedPermissions A) → are_permissions_below (length r.names.items) permissions ≡ true → list_all bounded (given_in permissions) ≡ true
+  below-given (kinds.OfClass p) below = of_class p.given (and-second (nat_lt p.class (length r.names.items)) _ below)
+    where
+      of_class : (ps : List ℕ) → list_all (λ q. nat_lt q (length r.names.items)) ps ≡ true → list_all bounded (map (λ n. record { class = p.class; permission = n }) ps) ≡ true
+      of_class [] low = refl
+      of_class (q ∷ qs) low =
+          ap (λ b. (b && nat_lt q (length r.names.items)) && list_all bounded (map (λ n. record { class = p.class; permission = n }) qs)) (and-first (nat_lt p.class (length r.names.items)) _ below)
+          ∙ ap (λ b. b && list_all bounded (map (λ n. record { class = p.class; permission = n }) qs)) (and-first (nat_lt q (length r.names.items)) _ low)
+          ∙ of_class qs (and-second (nat_lt q (length r.names.items)) _ low)
+  below-given (kinds.OfSet s) below = and-second (nat_lt s.set (length r.names.items)) _ below
+
   -- the parts of a rule's bound
   pub record IsBelow (rule : NumberedRule A) : Type 0 where
     pub source : is_element_below (length r.names.items) rule.source ≡ true
     pub target : is_target_below (length r.names.items) rule.target ≡ true
-    pub class : rule.class < length r.names.items
-    pub permissions : list_all (λ p. nat_lt p (length r.names.items)) rule.permissions ≡ true
+    pub permissions : are_permissions_below (length r.names.items) rule.permissions ≡ true
+    pub given : list_all (is_permission_below (length r.names.items)) (given_in rule.permissions) ≡ true
 
   pub is-below : (rule : NumberedRule A) → is_rule_below (length r.names.items) rule ≡ true → IsBelow rule
   is-below rule below =
-      let rest = and-second (is_element_below (length r.names.items) rule.source) (is_target_below (length r.names.items) rule.target && (nat_lt rule.class (length r.names.items) && list_all (λ p. nat_lt p (length r.names.items)) rule.permissions)) below in
-      let last = and-second (is_target_below (length r.names.items) rule.target) (nat_lt rule.class (length r.names.items) && list_all (λ p. nat_lt p (length r.names.items)) rule.permissions) rest in
+      let rest = and-second (is_element_below (length r.names.items) rule.source) (is_target_below (length r.names.items) rule.target && are_permissions_below (length r.names.items) rule.permissions) below in
+      let last = and-second (is_target_below (length r.names.items) rule.target) (are_permissions_below (length r.names.items) rule.permissions) rest in
       record {
-        source = and-first (is_element_below (length r.names.items) rule.source) (is_target_below (length r.names.items) rule.target && (nat_lt rule.class (length r.names.items) && list_all (λ p. nat_lt p (length r.names.items)) rule.permissions)) below;
-        target = and-first (is_target_below (length r.names.items) rule.target) (nat_lt rule.class (length r.names.items) && list_all (λ p. nat_lt p (length r.names.items)) rule.permissions) rest;
-        class = ltb-true rule.class (length r.names.items) (and-first (nat_lt rule.class (length r.names.items)) (list_all (λ p. nat_lt p (length r.names.items)) rule.permissions) last);
-        permissions = and-second (nat_lt rule.class (length r.names.items)) (list_all (λ p. nat_lt p (length r.names.items)) rule.permissions) last;
+        source = and-first (is_element_below (length r.names.items) rule.source) (is_target_below (length r.names.items) rule.target && are_permissions_below (length r.names.items) rule.permissions) below;
+        target = and-first (is_target_below (length r.names.items) rule.target) (are_permissions_below (length r.names.items) rule.permissions) rest;
+        permissions = last;
+        given = below-given rule.permissions last;
       }
 
 module _ {A : Type 0} (r : Resolved A) (all : List (List ℕ)) (symbols : List ℕ) (apart : (i j : ℕ) (name : List ℕ) → slice_get all i ≡ Some name → slice_get all j ≡ Some name → i ≡ j) (numbers : AreNumbersOf all symbols r.names.items) where
@@ -152,34 +170,62 @@ module _ {A : Type 0} (r : Resolved A) (all : List (List ℕ)) (symbols : List �
     aims-named (targets.Element element) s t below declared s_within t_within =
         has-named element t below (element-kept (meaning_in r) (element_of r.names.items element) declared) t_within
 
-    listed-named : (p : ℕ) (ps : List ℕ) → p < length all → list_all (λ q. nat_lt q count) ps ≡ true
-        → list_any (λ q. slice_index symbols q == p) ps ≡ list_any (bytes_eq (name_at all p)) (map (λ q. slice_index_or r.names.items q []) ps)
-    listed-named p [] within below = refl
-    listed-named p (q ∷ ps) within below =
-        let low = ltb-true q count (and-first (nat_lt q count) (list_all (λ k. nat_lt k count) ps) below) in
-        ap (λ b. b || list_any (λ k. slice_index symbols k == p) ps) (same-symbol q p low within ∙ turned (name_in r q) (name_at all p))
-        ∙ ap (λ b. bytes_eq (name_at all p) (name_in r q) || b) (listed-named p ps within (and-second (nat_lt q count) (list_all (λ k. nat_lt k count) ps) below))
+    -- whether a permission of a class has these symbols
+    abbrev is_this : ℕ → ℕ → ClassPermission → Bool
+    is_this c p g = (slice_index symbols g.class == c) && (slice_index symbols g.permission == p)
 
-    listed-none : (p : ℕ) (ps : List ℕ) → length all ≤ p → list_all (λ q. nat_lt q count) ps ≡ true → list_any (λ q. slice_index symbols q == p) ps ≡ false
-    listed-none p [] past below = refl
-    listed-none p (q ∷ ps) past below =
-        let low = ltb-true q count (and-first (nat_lt q count) (list_all (λ k. nat_lt k count) ps) below) in
-        ap (λ b. b || list_any (λ k. slice_index symbols k == p) ps) (no-symbol q p low past) ∙ listed-none p ps past (and-second (nat_lt q count) (list_all (λ k. nat_lt k count) ps) below)
+    -- one of these has them where it has their names
+    listed-named : (c p : ℕ) (gs : List ClassPermission) → c < length all → p < length all → list_all (is_permission_below count) gs ≡ true
+        → list_any (is_this c p) gs ≡ has_named r.names.items gs (name_at all c) (name_at all p)
+    listed-named c p [] class_within within below = refl
+    listed-named c p (g ∷ gs) class_within within below =
+        let bound = and-first (is_permission_below count g) (list_all (is_permission_below count) gs) below in
+        let class_low = ltb-true g.class count (and-first (nat_lt g.class count) (nat_lt g.permission count) bound) in
+        let low = ltb-true g.permission count (and-second (nat_lt g.class count) (nat_lt g.permission count) bound) in
+        ap (λ b. (b && (slice_index symbols g.permission == p)) || list_any (is_this c p) gs) (same-symbol g.class c class_low class_within)
+        ∙ ap (λ b. (bytes_eq (name_in r g.class) (name_at all c) && b) || list_any (is_this c p) gs) (same-symbol g.permission p low within ∙ turned (name_in r g.permission) (name_at all p))
+        ∙ ap (λ b. (bytes_eq (name_in r g.class) (name_at all c) && bytes_eq (name_at all p) (name_in r g.permission)) || b)
+        (listed-named c p gs class_within within (and-second (is_permission_below count g) (list_all (is_permission_below count) gs) below))
+
+    listed-none : (c p : ℕ) (gs : List ClassPermission) → (length all ≤ c) ⊎ (length all ≤ p) → list_all (is_permission_below count) gs ≡ true → list_any (is_this c p) gs ≡ false
+    listed-none c p [] past below = refl
+    listed-none c p (g ∷ gs) past below =
+        ap (λ b. b || list_any (is_this c p) gs) (by past) ∙ listed-none c p gs past (and-second (is_permission_below count g) (list_all (is_permission_below count) gs) below)
+      where
+        bound : is_permission_below count g ≡ true
+        bound = and-first (is_permission_below count g) (list_all (is_permission_below count) gs) below
+
+        by : (length all ≤ c) ⊎ (length all ≤ p) → is_this c p g ≡ false
+        by (inl far) = ap (λ b. b && (slice_index symbols g.permission == p)) (no-symbol g.class c (ltb-true g.class count (and-first (nat_lt g.class count) (nat_lt g.permission count) bound)) far)
+        by (inr far) =
+            ap (λ b. (slice_index symbols g.class == c) && b) (no-symbol g.permission p (ltb-true g.permission count (and-second (nat_lt g.class count) (nat_lt g.permission count) bound)) far)
+            ∙ and-false (slice_index symbols g.class == c)
 
     -- what a rule permits by symbols, it permits by names
     pub permits-named : (rule : NumberedRule A) (c p : ℕ) → is_rule_below count rule ≡ true → GivesNumbered (meaning_in r) r.modules.items r.names.items rule → c < length all → p < length all
         → permits_by symbols rule c p ≡ permits (meaning_in r) (rule_of r.modules.items r.names.items rule) (name_at all c) (name_at all p)
     permits-named rule c p below given class_within permission_within =
-        let bound = is-below r rule below in
-        ap (λ b. b && list_any (λ q. slice_index symbols q == p) rule.permissions) (same-symbol rule.class c bound.class class_within)
-        ∙ ap (λ b. bytes_eq (name_in r rule.class) (name_at all c) && b) (listed-named p rule.permissions permission_within bound.permissions)
-        ∙ sym (given (name_at all c) (name_at all p))
+        listed-named c p (given_in rule.permissions) class_within permission_within (is-below r rule below).given ∙ sym (given (name_at all c) (name_at all p))
 
     -- and it permits nothing by symbols that are those of no names
     permits-none : (rule : NumberedRule A) (c p : ℕ) → is_rule_below count rule ≡ true → (length all ≤ c) ⊎ (length all ≤ p) → permits_by symbols rule c p ≡ false
-    permits-none rule c p below (inl past) = ap (λ b. b && list_any (λ q. slice_index symbols q == p) rule.permissions) (no-symbol rule.class c (is-below r rule below).class past)
-    permits-none rule c p below (inr past) =
-        ap (λ b. (slice_index symbols rule.class == c) && b) (listed-none p rule.permissions past (is-below r rule below).permissions) ∙ and-false (slice_index symbols rule.class == c)
+    permits-none rule c p below past = listed-none c p (given_in rule.permissions) past (is-below r rule below).given
+
+    -- rules whose permissions are written the same permit the same
+    pub permits-alike : (rule other : NumberedRule A) (c p : ℕ) → is_rule_below count rule ≡ true → is_rule_below count other ≡ true
+        → GivesNumbered (meaning_in r) r.modules.items r.names.items rule → GivesNumbered (meaning_in r) r.modules.items r.names.items other
+        → resolved_permissions_of r.names.items rule.permissions ≡ resolved_permissions_of r.names.items other.permissions → permits_by symbols rule c p ≡ permits_by symbols other c p
+    permits-alike rule other c p below other_below given other_given same =
+        elim (cases_lt c (length all)) [
+          | inr past ↦ permits-none rule c p below (inl past) ∙ sym (permits-none other c p other_below (inl past))
+          | inl class_low ↦ elim (cases_lt p (length all)) [
+            | inr past ↦ permits-none rule c p below (inr past) ∙ sym (permits-none other c p other_below (inr past))
+            | inl low ↦
+                permits-named rule c p below given class_low low
+                ∙ ap (λ q. permissions_permit (meaning_in r) q (name_at all c) (name_at all p)) same
+                ∙ sym (permits-named other c p other_below other_given class_low low)
+          ]
+        ]
 
     -- what a rule gives by symbols, it gives by names
     pub covers-named : (rule : NumberedRule A) (key : SymbolKey) (t : ℕ) → is_rule_below count rule ≡ true

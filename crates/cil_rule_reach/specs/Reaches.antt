@@ -7,9 +7,12 @@ use Rattle.cil_keyed_lines.specs.Keyed.{is_kind}
 use Rattle.cil_keyed_lines.specs.declared.symbol_key.SymbolKey.{SymbolKey}
 use Rattle.cil_recorded.specs.Recorded.{State}
 use Rattle.cil_member_rows.specs.Rows.{count_before, count_now}
+use Rattle.cil_resolve.specs.Numbers.{given_in}
 use Rattle.cil_resolve.specs.declared.numbered.NumberedRule.{NumberedRule}
 use Rattle.cil_resolve.specs.declared.numbered.ResolvedTarget.{ResolvedTarget}
 use Rattle.cil_resolve.specs.declared.numbered.ResolvedTarget.TheVariants as aims
+use Rattle.cil_resolve.specs.declared.set_permissions.ClassPermission.{ClassPermission}
+use Rattle.cil_rule_shifts.specs.declared.permit.Permit.{Permit}
 use Rattle.cil_rule_reach.specs.declared.symbol_members.SymbolMembers.{SymbolMembers}
 use Rattle.cil_rule_reach.specs.declared.symbol_members.When.{When}
 use Rattle.cil_rule_reach.specs.declared.symbol_members.When.TheVariants.{Before, Now}
@@ -32,9 +35,13 @@ abbrev pub aims_by : (ℕ → ℕ → ℕ) → List ℕ → ResolvedTarget → �
 aims_by members symbols aims.Itself s t = s == t
 aims_by members symbols (aims.Element element) s t = has_by members symbols element t
 
+-- a permission of a class by their symbols
+abbrev pub permit_by : List ℕ → ClassPermission → Permit
+permit_by symbols g = record { class = slice_index symbols g.class; permission = slice_index symbols g.permission }
+
 -- whether a rule permits a permission of a class
 abbrev pub permits_by : {A : Type 0} → List ℕ → NumberedRule A → ℕ → ℕ → Bool
-permits_by symbols rule class permission = (slice_index symbols rule.class == class) && list_any (λ p. slice_index symbols p == permission) rule.permissions
+permits_by symbols rule class permission = list_any (λ g. (slice_index symbols g.class == class) && (slice_index symbols g.permission == permission)) (given_in rule.permissions)
 
 -- whether it reaches a target from a source
 abbrev pub reaches_by : {A : Type 0} → (ℕ → ℕ → ℕ) → List ℕ → NumberedRule A → ℕ → ℕ → Bool

@@ -6,6 +6,6 @@ mod permits;
 mod reaching;
 mod symbol_members;
 
-pub use permits::{rule_permits, symbol_of};
+pub use permits::{reached_permits, rule_permits, symbol_of};
 pub use reaching::rule_reach;
 pub use symbol_members::{SymbolMembers, When};

@@ -1,5 +1,5 @@
 -- What stands apart in its module stands in no optional of the joined policy.
-use Rattle.cil_specs.proofs.Common.{◌≡◌, ℕ, Bool, true, false, not, ◌&&◌, ◌||◌, List, [], ◌∷◌, refl, sym, ap, ◌∙◌, AllByRecursion, Place, Form, block, optional, type_name, type_alias, alias_actual, type_attribute, attribute_set, common, class, class_common, class_order, rule, Statements, no_more, statement, is_optional, stands_apart, are_apart, Module, Placed, namespace_inside, optionals_inside, placed, joined, AreApart}
+use Rattle.cil_specs.proofs.Common.{◌≡◌, ℕ, Bool, true, false, not, ◌&&◌, ◌||◌, List, [], ◌∷◌, refl, sym, ap, ◌∙◌, AllByRecursion, Place, Form, block, optional, type_name, type_alias, alias_actual, type_attribute, attribute_set, common, class, class_common, class_order, class_permission, class_permission_set, rule, Statements, no_more, statement, is_optional, stands_apart, are_apart, Module, Placed, namespace_inside, optionals_inside, placed, joined, AreApart}
 use Rattle.std.proofs.Common.{true≢false}
 use Rattle.cil_specs.proofs.Runs.{first_true, second_true}
 use Rattle.cil_specs.proofs.NamesLemmas.{all-append, all-contained}
@@ -32,7 +32,9 @@ same-inside (common id permissions) at optionals none = refl
 same-inside (class id permissions) at optionals none = refl
 same-inside (class_common the_class the_common) at optionals none = refl
 same-inside (class_order classes) at optionals none = refl
-same-inside (rule kind source target the_class permissions) at optionals none = refl
+same-inside (class_permission id) at optionals none = refl
+same-inside (class_permission_set set the_class permissions) at optionals none = refl
+same-inside (rule kind source target permissions) at optionals none = refl
 
 -- the statements of a module, or those inside one of its statements
 placed-apart : (name : List ℕ) (namespace : List (List ℕ)) (optionals : List ℕ) (inside : Bool) (statements : Statements) → (inside ≡ false → optionals ≡ []) → are_apart inside statements ≡ true

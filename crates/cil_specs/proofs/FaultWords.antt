@@ -1,8 +1,17 @@
 -- A fault of a policy stands at a word of its statement.
-use Rattle.cil_specs.proofs.Common.{◌≡◌, Bool, true, false, cond, ◌⊎◌, inl, inr, List, [], ◌∷◌, ◌++◌, map, refl, sym, ap, subst, arith, AllByRecursion, list_any, option_to_list, Word, leaves, Form, block, optional, type_name, type_alias, alias_actual, type_attribute, attribute_set, common, class, class_common, class_order, rule, Target, itself, the_named, target_words, words_of, Placed, Table, types, classes, commons, scopes, declared_in, references, named_permissions, PolicyFaultKind, twice, missing, wrong_kind, alias_twice, alias_unset, second_common, too_many_permissions, circular, is_again, tables, is_unfound, is_lacking, missing_words, kinds_asked, is_of_another_kind, alias_words, has_earlier_actual, element_words, is_unset, common_words, has_earlier_common, has_too_many, is_outside, IsFaulty}
+use Rattle.cil_specs.proofs.Common.{◌≡◌, Bool, true, false, cond, ◌⊎◌, inl, inr, List, [], ◌∷◌, ◌++◌, map, refl, sym, ap, subst, arith, AllByRecursion, list_any, option_to_list, Word, leaves, Form, block, optional, type_name, type_alias, alias_actual, type_attribute, attribute_set, common, class, class_common, class_order, class_permission, class_permission_set, rule, ClassPermissions, anonymous, by_name, permission_words, Target, itself, the_named, target_words, words_of, Placed, Table, types, classes, commons, permission_sets, scopes, declared_in, references, permission_reference, permissions_with, named_permissions, PolicyFaultKind, twice, missing, wrong_kind, alias_twice, alias_unset, second_common, too_many_permissions, circular, is_again, tables, is_unfound, is_lacking, missing_words, kinds_asked, is_of_another_kind, alias_words, has_earlier_actual, element_words, is_unset, common_words, has_earlier_common, has_too_many, is_outside, IsFaulty}
 use Rattle.std.proofs.Common.{filter, flat_map, Contains}
 use Rattle.cil_specs.proofs.OrderLemmas.{offset_of, role_offset, declared_offsets, referred_offsets}
 use Rattle.cil_specs.proofs.NamesLemmas.{all-weaker, all-contained, contains-first, contains-other, contains-cases, contains-mapped}
+
+-- the words of a rule's permissions
+abbrev pub words_with : ClassPermissions → List Word
+words_with (anonymous the_class permissions) = the_class ∷ leaves permissions
+words_with (by_name set) = set ∷ []
+
+offsets-with : (x : ClassPermissions) → map offset_of (words_with x) ≡ map role_offset (permission_words x)
+offsets-with (anonymous the_class permissions) = ap (λ ns. the_class.at.offset ∷ ns) (sym (declared_offsets (leaves permissions)))
+offsets-with (by_name set) = refl
 
 -- the words of a statement in the order of the text
 abbrev pub words_in : Form → List Word
@@ -17,7 +26,9 @@ words_in (common id permissions) = id ∷ permissions
 words_in (class id permissions) = id ∷ permissions
 words_in (class_common the_class the_common) = the_class ∷ the_common ∷ []
 words_in (class_order the_classes) = the_classes
-words_in (rule kind source target the_class permissions) = source ∷ (target_words target ++ (the_class ∷ leaves permissions))
+words_in (class_permission id) = id ∷ []
+words_in (class_permission_set set the_class permissions) = set ∷ the_class ∷ leaves permissions
+words_in (rule kind source target permissions) = source ∷ (target_words target ++ words_with permissions)
 
 -- they stand where the words with a role each do
 pub word-offsets : (form : Form) → map offset_of (words_in form) ≡ map role_offset (words_of form)
@@ -25,8 +36,9 @@ word-offsets (attribute_set attribute expr) = ap (λ ns. attribute.at.offset ∷
 word-offsets (common id permissions) = ap (λ ns. id.at.offset ∷ ns) (sym (declared_offsets permissions))
 word-offsets (class id permissions) = ap (λ ns. id.at.offset ∷ ns) (sym (declared_offsets permissions))
 word-offsets (class_order the_classes) = sym (referred_offsets the_classes)
-word-offsets (rule kind source itself the_class permissions) = ap (λ ns. source.at.offset ∷ the_class.at.offset ∷ ns) (sym (declared_offsets (leaves permissions)))
-word-offsets (rule kind source (the_named target) the_class permissions) = ap (λ ns. source.at.offset ∷ target.at.offset ∷ the_class.at.offset ∷ ns) (sym (declared_offsets (leaves permissions)))
+word-offsets (class_permission_set set the_class permissions) = ap (λ ns. set.at.offset ∷ ns) (offsets-with (anonymous the_class permissions))
+word-offsets (rule kind source itself permissions) = ap (λ ns. source.at.offset ∷ ns) (offsets-with permissions)
+word-offsets (rule kind source (the_named target) permissions) = ap (λ ns. source.at.offset ∷ target.at.offset ∷ ns) (offsets-with permissions)
 word-offsets _ = refl
 
 -- each of the words is among others
@@ -86,34 +98,51 @@ declared-words types (type_alias id) = all-themselves (id ∷ [])
 declared-words types (type_attribute id) = all-themselves (id ∷ [])
 declared-words classes (class id permissions) = (contains-first id permissions, tt)
 declared-words commons (common id permissions) = (contains-first id permissions, tt)
+declared-words permission_sets (class_permission id) = all-themselves (id ∷ [])
 declared-words scopes (block id) = all-themselves (id ∷ [])
 declared-words scopes (optional id) = all-themselves (id ∷ [])
 declared-words _ _ = tt
 
-target-among : (source the_class : Word) (target : Target) (permissions : List Word) → AreAmong (source ∷ (target_words target ++ (the_class ∷ permissions))) (target_words target)
-target-among source the_class target permissions = among-more source (target_words target ++ (the_class ∷ permissions)) (target_words target) (among-left (target_words target) (the_class ∷ permissions) (target_words target) (all-themselves (target_words target)))
+target-among : (source : Word) (target : Target) (x : ClassPermissions) → AreAmong (source ∷ (target_words target ++ words_with x)) (target_words target)
+target-among source target x = among-more source (target_words target ++ words_with x) (target_words target) (among-left (target_words target) (words_with x) (target_words target) (all-themselves (target_words target)))
+
+-- behind a rule's source and target
+permissions-among : (source : Word) (target : Target) (x : ClassPermissions) (words : List Word) → AreAmong (words_with x) words → AreAmong (source ∷ (target_words target ++ words_with x)) words
+permissions-among source target x words among = among-more source (target_words target ++ words_with x) words (among-right (target_words target) (words_with x) words among)
+
+reference-with : (x : ClassPermissions) → AreAmong (words_with x) ((permission_reference x).1 ∷ [])
+reference-with (anonymous the_class permissions) = (contains-first the_class (leaves permissions), tt)
+reference-with (by_name set) = (contains-first set [], tt)
+
+permissions-in : (x : ClassPermissions) → AreAmong (words_with x) (map (λ p. p.1) (permissions_with x))
+permissions-in (anonymous the_class permissions) =
+    let names = leaves permissions in
+    seconds the_class (the_class ∷ names) names (among-more the_class names names (all-themselves names))
+permissions-in (by_name set) = tt
 
 reference-words : (form : Form) → AreAmong (words_in form) (map (λ r. r.1) (references form))
 reference-words (alias_actual alias actual) = all-themselves (alias ∷ actual ∷ [])
 reference-words (attribute_set attribute expr) = (contains-first attribute (leaves expr), seconds types (attribute ∷ leaves expr) (leaves expr) (among-more attribute (leaves expr) (leaves expr) (all-themselves (leaves expr))))
 reference-words (class_common the_class the_common) = all-themselves (the_class ∷ the_common ∷ [])
 reference-words (class_order the_classes) = seconds classes the_classes the_classes (all-themselves the_classes)
-reference-words (rule kind source itself the_class permissions) = (contains-first source (the_class ∷ leaves permissions), (contains-other source (the_class ∷ leaves permissions) the_class (contains-first the_class (leaves permissions)), tt))
-reference-words (rule kind source (the_named target) the_class permissions) = (
-  contains-first source (target ∷ the_class ∷ leaves permissions),
+reference-words (class_permission_set set the_class permissions) = (
+  contains-first set (the_class ∷ leaves permissions),
+  (contains-other set (the_class ∷ leaves permissions) the_class (contains-first the_class (leaves permissions)), tt),
+)
+reference-words (rule kind source itself permissions) = (contains-first source (words_with permissions), permissions-among source itself permissions ((permission_reference permissions).1 ∷ []) (reference-with permissions))
+reference-words (rule kind source (the_named target) permissions) = (
+  contains-first source (target ∷ words_with permissions),
   (
-    contains-other source (target ∷ the_class ∷ leaves permissions) target (contains-first target (the_class ∷ leaves permissions)),
-    (contains-other source (target ∷ the_class ∷ leaves permissions) the_class (contains-other target (the_class ∷ leaves permissions) the_class (contains-first the_class (leaves permissions))), tt),
+    contains-other source (target ∷ words_with permissions) target (contains-first target (words_with permissions)),
+    permissions-among source (the_named target) permissions ((permission_reference permissions).1 ∷ []) (reference-with permissions),
   ),
 )
 reference-words _ = tt
 
 permission-words : (form : Form) → AreAmong (words_in form) (map (λ p. p.1) (named_permissions form))
-permission-words (rule kind source target the_class permissions) =
-    let names = leaves permissions in
-    seconds the_class (words_in (rule kind source target the_class permissions)) names
-    (among-more source (target_words target ++ (the_class ∷ names)) names
-    (among-right (target_words target) (the_class ∷ names) names (among-more the_class names names (all-themselves names))))
+permission-words (class_permission_set set the_class permissions) =
+    among-more set (the_class ∷ leaves permissions) (map (λ p. p.1) (permissions_with (anonymous the_class permissions))) (permissions-in (anonymous the_class permissions))
+permission-words (rule kind source target permissions) = permissions-among source target permissions (map (λ p. p.1) (permissions_with permissions)) (permissions-in permissions)
 permission-words _ = tt
 
 kind-words : (form : Form) → AreAmong (words_in form) (map (λ r. r.1) (kinds_asked form))
@@ -126,7 +155,7 @@ alias-word (alias_actual alias actual) = (contains-first alias (actual ∷ []), 
 alias-word _ = tt
 
 element-word : (form : Form) → AreAmong (words_in form) (element_words form)
-element-word (rule kind source target the_class permissions) = (contains-first source (target_words target ++ (the_class ∷ leaves permissions)), target-among source the_class target (leaves permissions))
+element-word (rule kind source target permissions) = (contains-first source (target_words target ++ words_with permissions), target-among source target permissions)
 element-word (attribute_set attribute expr) = among-more attribute (leaves expr) (leaves expr) (all-themselves (leaves expr))
 element-word _ = tt
 

@@ -1,5 +1,5 @@
 -- How the operands of a statement's first word fit its form.
-use Rattle.cil_specs.proofs.Common.{◌≡◌, ℕ, List, ap, subst, refl, codes, IsTrue, Place, Word, Trees, none, a_word, are_lists, Expresses, rule_word, Form, block, optional, type_name, type_alias, alias_actual, type_attribute, attribute_set, common, class, class_common, class_order, rule, put_word, Begins, IsWordList, IsTargetThen, IsClassList, IsClassAndPermissions, Fits}
+use Rattle.cil_specs.proofs.Common.{◌≡◌, ℕ, List, ap, subst, refl, codes, IsTrue, Place, Word, Trees, none, a_word, are_lists, Expresses, rule_word, Form, block, optional, type_name, type_alias, alias_actual, type_attribute, attribute_set, common, class, class_common, class_order, class_permission, class_permission_set, rule, ClassPermissions, anonymous, by_name, put_word, Begins, IsWordList, IsTargetThen, IsClassList, IsClassAndPermissions, ArePermissions, Fits}
 
 -- the first word of a statement of the form
 abbrev pub first_word : Form → List ℕ
@@ -14,7 +14,9 @@ first_word (common id permissions) = codes "common"
 first_word (class id permissions) = codes "class"
 first_word (class_common the_class the_common) = codes "classcommon"
 first_word (class_order classes) = codes "classorder"
-first_word (rule kind source target the_class permissions) = rule_word kind
+first_word (class_permission id) = codes "classpermission"
+first_word (class_permission_set set the_class permissions) = codes "classpermissionset"
+first_word (rule kind source target permissions) = rule_word kind
 
 -- a name and a list of words
 abbrev pub IsNameAndList : Trees → Word → List Word → Type 0
@@ -33,8 +35,10 @@ OperandsFit operands (common id permissions) inner = IsNameAndList operands id p
 OperandsFit operands (class id permissions) inner = IsNameAndList operands id permissions × (inner ≡ none)
 OperandsFit operands (class_common the_class the_common) inner = (operands ≡ put_word the_class (put_word the_common none)) × (inner ≡ none)
 OperandsFit operands (class_order classes) inner = IsClassList operands classes × (inner ≡ none)
-OperandsFit operands (rule kind source target the_class permissions) inner =
-    ((targets last : Trees) × (operands ≡ put_word source targets) × IsTargetThen targets target last × IsClassAndPermissions last the_class permissions) × (inner ≡ none)
+OperandsFit operands (class_permission id) inner = (operands ≡ put_word id none) × (inner ≡ none)
+OperandsFit operands (class_permission_set set the_class permissions) inner = ((last : Trees) × (operands ≡ put_word set last) × IsClassAndPermissions last the_class permissions) × (inner ≡ none)
+OperandsFit operands (rule kind source target permissions) inner =
+    ((targets last : Trees) × (operands ≡ put_word source targets) × IsTargetThen targets target last × ArePermissions last permissions) × (inner ≡ none)
 
 -- the trees of a fitting list are the form's first word and its operands
 pub fits_begin : (trees : Trees) (form : Form) (inner : Trees) → Fits trees form inner → (place : Place) × (operands : Trees) × (trees ≡ a_word place (first_word form) operands) × OperandsFit operands form inner
@@ -49,7 +53,9 @@ fits_begin trees (common id permissions) inner h = (h.1.0, put_word id h.0, h.1.
 fits_begin trees (class id permissions) inner h = (h.1.0, put_word id h.0, h.1.1, ((h.0, refl, h.2), h.3))
 fits_begin trees (class_common the_class the_common) inner h = (h.0.0, put_word the_class (put_word the_common none), h.0.1, (refl, h.1))
 fits_begin trees (class_order classes) inner h = (h.1.0, h.0, h.1.1, (h.2, h.3))
-fits_begin trees (rule kind source target the_class permissions) inner h = (h.2.0, put_word source h.0, h.2.1, ((h.0, h.1, refl, h.3, h.4), h.5))
+fits_begin trees (class_permission id) inner h = (h.0.0, put_word id none, h.0.1, (refl, h.1))
+fits_begin trees (class_permission_set set the_class permissions) inner h = (h.1.0, put_word set h.0, h.1.1, ((h.0, refl, h.2), h.3))
+fits_begin trees (rule kind source target permissions) inner h = (h.2.0, put_word source h.0, h.2.1, ((h.0, h.1, refl, h.3, h.4), h.5))
 
 begins_with : (place : Place) (word : List ℕ) (operands given : Trees) → operands ≡ given → Begins (a_word place word operands) word given
 begins_with place word operands given same = (place, ap (a_word place word) same)
@@ -67,7 +73,9 @@ fits_from place operands (common id permissions) inner h = (h.0.0, begins_with p
 fits_from place operands (class id permissions) inner h = (h.0.0, begins_with place _ operands _ h.0.1, h.0.2, h.1)
 fits_from place operands (class_common the_class the_common) inner h = (begins_with place _ operands _ h.0, h.1)
 fits_from place operands (class_order classes) inner h = (operands, begins_with place _ operands _ refl, h.0, h.1)
-fits_from place operands (rule kind source target the_class permissions) inner h = (h.0.0, h.0.1, begins_with place _ operands _ h.0.2, h.0.3, h.0.4, h.1)
+fits_from place operands (class_permission id) inner h = (begins_with place _ operands _ h.0, h.1)
+fits_from place operands (class_permission_set set the_class permissions) inner h = (h.0.0, begins_with place _ operands _ h.0.1, h.0.2, h.1)
+fits_from place operands (rule kind source target permissions) inner h = (h.0.0, h.0.1, begins_with place _ operands _ h.0.2, h.0.3, h.0.4, h.1)
 
 -- a fitting list that begins with this word
 pub fits_parts : (place : Place) (text : List ℕ) (operands : Trees) (form : Form) (inner : Trees) → Fits (a_word place text operands) form inner → (text ≡ first_word form) × OperandsFit operands form inner

@@ -1,5 +1,5 @@
 -- A list fits one form at most.
-use Rattle.cil_specs.proofs.Common.{◌≡◌, ℕ, inl, inr, List, [], ◌∷◌, sym, ◌∙◌, ap, subst, refl, false, codes, bytes_eq, Word, Trees, none, IsListThen, WordExpr, Expresses, RuleKind, allow, auditallow, dontaudit, neverallow, rule_word, Target, itself, the_named, Form, block, optional, type_name, type_alias, alias_actual, type_attribute, attribute_set, common, class, class_common, class_order, rule, put_word, all_words, IsWordList, IsTargetThen, IsClassList, IsClassAndPermissions, Fits}
+use Rattle.cil_specs.proofs.Common.{◌≡◌, ℕ, inl, inr, List, [], ◌∷◌, sym, ◌∙◌, ap, subst, refl, false, codes, bytes_eq, Word, Trees, none, a_list, IsListThen, WordExpr, Expresses, RuleKind, allow, auditallow, dontaudit, neverallow, rule_word, Target, itself, the_named, Form, block, optional, type_name, type_alias, alias_actual, type_attribute, attribute_set, common, class, class_common, class_order, class_permission, class_permission_set, rule, ClassPermissions, anonymous, by_name, put_word, all_words, IsWordList, IsTargetThen, IsClassList, IsClassAndPermissions, ArePermissions, Fits}
 use Rattle.cil_specs.proofs.ExprLemmas.{apart}
 use Rattle.cil_specs.proofs.ExprSame.{same_word, expresses_same}
 use Rattle.cil_specs.proofs.FormLemmas.{first_word, IsNameAndList, OperandsFit, fits_begin, fits_parts}
@@ -57,6 +57,13 @@ class_and_permissions_same trees v w x y h k =
     let p = put_same v w h.1 k.1 (sym h.3 ∙ same ∙ k.3) in
     (p.0, (expresses_same x k.1 none (subst (λ list. Expresses list x none) p.1 h.4.2) y none k.4.2).0)
 
+-- a list is no word
+permissions_same : (trees : Trees) (x y : ClassPermissions) → ArePermissions trees x → ArePermissions trees y → x ≡ y
+permissions_same trees (anonymous c d) (anonymous e f) h k = let p = class_and_permissions_same trees c e d f h k in λ i. anonymous (p.0 i) (p.1 i)
+permissions_same trees (anonymous c d) (by_name w) h k = absurd (let e : a_list h.2.0 h.2.1 h.0 none ≡ put_word w none = sym h.2.2 ∙ k in cc e)
+permissions_same trees (by_name v) (anonymous e f) h k = absurd (let e : a_list k.2.0 k.2.1 k.0 none ≡ put_word v none = sym k.2.2 ∙ h in cc e)
+permissions_same trees (by_name v) (by_name w) h k = ap by_name (put_same v w none none (sym h ∙ k)).0
+
 rule_word_same : (k l : RuleKind) → rule_word k ≡ rule_word l → k ≡ l
 rule_word_same allow allow h = refl
 rule_word_same auditallow auditallow h = refl
@@ -81,17 +88,17 @@ not_rule word neverallow a b c d h = apart word _ d h
 
 pub no_common : (operands inner : Trees) (form : Form) → ((id : Word) (permissions : List Word) → IsNameAndList operands id permissions → ⊥) → codes "common" ≡ first_word form → OperandsFit operands form inner → ⊥
 no_common operands inner (common id permissions) other is h = other id permissions h.0
-no_common operands inner (rule kind source target the_class permissions) other is h = not_rule _ kind refl refl refl refl is
+no_common operands inner (rule kind source target permissions) other is h = not_rule _ kind refl refl refl refl is
 no_common operands inner _ other is h = apart _ _ refl is
 
 pub no_class : (operands inner : Trees) (form : Form) → ((id : Word) (permissions : List Word) → IsNameAndList operands id permissions → ⊥) → codes "class" ≡ first_word form → OperandsFit operands form inner → ⊥
 no_class operands inner (class id permissions) other is h = other id permissions h.0
-no_class operands inner (rule kind source target the_class permissions) other is h = not_rule _ kind refl refl refl refl is
+no_class operands inner (rule kind source target permissions) other is h = not_rule _ kind refl refl refl refl is
 no_class operands inner _ other is h = apart _ _ refl is
 
 pub no_class_order : (operands inner : Trees) (form : Form) → ((classes : List Word) → IsClassList operands classes → ⊥) → codes "classorder" ≡ first_word form → OperandsFit operands form inner → ⊥
 no_class_order operands inner (class_order classes) other is h = other classes h.0
-no_class_order operands inner (rule kind source target the_class permissions) other is h = not_rule _ kind refl refl refl refl is
+no_class_order operands inner (rule kind source target permissions) other is h = not_rule _ kind refl refl refl refl is
 no_class_order operands inner _ other is h = apart _ _ refl is
 
 -- a form that begins with a rule's word is a rule of that kind
@@ -107,18 +114,20 @@ IsRuleOf kind (common id permissions) = ⊥
 IsRuleOf kind (class id permissions) = ⊥
 IsRuleOf kind (class_common v w) = ⊥
 IsRuleOf kind (class_order classes) = ⊥
-IsRuleOf kind (rule other source target the_class permissions) = kind ≡ other
+IsRuleOf kind (class_permission id) = ⊥
+IsRuleOf kind (class_permission_set set the_class permissions) = ⊥
+IsRuleOf kind (rule other source target permissions) = kind ≡ other
 
 rule_of : (kind : RuleKind) (form : Form) → rule_word kind ≡ first_word form → IsRuleOf kind form
-rule_of kind (rule other source target the_class permissions) h = rule_word_same kind other h
+rule_of kind (rule other source target permissions) h = rule_word_same kind other h
 rule_of allow _ h = apart _ _ refl h
 rule_of auditallow _ h = apart _ _ refl h
 rule_of dontaudit _ h = apart _ _ refl h
 rule_of neverallow _ h = apart _ _ refl h
 
-pub no_rule : (kind : RuleKind) (operands inner : Trees) (form : Form) → ((source : Word) (target : Target) (the_class : Word) (permissions : WordExpr) → OperandsFit operands (rule kind source target the_class permissions) none → ⊥)
+pub no_rule : (kind : RuleKind) (operands inner : Trees) (form : Form) → ((source : Word) (target : Target) (permissions : ClassPermissions) → OperandsFit operands (rule kind source target permissions) none → ⊥)
     → rule_word kind ≡ first_word form → OperandsFit operands form inner → ⊥
-no_rule kind operands inner (rule same source target the_class permissions) other is h = other source target the_class permissions (h.0, refl)
+no_rule kind operands inner (rule same source target permissions) other is h = other source target permissions (h.0, refl)
 no_rule kind operands inner form other is h = rule_of kind form is
 
 scope-same : (v w : Word) (operands inner others : Trees) → operands ≡ put_word v inner → operands ≡ put_word w others → (v ≡ w) × (inner ≡ others)
@@ -145,14 +154,19 @@ operands_same operands inner others (attribute_set v x) (attribute_set w y) h k 
 operands_same operands inner others (common v vs) (common w ws) h k is = let p = name_and_list_same operands v w vs ws h.0 k.0 in (λ i. common (p.0 i) (p.1 i), h.1 ∙ sym k.1)
 operands_same operands inner others (class v vs) (class w ws) h k is = let p = name_and_list_same operands v w vs ws h.0 k.0 in (λ i. class (p.0 i) (p.1 i), h.1 ∙ sym k.1)
 operands_same operands inner others (class_order vs) (class_order ws) h k is = (ap class_order (class_list_same operands vs ws h.0 k.0), h.1 ∙ sym k.1)
-operands_same operands inner others (rule kind v x c vs) (rule other w y d ws) h k is =
+operands_same operands inner others (class_permission v) (class_permission w) h k is = (ap class_permission (scope-same v w operands none none h.0 k.0).0, h.1 ∙ sym k.1)
+operands_same operands inner others (class_permission_set v c x) (class_permission_set w d y) h k is =
+    let p = scope-same v w operands h.0.0 k.0.0 h.0.1 k.0.1 in
+    let q = class_and_permissions_same k.0.0 c d x y (subst (λ last. IsClassAndPermissions last c x) p.1 h.0.2) k.0.2 in
+    (λ i. class_permission_set (p.0 i) (q.0 i) (q.1 i), h.1 ∙ sym k.1)
+operands_same operands inner others (rule kind v x c) (rule other w y d) h k is =
     let source = scope-same v w operands h.0.0 k.0.0 h.0.2 k.0.2 in
     let target = target_same k.0.0 x y h.0.1 k.0.1 (subst (λ targets. IsTargetThen targets x h.0.1) source.1 h.0.3) k.0.3 in
-    let last = class_and_permissions_same k.0.1 c d vs ws (subst (λ last. IsClassAndPermissions last c vs) target.1 h.0.4) k.0.4 in
+    let last = permissions_same k.0.1 c d (subst (λ last. ArePermissions last c) target.1 h.0.4) k.0.4 in
     let same = rule_word_same kind other is in
-    (λ i. rule (same i) (source.0 i) (target.0 i) (last.0 i) (last.1 i), h.1 ∙ sym k.1)
-operands_same operands inner others (rule kind v x c vs) g h k is = absurd (rule_of kind g is)
-operands_same operands inner others f (rule kind v x c vs) h k is = absurd (rule_of kind f (sym is))
+    (λ i. rule (same i) (source.0 i) (target.0 i) (last i), h.1 ∙ sym k.1)
+operands_same operands inner others (rule kind v x c) g h k is = absurd (rule_of kind g is)
+operands_same operands inner others f (rule kind v x c) h k is = absurd (rule_of kind f (sym is))
 operands_same operands inner others _ _ h k is = absurd (apart _ _ refl is)
 
 -- a list fits one form at most

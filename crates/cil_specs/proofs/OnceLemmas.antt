@@ -1,5 +1,5 @@
 -- Names that are declared twice: what a statement declares, and the same of other statements.
-use Rattle.cil_specs.proofs.Common.{◌≡◌, Bool, true, false, ◌||◌, cond, List, [], ◌∷◌, ◌++◌, Option, Some, None, if◌then◌else◌, refl, sym, ap, ◌∙◌, subst, append-nil, get_or, drop, arith, list_any, option_to_list, none-some, Word, Form, block, optional, type_name, type_alias, alias_actual, type_attribute, attribute_set, common, class, class_common, class_order, rule, Placed, Table, types, classes, commons, scopes, declared_in, PolicyFault, twice, is_again, tables, twice_words, IsFaultOf}
+use Rattle.cil_specs.proofs.Common.{◌≡◌, Bool, true, false, ◌||◌, cond, List, [], ◌∷◌, ◌++◌, Option, Some, None, if◌then◌else◌, refl, sym, ap, ◌∙◌, subst, append-nil, get_or, drop, arith, list_any, option_to_list, none-some, Word, Form, block, optional, type_name, type_alias, alias_actual, type_attribute, attribute_set, common, class, class_common, class_order, class_permission, class_permission_set, rule, Placed, Table, types, classes, commons, permission_sets, scopes, declared_in, PolicyFault, twice, is_again, tables, twice_words, IsFaultOf}
 use Rattle.std.proofs.Common.{filter, flat_map, Contains, true≢false}
 use Rattle.cil_specs.proofs.RestrictedLemmas.{filter-yes, filter-no}
 
@@ -16,7 +16,9 @@ table_in (common id permissions) = commons
 table_in (class id permissions) = classes
 table_in (class_common the_class the_common) = types
 table_in (class_order the_classes) = types
-table_in (rule kind source target the_class permissions) = types
+table_in (class_permission id) = permission_sets
+table_in (class_permission_set set the_class permissions) = types
+table_in (rule kind source target permissions) = types
 
 pub table-in : (table : Table) (form : Form) (w : Word) → declared_in table form ≡ Some w → table ≡ table_in form
 unfolding table_in
@@ -31,7 +33,9 @@ table-in types (common id permissions) w e = absurd (none-some w e)
 table-in types (class id permissions) w e = absurd (none-some w e)
 table-in types (class_common the_class the_common) w e = absurd (none-some w e)
 table-in types (class_order the_classes) w e = absurd (none-some w e)
-table-in types (rule kind source target the_class permissions) w e = absurd (none-some w e)
+table-in types (class_permission id) w e = absurd (none-some w e)
+table-in types (class_permission_set set the_class permissions) w e = absurd (none-some w e)
+table-in types (rule kind source target permissions) w e = absurd (none-some w e)
 table-in classes (block id) w e = absurd (none-some w e)
 table-in classes (optional id) w e = absurd (none-some w e)
 table-in classes (type_name id) w e = absurd (none-some w e)
@@ -43,7 +47,9 @@ table-in classes (common id permissions) w e = absurd (none-some w e)
 table-in classes (class id permissions) w e = refl
 table-in classes (class_common the_class the_common) w e = absurd (none-some w e)
 table-in classes (class_order the_classes) w e = absurd (none-some w e)
-table-in classes (rule kind source target the_class permissions) w e = absurd (none-some w e)
+table-in classes (class_permission id) w e = absurd (none-some w e)
+table-in classes (class_permission_set set the_class permissions) w e = absurd (none-some w e)
+table-in classes (rule kind source target permissions) w e = absurd (none-some w e)
 table-in commons (block id) w e = absurd (none-some w e)
 table-in commons (optional id) w e = absurd (none-some w e)
 table-in commons (type_name id) w e = absurd (none-some w e)
@@ -55,7 +61,23 @@ table-in commons (common id permissions) w e = refl
 table-in commons (class id permissions) w e = absurd (none-some w e)
 table-in commons (class_common the_class the_common) w e = absurd (none-some w e)
 table-in commons (class_order the_classes) w e = absurd (none-some w e)
-table-in commons (rule kind source target the_class permissions) w e = absurd (none-some w e)
+table-in commons (class_permission id) w e = absurd (none-some w e)
+table-in commons (class_permission_set set the_class permissions) w e = absurd (none-some w e)
+table-in commons (rule kind source target permissions) w e = absurd (none-some w e)
+table-in permission_sets (block id) w e = absurd (none-some w e)
+table-in permission_sets (optional id) w e = absurd (none-some w e)
+table-in permission_sets (type_name id) w e = absurd (none-some w e)
+table-in permission_sets (type_alias id) w e = absurd (none-some w e)
+table-in permission_sets (alias_actual alias actual) w e = absurd (none-some w e)
+table-in permission_sets (type_attribute id) w e = absurd (none-some w e)
+table-in permission_sets (attribute_set attribute expr) w e = absurd (none-some w e)
+table-in permission_sets (common id permissions) w e = absurd (none-some w e)
+table-in permission_sets (class id permissions) w e = absurd (none-some w e)
+table-in permission_sets (class_common the_class the_common) w e = absurd (none-some w e)
+table-in permission_sets (class_order the_classes) w e = absurd (none-some w e)
+table-in permission_sets (class_permission id) w e = refl
+table-in permission_sets (class_permission_set set the_class permissions) w e = absurd (none-some w e)
+table-in permission_sets (rule kind source target permissions) w e = absurd (none-some w e)
 table-in scopes (block id) w e = refl
 table-in scopes (optional id) w e = refl
 table-in scopes (type_name id) w e = absurd (none-some w e)
@@ -67,7 +89,9 @@ table-in scopes (common id permissions) w e = absurd (none-some w e)
 table-in scopes (class id permissions) w e = absurd (none-some w e)
 table-in scopes (class_common the_class the_common) w e = absurd (none-some w e)
 table-in scopes (class_order the_classes) w e = absurd (none-some w e)
-table-in scopes (rule kind source target the_class permissions) w e = absurd (none-some w e)
+table-in scopes (class_permission id) w e = absurd (none-some w e)
+table-in scopes (class_permission_set set the_class permissions) w e = absurd (none-some w e)
+table-in scopes (rule kind source target permissions) w e = absurd (none-some w e)
 
 -- the words that a statement declares, by a test for each table
 abbrev chosen : (Table → Word → Bool) → Form → List Word
@@ -87,7 +111,9 @@ chosen-in again (common id permissions) = append-nil _
 chosen-in again (class id permissions) = append-nil _
 chosen-in again (class_common the_class the_common) = refl
 chosen-in again (class_order the_classes) = refl
-chosen-in again (rule kind source target the_class permissions) = refl
+chosen-in again (class_permission id) = append-nil _
+chosen-in again (class_permission_set set the_class permissions) = refl
+chosen-in again (rule kind source target permissions) = refl
 
 chosen-some : (again : Table → Word → Bool) (table : Table) (form : Form) (w : Word) → declared_in table form ≡ Some w → chosen again form ≡ (if again table w then w ∷ [] else [])
 chosen-some again table form w e =

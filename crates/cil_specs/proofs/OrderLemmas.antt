@@ -1,5 +1,5 @@
 -- Trees in order, and the words in them.
-use Rattle.cil_specs.proofs.Common.{◌≡◌, ℕ, ◌+◌, ◌-◌, ◌<◌, ◌≤◌, nat_le, nat_lt, ◌≢◌, ◌⊎◌, inl, inr, List, [], ◌∷◌, ◌++◌, length, map, get_or, zero, suc, sym, ◌∙◌, ap, subst, refl, codes, IsTrue, arith, and_parts, and_from, leb-true, ltb-true, le-leb, map-append, Place, Word, Role, Trees, none, a_word, a_string, a_list, in_order, WordExpr, every, named, opposite, both, either, one_of, nothing, elements, IsOperationThen, Expresses, Lists, leaves, Target, itself, the_named, as_declared, as_referred, target_words, Form, block, optional, type_name, type_alias, alias_actual, type_attribute, attribute_set, common, class, class_common, class_order, rule, words_of, rise_from, put_word, all_words, IsWordList, IsTargetThen, IsClassList, IsExpressionList, IsClassAndPermissions}
+use Rattle.cil_specs.proofs.Common.{◌≡◌, ℕ, ◌+◌, ◌-◌, ◌<◌, ◌≤◌, nat_le, nat_lt, ◌≢◌, ◌⊎◌, inl, inr, List, [], ◌∷◌, ◌++◌, length, map, get_or, zero, suc, sym, ◌∙◌, ap, subst, refl, codes, IsTrue, arith, and_parts, and_from, leb-true, ltb-true, le-leb, map-append, Place, Word, Role, Trees, none, a_word, a_string, a_list, in_order, WordExpr, every, named, opposite, both, either, one_of, nothing, elements, IsOperationThen, Expresses, Lists, leaves, Target, itself, the_named, as_declared, as_referred, target_words, Form, block, optional, type_name, type_alias, alias_actual, type_attribute, attribute_set, common, class, class_common, class_order, class_permission, class_permission_set, rule, ClassPermissions, anonymous, by_name, words_of, permission_words, rise_from, put_word, all_words, IsWordList, IsTargetThen, IsClassList, IsExpressionList, IsClassAndPermissions, ArePermissions}
 use Rattle.cil_specs.proofs.FormLemmas.{IsNameAndList, OperandsFit}
 
 -- numbers that rise from one on and stay below another
@@ -225,6 +225,12 @@ class_and_permissions_rise id e trees inner low high h empty order =
     end_rises ns inner low high empty (rise_end low ns high (rise_list low list.0 list.1 h.0 none high ns (subst (λ t. IsTrue (in_order low t high)) list.2 order)
     (λ o. rise_end (list.0.offset + 1) ns (list.1 - 1) (class_then_expr_rises id e h.0 h.1 (list.0.offset + 1) (list.1 - 1) h.3 h.4 o))))
 
+-- the words of a rule's permissions
+permissions_rise : (x : ClassPermissions) (trees inner : Trees) (low high : ℕ) → ArePermissions trees x → inner ≡ none → IsTrue (in_order low trees high)
+    → RiseThen low (map role_offset (permission_words x)) inner high
+permissions_rise (anonymous id e) trees inner low high h empty order = class_and_permissions_rise id e trees inner low high h empty order
+permissions_rise (by_name id) trees inner low high h empty order = one_rises id trees inner low high h empty order
+
 -- the words of a form rise, and its inner statements stand behind them
 pub words_rise : (form : Form) (operands inner : Trees) (low high : ℕ) → OperandsFit operands form inner → IsTrue (in_order low operands high) → RiseThen low (map role_offset (words_of form)) inner high
 words_rise (block id) operands inner low high h order = put_rises id [] operands inner inner low high h.0 order (λ from o. (from, omega arith, o))
@@ -242,8 +248,12 @@ words_rise (class id permissions) operands inner low high h order = name_and_lis
 words_rise (class_common v w) operands inner low high h order = two_rise v w operands inner low high h.0 h.1 order
 words_rise (class_order classes) operands inner low high h order =
     end_rises (map role_offset (map as_referred classes)) inner low high h.1 (subst (λ ns. RiseTo low ns high) (sym (referred_offsets classes)) (class_list_rises classes operands low high h.0 order))
-words_rise (rule kind source target the_class permissions) operands inner low high h order =
-    let last : List ℕ = the_class.at.offset ∷ map role_offset (map as_declared (leaves permissions)) in
-    subst (λ ns. RiseThen low ns inner high) (sym (ap (λ ns. source.at.offset ∷ ns) (map-append role_offset (map as_referred (target_words target)) (as_referred the_class ∷ map as_declared (leaves permissions)))))
+words_rise (class_permission id) operands inner low high h order = one_rises id operands inner low high h.0 h.1 order
+words_rise (class_permission_set set the_class permissions) operands inner low high h order =
+    put_rises set (the_class.at.offset ∷ map role_offset (map as_declared (leaves permissions))) operands h.0.0 inner low high h.0.1 order
+    (λ from o. class_and_permissions_rise the_class permissions h.0.0 inner from high h.0.2 h.1 o)
+words_rise (rule kind source target permissions) operands inner low high h order =
+    let last : List ℕ = map role_offset (permission_words permissions) in
+    subst (λ ns. RiseThen low ns inner high) (sym (ap (λ ns. source.at.offset ∷ ns) (map-append role_offset (map as_referred (target_words target)) (permission_words permissions))))
     (put_rises source (map role_offset (map as_referred (target_words target)) ++ last) operands h.0.0 inner low high h.0.2 order
-    (λ from o. target_rises target last h.0.0 h.0.1 inner from high h.0.3 o (λ behind b. class_and_permissions_rise the_class permissions h.0.1 inner behind high h.0.4 h.1 b)))
+    (λ from o. target_rises target last h.0.0 h.0.1 inner from high h.0.3 o (λ behind b. permissions_rise permissions h.0.1 inner behind high h.0.4 h.1 b)))

@@ -1,5 +1,5 @@
 -- Statements and shape faults: trees have not both, and where the faults stand.
-use Rattle.cil_specs.proofs.Common.{◌≡◌, ℕ, ◌+◌, ◌-◌, ◌<◌, ◌⊎◌, inl, inr, Bool, true, false, ◌||◌, List, [], ◌∷◌, ◌++◌, length, map, get_or, zero, suc, Some, sym, ◌∙◌, ap, subst, refl, bytes_eq, IsTrue, not, ◌&&◌, arith, list_any, AllByRecursion, true≢false, or_cases, bytes_eq-Decides, Place, TextFaultKind, TextFault, Word, Role, name_fault, Trees, none, a_word, a_list, are_lists, in_order, allow, auditallow, dontaudit, neverallow, Form, block, optional, type_name, type_alias, alias_actual, type_attribute, attribute_set, common, class, class_common, class_order, rule, words_of, is_optional, stands_apart, Statements, no_more, statement, are_apart, statement_offsets, Fits, keywords, outside_optionals, is_among, IsGoodWord, IsAllowed, Shapes, IsWordFault, no_keyword, no_fit, in_optional, no_name, IsListFault, IsShapeFault, IsInnerFault, IsBodyFault}
+use Rattle.cil_specs.proofs.Common.{◌≡◌, ℕ, ◌+◌, ◌-◌, ◌<◌, ◌⊎◌, inl, inr, Bool, true, false, ◌||◌, List, [], ◌∷◌, ◌++◌, length, map, get_or, zero, suc, Some, sym, ◌∙◌, ap, subst, refl, bytes_eq, IsTrue, not, ◌&&◌, arith, list_any, AllByRecursion, true≢false, or_cases, bytes_eq-Decides, Place, TextFaultKind, TextFault, Word, Role, name_fault, Trees, none, a_word, a_list, are_lists, in_order, allow, auditallow, dontaudit, neverallow, Form, block, optional, type_name, type_alias, alias_actual, type_attribute, attribute_set, common, class, class_common, class_order, class_permission, class_permission_set, rule, words_of, is_optional, stands_apart, Statements, no_more, statement, are_apart, statement_offsets, Fits, keywords, outside_optionals, is_among, IsGoodWord, IsAllowed, Shapes, IsWordFault, no_keyword, no_fit, in_optional, no_name, IsListFault, IsShapeFault, IsInnerFault, IsBodyFault}
 use Rattle.std.proofs.Common.{Contains}
 use Rattle.cil_specs.proofs.FormLemmas.{first_word, OperandsFit, fits_begin, fits_parts}
 use Rattle.cil_specs.proofs.FormSame.{fits_same}
@@ -14,10 +14,12 @@ all_at P (x ∷ xs) (suc k) d within h = all_at P xs k d (omega arith) h.1
 
 -- each form's first word is a keyword
 pub keyword_of : (form : Form) → is_among keywords (first_word form) ≡ true
-keyword_of (rule allow source target the_class permissions) = refl
-keyword_of (rule auditallow source target the_class permissions) = refl
-keyword_of (rule dontaudit source target the_class permissions) = refl
-keyword_of (rule neverallow source target the_class permissions) = refl
+keyword_of (rule allow source target permissions) = refl
+keyword_of (rule auditallow source target permissions) = refl
+keyword_of (rule dontaudit source target permissions) = refl
+keyword_of (rule neverallow source target permissions) = refl
+keyword_of (class_permission id) = refl
+keyword_of (class_permission_set set the_class permissions) = refl
 keyword_of (block id) = refl
 keyword_of (optional id) = refl
 keyword_of (type_name id) = refl
@@ -69,10 +71,10 @@ pub inner_faults : (form : Form) (place : Place) (operands inner : Trees) (insid
     → IsShapeFault (inside || is_optional form) inner fault
 inner_faults (block id) place operands inner inside fault fits h = (subst (λ operands. IsBodyFault (inside || false) operands fault) fits.0 h.1).1
 inner_faults (optional id) place operands inner inside fault fits h = (subst (λ operands. IsBodyFault (inside || true) operands fault) fits.0 h.1).1
-inner_faults (rule allow source target the_class permissions) place operands inner inside fault fits h = absurd (true≢false (sym h.0))
-inner_faults (rule auditallow source target the_class permissions) place operands inner inside fault fits h = absurd (true≢false (sym h.0))
-inner_faults (rule dontaudit source target the_class permissions) place operands inner inside fault fits h = absurd (true≢false (sym h.0))
-inner_faults (rule neverallow source target the_class permissions) place operands inner inside fault fits h = absurd (true≢false (sym h.0))
+inner_faults (rule allow source target permissions) place operands inner inside fault fits h = absurd (true≢false (sym h.0))
+inner_faults (rule auditallow source target permissions) place operands inner inside fault fits h = absurd (true≢false (sym h.0))
+inner_faults (rule dontaudit source target permissions) place operands inner inside fault fits h = absurd (true≢false (sym h.0))
+inner_faults (rule neverallow source target permissions) place operands inner inside fault fits h = absurd (true≢false (sym h.0))
 inner_faults _ place operands inner inside fault fits h = absurd (true≢false (sym h.0))
 
 none-fault : (inside : Bool) (inner : Trees) (fault : TextFault) → inner ≡ none → IsShapeFault inside inner fault → ⊥
@@ -159,7 +161,9 @@ form_apart true (common id permissions) allowed = absurd (true≢false (allowed 
 form_apart true (class id permissions) allowed = absurd (true≢false (allowed refl))
 form_apart true (class_common the_class the_common) allowed = absurd (true≢false (allowed refl))
 form_apart true (class_order classes) allowed = absurd (true≢false (allowed refl))
-form_apart true (rule kind source target the_class permissions) allowed = refl
+form_apart true (class_permission id) allowed = refl
+form_apart true (class_permission_set set the_class permissions) allowed = refl
+form_apart true (rule kind source target permissions) allowed = refl
 
 -- what may stand in no optional stands in none
 pub shapes_apart : (statements : Statements) (inside : Bool) (trees : Trees) → Shapes inside trees statements → are_apart inside statements ≡ true

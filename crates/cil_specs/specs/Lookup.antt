@@ -4,14 +4,15 @@ use Rattle.std.specs.List.{find, list_any}
 use Rattle.std.specs.Option.{option_or, option_and_then}
 use Rattle.cil_specs.specs.Names.{Word, components}
 use Rattle.cil_specs.specs.Expr.{leaves}
-use Rattle.cil_specs.specs.Statements.{Form, block, optional, type_name, type_alias, alias_actual, type_attribute, attribute_set, common, class, class_common, class_order, rule, target_words}
+use Rattle.cil_specs.specs.Statements.{Form, block, optional, type_name, type_alias, alias_actual, type_attribute, attribute_set, common, class, class_common, class_order, class_permission, class_permission_set, rule, ClassPermissions, anonymous, by_name, target_words}
 use Rattle.cil_specs.specs.Joined.{Placed}
 
--- The tables of names. Types, aliases and attributes share one, and so do blocks and optionals.
+-- The tables of names. Types, aliases and attributes share one, and so do blocks and optionals. A permission set has one of its own.
 pub data Table : Type 0 where
   types : Table
   classes : Table
   commons : Table
+  permission_sets : Table
   scopes : Table
 
 -- the name that a statement declares in a table
@@ -21,6 +22,7 @@ declared_in types (type_alias id) = Some id
 declared_in types (type_attribute id) = Some id
 declared_in classes (class id permissions) = Some id
 declared_in commons (common id permissions) = Some id
+declared_in permission_sets (class_permission id) = Some id
 declared_in scopes (block id) = Some id
 declared_in scopes (optional id) = Some id
 declared_in _ _ = None
@@ -113,18 +115,30 @@ abbrev pub holds_of : (Placed → Bool) → Option Placed → Bool
 holds_of test None = false
 holds_of test (Some s) = test s
 
+-- the class of a rule's permissions, or its permission set, with its table
+abbrev pub permission_reference : ClassPermissions → Table × Word
+permission_reference (anonymous the_class permissions) = (classes, the_class)
+permission_reference (by_name set) = (permission_sets, set)
+
 -- the references of a statement, each with its table, in the order of the text
 abbrev pub references : Form → List (Table × Word)
 references (alias_actual alias actual) = (types, alias) ∷ (types, actual) ∷ []
 references (attribute_set attribute expr) = (types, attribute) ∷ map (λ w. (types, w)) (leaves expr)
 references (class_common the_class the_common) = (classes, the_class) ∷ (commons, the_common) ∷ []
 references (class_order the_classes) = map (λ w. (classes, w)) the_classes
-references (rule kind source target the_class permissions) = (types, source) ∷ (map (λ w. (types, w)) (target_words target) ++ (classes, the_class) ∷ [])
+references (class_permission_set set the_class permissions) = (permission_sets, set) ∷ (classes, the_class) ∷ []
+references (rule kind source target permissions) = (types, source) ∷ (map (λ w. (types, w)) (target_words target) ++ permission_reference permissions ∷ [])
 references _ = []
+
+-- the permissions of an expression of a class's, each with the word of the class
+abbrev pub permissions_with : ClassPermissions → List (Word × Word)
+permissions_with (anonymous the_class permissions) = map (λ w. (the_class, w)) (leaves permissions)
+permissions_with (by_name set) = []
 
 -- the permissions that a statement names, each with the word of its class
 abbrev pub named_permissions : Form → List (Word × Word)
-named_permissions (rule kind source target the_class permissions) = map (λ w. (the_class, w)) (leaves permissions)
+named_permissions (class_permission_set set the_class permissions) = permissions_with (anonymous the_class permissions)
+named_permissions (rule kind source target permissions) = permissions_with permissions
 named_permissions _ = []
 
 abbrev pub texts : List Word → List (List ℕ)

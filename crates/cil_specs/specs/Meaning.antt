@@ -3,16 +3,17 @@ use Rattle.std.specs.Prelude.{◌≡◌, ℕ, Bool, ◌&&◌, ◌==◌, List, le
 use Rattle.std.specs.List.{list_any}
 use Rattle.cil_specs.specs.Expr.{Expr, named, holds_by}
 use Rattle.cil_specs.specs.Joined.{Placed}
-use Rattle.cil_specs.specs.Rule.{Element, ResolvedTarget, at_itself, at_element, Rule, Atom, kind_index, Declared, ClassOf, SetStatement, types_of, attributes_of, classes_of, sets_of, rules_of}
+use Rattle.cil_specs.specs.Rule.{Element, ResolvedTarget, at_itself, at_element, ResolvedPermissions, of_class, of_set, Rule, Atom, kind_index, Declared, ClassOf, PermissionSetStatement, SetStatement, types_of, attributes_of, classes_of, permission_sets_of, sets_of, rules_of}
 use Rattle.cil_specs.specs.Sets.{holds_with}
 use Rattle.cil_specs.specs.Kept.{Optionals, AreKept, restricted, Compiles, dropped_of}
 
--- The types, attributes, classes, set statements and rules of a policy, in the order of their statements, and the optionals that
--- drop; all by full names, with their modules and places.
+-- The types, attributes, classes, permission sets, set statements and rules of a policy, in the order of their statements, and the
+-- optionals that drop; all by full names, with their modules and places.
 pub record Meaning : Type 0 where
   pub types : List Declared
   pub attributes : List Declared
   pub classes : List ClassOf
+  pub permission_sets : List PermissionSetStatement
   pub sets : List SetStatement
   pub rules : List Rule
   pub dropped : List Declared
@@ -23,6 +24,7 @@ meaning_of statements dropped = record {
   types = types_of statements;
   attributes = attributes_of statements;
   classes = classes_of statements;
+  permission_sets = permission_sets_of statements;
   sets = sets_of statements;
   rules = rules_of statements;
   dropped = dropped;
@@ -55,9 +57,18 @@ aims meaning (at_element element) s t = holds meaning element t
 abbrev pub has_permission : Meaning → List ℕ → List ℕ → Bool
 has_permission meaning c p = list_any (λ d. bytes_eq c d.name && list_any (bytes_eq p) d.permissions) meaning.classes
 
--- whether a rule gives a permission of a class: the class is the rule's, and of the permissions that it has the rule's expression holds this one
+-- whether a class and an expression of permissions give a permission of a class: it is that class, and of the permissions that it has
+-- the expression holds this one
+abbrev pub class_permits : Meaning → List ℕ → Expr (List ℕ) → List ℕ → List ℕ → Bool
+class_permits meaning the_class expr c p = bytes_eq the_class c && (has_permission meaning c p && holds_by (bytes_eq p) expr)
+
+-- whether a rule's permissions give it: those of its class, or what one of the statements of its permission set gives
+abbrev pub permissions_permit : Meaning → ResolvedPermissions → List ℕ → List ℕ → Bool
+permissions_permit meaning (of_class the_class expr) c p = class_permits meaning the_class expr c p
+permissions_permit meaning (of_set set) c p = list_any (λ s. bytes_eq set s.set && class_permits meaning s.the_class s.permissions c p) meaning.permission_sets
+
 abbrev pub permits : Meaning → Rule → List ℕ → List ℕ → Bool
-permits meaning r c p = bytes_eq r.the_class c && (has_permission meaning c p && holds_by (bytes_eq p) r.permissions)
+permits meaning r c p = permissions_permit meaning r.permissions c p
 
 -- whether a rule covers the source s, the target t, the class c and the permission p
 abbrev pub covers : Meaning → Rule → List ℕ → List ℕ → List ℕ → List ℕ → Bool

@@ -10,7 +10,7 @@ use Rattle.cil_specs.specs.Names.{Word}
 use Rattle.cil_specs.specs.Expr.{leaves}
 use Rattle.cil_specs.specs.Statements.{Form, alias_actual, type_attribute, attribute_set, class_common, rule, target_words, is_optional}
 use Rattle.cil_specs.specs.Joined.{Placed}
-use Rattle.cil_specs.specs.Lookup.{Table, types, classes, commons, scopes, declared_in, declared_name, declares, leads, holds_of, references, named_permissions, permissions_of, distinct, gives_common, gives_actual, actual_statement, is_type, is_alias, is_attribute}
+use Rattle.cil_specs.specs.Lookup.{Table, types, classes, commons, permission_sets, scopes, declared_in, declared_name, declares, leads, holds_of, references, named_permissions, permissions_of, distinct, gives_common, gives_actual, actual_statement, is_type, is_alias, is_attribute}
 use Rattle.cil_specs.specs.Rule.{sets_of}
 use Rattle.cil_specs.specs.Sets.{DependsOn}
 
@@ -47,7 +47,7 @@ abbrev pub is_again : Table → Placed → Word → Placed → Bool
 is_again table s id earlier = declares table s.namespace id.text earlier && not (is_optional s.form && is_optional earlier.form)
 
 abbrev pub tables : List Table
-tables = types ∷ classes ∷ commons ∷ scopes ∷ []
+tables = types ∷ classes ∷ commons ∷ permission_sets ∷ scopes ∷ []
 
 -- the name that a statement declares and that a statement before it declares already
 abbrev pub twice_words : List Placed → Placed → List Word
@@ -94,7 +94,7 @@ alias_twice_words policy before s = filter (has_earlier_actual policy before s.n
 
 -- the words of a rule's source and target, and those of a set expression
 abbrev pub element_words : Form → List Word
-element_words (rule kind source target the_class permissions) = source ∷ target_words target
+element_words (rule kind source target permissions) = source ∷ target_words target
 element_words (attribute_set attribute expr) = leaves expr
 element_words _ = []
 

@@ -2,10 +2,10 @@
 use Rattle.std.specs.Prelude.{◌≡◌, ℕ, Bool, true, false, List, [], ◌∷◌, map, flat_map, Option, Some, None, if◌then◌else◌}
 use Rattle.cil_specs.specs.Place.{Place}
 use Rattle.cil_specs.specs.Names.{Word}
-use Rattle.cil_specs.specs.Expr.{Expr, map_leaves}
-use Rattle.cil_specs.specs.Statements.{RuleKind, allow, auditallow, dontaudit, neverallow, Form, class, type_alias, type_attribute, attribute_set, rule, Target, itself, the_named}
+use Rattle.cil_specs.specs.Expr.{Expr, WordExpr, map_leaves}
+use Rattle.cil_specs.specs.Statements.{RuleKind, allow, auditallow, dontaudit, neverallow, Form, class, type_alias, type_attribute, attribute_set, class_permission_set, rule, ClassPermissions, anonymous, by_name, Target, itself, the_named}
 use Rattle.cil_specs.specs.Joined.{Placed}
-use Rattle.cil_specs.specs.Lookup.{Table, types, classes, leads, declared_name, permissions_of, distinct, actual_of, is_type, is_attribute}
+use Rattle.cil_specs.specs.Lookup.{Table, types, classes, permission_sets, leads, declared_name, permissions_of, distinct, actual_of, is_type, is_attribute}
 
 -- what a name of a rule leads to, by its full name: a type, an alias's too, or an attribute
 pub data Element : Type 0 where
@@ -17,26 +17,29 @@ pub data ResolvedTarget : Type 0 where
   at_itself : ResolvedTarget
   at_element : Element → ResolvedTarget
 
--- a rule with full names in place of its references; its permissions as they are written, an expression of their names
+-- a rule's permissions as resolved: an expression, as it is written, of the permissions of a class, or a permission set
+pub data ResolvedPermissions : Type 0 where
+  of_class : List ℕ → Expr (List ℕ) → ResolvedPermissions
+  of_set : List ℕ → ResolvedPermissions
+
+-- a rule with full names in place of its references
 pub record Rule : Type 0 where
   pub module_name : List ℕ
   pub at : Place
   pub kind : RuleKind
   pub source : Element
   pub target : ResolvedTarget
-  pub the_class : List ℕ
-  pub permissions : Expr (List ℕ)
+  pub permissions : ResolvedPermissions
 
 -- what a rule says, wherever it stands
 pub record RuleContent : Type 0 where
   pub kind : RuleKind
   pub source : Element
   pub target : ResolvedTarget
-  pub the_class : List ℕ
-  pub permissions : Expr (List ℕ)
+  pub permissions : ResolvedPermissions
 
 abbrev pub content_of : Rule → RuleContent
-content_of r = record { kind = r.kind; source = r.source; target = r.target; the_class = r.the_class; permissions = r.permissions }
+content_of r = record { kind = r.kind; source = r.source; target = r.target; permissions = r.permissions }
 
 -- Two rules are the same as resolved: their modules, offsets and contents are. Line and column don't count.
 abbrev pub IsSameRule : Rule → Rule → Type 0
@@ -60,6 +63,14 @@ set_content_of s = record { attribute = s.attribute; expr = s.expr }
 -- Two set statements are the same as resolved, as two rules are.
 abbrev pub IsSameSet : SetStatement → SetStatement → Type 0
 IsSameSet s t = (s.module_name ≡ t.module_name) × (s.at.offset ≡ t.at.offset) × (set_content_of s ≡ set_content_of t)
+
+-- a statement that gives a permission set permissions of a class, with full names in place of its references
+pub record PermissionSetStatement : Type 0 where
+  pub module_name : List ℕ
+  pub at : Place
+  pub set : List ℕ
+  pub the_class : List ℕ
+  pub permissions : Expr (List ℕ)
 
 -- one access: what the source may do to the target, or may not
 pub record Atom : Type 0 where
@@ -135,16 +146,23 @@ abbrev pub resolved_target_of : List Placed → List (List ℕ) → Target → R
 resolved_target_of policy namespace itself = at_itself
 resolved_target_of policy namespace (the_named word) = at_element (element_of policy namespace word)
 
+-- the permissions of an expression by their names
+abbrev pub texts_of : WordExpr → Expr (List ℕ)
+texts_of permissions = map_leaves (λ w. w.text) permissions
+
+abbrev pub resolved_permissions_of : List Placed → List (List ℕ) → ClassPermissions → ResolvedPermissions
+resolved_permissions_of policy namespace (anonymous the_class permissions) = of_class (class_name policy namespace the_class) (texts_of permissions)
+resolved_permissions_of policy namespace (by_name set) = of_set (name_or_none permission_sets (leads policy permission_sets namespace set.text))
+
 -- a statement's rule, if it is one
 abbrev pub rule_of : List Placed → Placed → Form → List Rule
-rule_of policy s (rule kind source target the_class permissions) = record {
+rule_of policy s (rule kind source target permissions) = record {
   module_name = s.module_name;
   at = s.at;
   kind = kind;
   source = element_of policy s.namespace source;
   target = resolved_target_of policy s.namespace target;
-  the_class = class_name policy s.namespace the_class;
-  permissions = map_leaves (λ w. w.text) permissions;
+  permissions = resolved_permissions_of policy s.namespace permissions;
 } ∷ []
 rule_of policy s _ = []
 
@@ -157,6 +175,21 @@ set_statement_of policy s (attribute_set attribute expr) = record {
   expr = map_leaves (element_of policy s.namespace) expr;
 } ∷ []
 set_statement_of policy s _ = []
+
+-- a statement of a permission set, if it is one
+abbrev pub permission_set_of : List Placed → Placed → Form → List PermissionSetStatement
+permission_set_of policy s (class_permission_set set the_class permissions) = record {
+  module_name = s.module_name;
+  at = s.at;
+  set = name_or_none permission_sets (leads policy permission_sets s.namespace set.text);
+  the_class = class_name policy s.namespace the_class;
+  permissions = texts_of permissions;
+} ∷ []
+permission_set_of policy s _ = []
+
+-- what the statements of a policy give to permission sets
+abbrev pub permission_sets_of : List Placed → List PermissionSetStatement
+permission_sets_of policy = flat_map (λ s. permission_set_of policy s s.form) policy
 
 -- the set statements of a policy
 abbrev pub sets_of : List Placed → List SetStatement

@@ -6,7 +6,7 @@ use Rattle.cil_specs.specs.TextFault.{TextFaultKind, unsupported, misshapen, not
 use Rattle.cil_specs.specs.Names.{Word, Role, name_fault}
 use Rattle.cil_specs.specs.Trees.{Trees, none, a_word, a_string, a_list, are_lists}
 use Rattle.cil_specs.specs.Expr.{WordExpr, Expresses, IsListThen}
-use Rattle.cil_specs.specs.Statements.{rule_word, Target, itself, the_named, Form, block, optional, type_name, type_alias, alias_actual, type_attribute, attribute_set, common, class, class_common, class_order, rule, words_of, is_optional, Statements, no_more, statement}
+use Rattle.cil_specs.specs.Statements.{rule_word, Target, itself, the_named, Form, block, optional, type_name, type_alias, alias_actual, type_attribute, attribute_set, common, class, class_common, class_order, class_permission, class_permission_set, rule, ClassPermissions, anonymous, by_name, words_of, is_optional, Statements, no_more, statement}
 
 -- a word, and then the rest
 abbrev pub put_word : Word → Trees → Trees
@@ -43,6 +43,11 @@ IsExpressionList trees expr = (items : Trees) × IsListThen trees items none × 
 abbrev pub IsClassAndPermissions : Trees → Word → WordExpr → Type 0
 IsClassAndPermissions trees the_class permissions = (items permission_list : Trees) × IsListThen trees items none × (items ≡ put_word the_class permission_list) × IsExpressionList permission_list permissions
 
+-- the trees are a rule's permissions: a class and an expression, or one word
+abbrev pub ArePermissions : Trees → ClassPermissions → Type 0
+ArePermissions trees (anonymous the_class permissions) = IsClassAndPermissions trees the_class permissions
+ArePermissions trees (by_name set) = trees ≡ put_word set none
+
 -- The elements of a statement's list fit the form, and the last are its inner statements; form by form.
 abbrev pub Fits : Trees → Form → Trees → Type 0
 Fits trees (block id) inner = Begins trees (codes "block") (put_word id inner) × IsTrue (are_lists inner)
@@ -56,13 +61,17 @@ Fits trees (common id permissions) inner = (list : Trees) × Begins trees (codes
 Fits trees (class id permissions) inner = (list : Trees) × Begins trees (codes "class") (put_word id list) × IsWordList list permissions × (inner ≡ none)
 Fits trees (class_common the_class the_common) inner = Begins trees (codes "classcommon") (put_word the_class (put_word the_common none)) × (inner ≡ none)
 Fits trees (class_order classes) inner = (list : Trees) × Begins trees (codes "classorder") list × IsClassList list classes × (inner ≡ none)
-Fits trees (rule kind source target the_class permissions) inner = (targets last : Trees) × Begins trees (rule_word kind) (put_word source targets)
-    × IsTargetThen targets target last × IsClassAndPermissions last the_class permissions × (inner ≡ none)
+Fits trees (class_permission id) inner = Begins trees (codes "classpermission") (put_word id none) × (inner ≡ none)
+Fits trees (class_permission_set set the_class permissions) inner = (last : Trees) × Begins trees (codes "classpermissionset") (put_word set last)
+    × IsClassAndPermissions last the_class permissions × (inner ≡ none)
+Fits trees (rule kind source target permissions) inner = (targets last : Trees) × Begins trees (rule_word kind) (put_word source targets)
+    × IsTargetThen targets target last × ArePermissions last permissions × (inner ≡ none)
 
 -- the first words of statements
 abbrev pub keywords : List (List ℕ)
 keywords = codes "block" ∷ codes "optional" ∷ codes "type" ∷ codes "typealias" ∷ codes "typealiasactual" ∷ codes "typeattribute" ∷ codes "typeattributeset"
-    ∷ codes "common" ∷ codes "class" ∷ codes "classcommon" ∷ codes "classorder" ∷ codes "allow" ∷ codes "auditallow" ∷ codes "dontaudit" ∷ codes "neverallow" ∷ []
+    ∷ codes "common" ∷ codes "class" ∷ codes "classcommon" ∷ codes "classorder" ∷ codes "classpermission" ∷ codes "classpermissionset"
+    ∷ codes "allow" ∷ codes "auditallow" ∷ codes "dontaudit" ∷ codes "neverallow" ∷ []
 
 -- those of statements that no optional may hold
 abbrev pub outside_optionals : List (List ℕ)

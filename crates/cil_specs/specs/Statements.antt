@@ -15,6 +15,11 @@ pub data Target : Type 0 where
   itself : Target
   the_named : Word → Target
 
+-- a rule's permissions: an expression of those of a class, or a permission set by its name
+pub data ClassPermissions : Type 0 where
+  anonymous : Word → WordExpr → ClassPermissions
+  by_name : Word → ClassPermissions
+
 -- What a statement says, but for the statements inside a block or an optional.
 pub data Form : Type 0 where
   block : Word → Form
@@ -28,7 +33,9 @@ pub data Form : Type 0 where
   class : Word → List Word → Form
   class_common : Word → Word → Form
   class_order : List Word → Form
-  rule : RuleKind → Word → Target → Word → WordExpr → Form
+  class_permission : Word → Form
+  class_permission_set : Word → Word → WordExpr → Form
+  rule : RuleKind → Word → Target → ClassPermissions → Form
 
 -- Statements one after the other: none, or a first statement, with the place of its ( and what it says and the statements
 -- inside it, and the statements after it.
@@ -54,6 +61,11 @@ abbrev pub target_words : Target → List Word
 target_words itself = []
 target_words (the_named word) = word ∷ []
 
+-- the words of a class and of permissions of it, or of a permission set
+abbrev pub permission_words : ClassPermissions → List (Role × Word)
+permission_words (anonymous the_class permissions) = as_referred the_class ∷ map as_declared (leaves permissions)
+permission_words (by_name set) = as_referred set ∷ []
+
 -- the words in the place of a name, a reference or a permission, in the order of the text
 abbrev pub words_of : Form → List (Role × Word)
 words_of (block id) = as_declared id ∷ []
@@ -67,8 +79,9 @@ words_of (common id permissions) = as_declared id ∷ map as_declared permission
 words_of (class id permissions) = as_declared id ∷ map as_declared permissions
 words_of (class_common the_class the_common) = as_referred the_class ∷ as_referred the_common ∷ []
 words_of (class_order classes) = map as_referred classes
-words_of (rule kind source target the_class permissions) = as_referred source
-    ∷ (map as_referred (target_words target) ++ (as_referred the_class ∷ map as_declared (leaves permissions)))
+words_of (class_permission id) = as_declared id ∷ []
+words_of (class_permission_set set the_class permissions) = as_referred set ∷ permission_words (anonymous the_class permissions)
+words_of (rule kind source target permissions) = as_referred source ∷ (map as_referred (target_words target) ++ permission_words permissions)
 
 -- whether a statement is an optional
 abbrev pub is_optional : Form → Bool
@@ -83,7 +96,9 @@ is_optional (common id permissions) = false
 is_optional (class id permissions) = false
 is_optional (class_common the_class the_common) = false
 is_optional (class_order classes) = false
-is_optional (rule kind source target the_class permissions) = false
+is_optional (class_permission id) = false
+is_optional (class_permission_set set the_class permissions) = false
+is_optional (rule kind source target permissions) = false
 
 -- whether a statement may stand in no optional: a block, and what declares classes and commons or says more of them
 abbrev pub stands_apart : Form → Bool
@@ -98,7 +113,9 @@ stands_apart (common id permissions) = true
 stands_apart (class id permissions) = true
 stands_apart (class_common the_class the_common) = true
 stands_apart (class_order classes) = true
-stands_apart (rule kind source target the_class permissions) = false
+stands_apart (class_permission id) = false
+stands_apart (class_permission_set set the_class permissions) = false
+stands_apart (rule kind source target permissions) = false
 
 -- whether these do stand in no optional, where the statements do or don't stand in one
 abbrev pub are_apart : Bool → Statements → Bool

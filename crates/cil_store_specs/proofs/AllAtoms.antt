@@ -1,7 +1,8 @@
 -- The accesses of a policy can be listed.
 use Rattle.cil_store_specs.proofs.Common.{◌≡◌, ◌⊎◌, ◌==◌, ◌&&◌, inl, inr, ℕ, cond, Bool, true, false, List, [], ◌∷◌, filter, map, flat_map, bytes_eq, Contains, refl, sym, ap, ◌∙◌, subst, true≢false, arith, IsTotalOrder, list_any, IsStrictlySortedBy, is_lt, Ordering, Less, Equal, Greater, cases_Bool, eqb-true, CmpEqualImpliesEq, bytes_eq-Decides, Meaning, keeps_type, holds, aims, gives, is_in_table, AreAtoms, atom_cmp, contains-filtered, contains-left, contains-right, contains-append_cases, contains-cases, contains-first, contains-map, first_true, second_true, keep, skip, reversed, put_by}
-use Rattle.cil_specs.specs.Meaning.{has_permission}
-use Rattle.cil_specs.specs.Rule.{Rule, Atom, Element, ResolvedTarget, at_itself, at_element, kind_index}
+use Rattle.cil_specs.specs.Expr.{Expr}
+use Rattle.cil_specs.specs.Meaning.{class_permits, has_permission, permissions_permit}
+use Rattle.cil_specs.specs.Rule.{Rule, Atom, Element, ResolvedPermissions, of_class, of_set, ResolvedTarget, at_itself, at_element, kind_index}
 use Rattle.cil_specs.proofs.MeansLemmas.{contains-flat}
 use Rattle.cil_specs.proofs.OnceLemmas.{PassesAmong, passes-among}
 use Rattle.cil_specs.proofs.ReportLemmas.{atom_exact, atom_total, same-kind}
@@ -120,18 +121,41 @@ target-named meaning (at_element element) s t source aimed = source-named meanin
 abbrev permission_names : Meaning → List (List ℕ)
 permission_names meaning = flat_map (λ d. d.permissions) meaning.classes
 
+-- what a class has is one of them
 permission-named : (meaning : Meaning) (c p : List ℕ) → has_permission meaning c p ≡ true → Contains (permission_names meaning) p
 permission-named meaning c p has =
     let (d, there, both) = passing (λ d. bytes_eq c d.name && list_any (bytes_eq p) d.permissions) meaning.classes has in
     let (q, among, is) = passing (bytes_eq p) d.permissions (second_true (bytes_eq c d.name) (list_any (bytes_eq p) d.permissions) both) in
     contains-flat (λ d. d.permissions) meaning.classes d p there (subst (Contains d.permissions) (sym ((bytes_eq-Decides p q).0 is)) among)
 
--- those of a rule, with each type as source and as target, and with each permission
-abbrev of_permissions : Meaning → Rule → List ℕ → List ℕ → List Atom
-of_permissions meaning r s t = map (λ p. record { kind = r.kind; source = s; target = t; the_class = r.the_class; permission = p }) (permission_names meaning)
+-- the names of the classes
+abbrev class_names : Meaning → List (List ℕ)
+class_names meaning = map (λ d. d.name) meaning.classes
+
+class-named : (meaning : Meaning) (c p : List ℕ) → has_permission meaning c p ≡ true → Contains (class_names meaning) c
+class-named meaning c p has =
+    let (d, there, both) = passing (λ d. bytes_eq c d.name && list_any (bytes_eq p) d.permissions) meaning.classes has in
+    subst (Contains (class_names meaning)) (sym ((bytes_eq-Decides c d.name).0 (first_true (bytes_eq c d.name) (list_any (bytes_eq p) d.permissions) both))) (contains-map (λ d. d.name) meaning.classes d there)
+
+-- what permissions give, a class has
+class-had : (meaning : Meaning) (the_class : List ℕ) (permissions : Expr (List ℕ)) (c p : List ℕ) → class_permits meaning the_class permissions c p ≡ true → has_permission meaning c p ≡ true
+class-had meaning the_class permissions c p given = first_true (has_permission meaning c p) _ (second_true (bytes_eq the_class c) _ given)
+
+permitted-had : (meaning : Meaning) (permissions : ResolvedPermissions) (c p : List ℕ) → permissions_permit meaning permissions c p ≡ true → has_permission meaning c p ≡ true
+permitted-had meaning (of_class the_class permissions) c p given = class-had meaning the_class permissions c p given
+permitted-had meaning (of_set set) c p given =
+    let (s, there, both) = passing (λ s. bytes_eq set s.set && class_permits meaning s.the_class s.permissions c p) meaning.permission_sets given in
+    class-had meaning s.the_class s.permissions c p (second_true (bytes_eq set s.set) (class_permits meaning s.the_class s.permissions c p) both)
+
+-- those of a rule, with each type as source and as target, and with each class and each permission
+abbrev of_class_named : Meaning → Rule → List ℕ → List ℕ → List ℕ → List Atom
+of_class_named meaning r s t c = map (λ p. record { kind = r.kind; source = s; target = t; the_class = c; permission = p }) (permission_names meaning)
+
+abbrev of_classes : Meaning → Rule → List ℕ → List ℕ → List Atom
+of_classes meaning r s t = flat_map (of_class_named meaning r s t) (class_names meaning)
 
 abbrev of_targets : Meaning → Rule → List ℕ → List Atom
-of_targets meaning r s = flat_map (of_permissions meaning r s) (type_names meaning)
+of_targets meaning r s = flat_map (of_classes meaning r s) (type_names meaning)
 
 abbrev of_rule : Meaning → Rule → List Atom
 of_rule meaning r = flat_map (of_targets meaning r) (type_names meaning)
@@ -146,18 +170,18 @@ among-rule meaning r a given =
     let held = first_true (holds meaning r.source a.source) _ covered in
     let rest = second_true (holds meaning r.source a.source) _ covered in
     let aimed = first_true (aims meaning r.target a.source a.target) _ rest in
-    let head = second_true (aims meaning r.target a.source a.target) _ rest in
-    let class = (bytes_eq-Decides r.the_class a.the_class).0 (first_true (bytes_eq r.the_class a.the_class) _ head) in
-    let permitted = second_true (bytes_eq r.the_class a.the_class) _ head in
-    let permission = permission-named meaning a.the_class a.permission (first_true (has_permission meaning a.the_class a.permission) _ permitted) in
+    let had = permitted-had meaning r.permissions a.the_class a.permission (second_true (aims meaning r.target a.source a.target) _ rest) in
+    let class = class-named meaning a.the_class a.permission had in
+    let permission = permission-named meaning a.the_class a.permission had in
     let source = source-named meaning r.source a.source held in
     let target = target-named meaning r.target a.source a.target source aimed in
     let same = same-kind r.kind a.kind (eqb-true (kind_index r.kind) (kind_index a.kind) kind) in
-    let one : Contains (of_permissions meaning r a.source a.target) (record { kind = r.kind; source = a.source; target = a.target; the_class = r.the_class; permission = a.permission }) =
+    let one : Contains (of_class_named meaning r a.source a.target a.the_class) (record { kind = r.kind; source = a.source; target = a.target; the_class = a.the_class; permission = a.permission }) =
     contains-map _ (permission_names meaning) a.permission permission in
-    let whole : Contains (of_permissions meaning r a.source a.target) a =
-    subst (Contains (of_permissions meaning r a.source a.target)) (λ i. record { kind = same i; source = a.source; target = a.target; the_class = class i; permission = a.permission }) one in
-    contains-flat (of_targets meaning r) (type_names meaning) a.source a source (contains-flat (of_permissions meaning r a.source) (type_names meaning) a.target a target whole)
+    let whole : Contains (of_class_named meaning r a.source a.target a.the_class) a =
+    subst (Contains (of_class_named meaning r a.source a.target a.the_class)) (λ i. record { kind = same i; source = a.source; target = a.target; the_class = a.the_class; permission = a.permission }) one in
+    contains-flat (of_targets meaning r) (type_names meaning) a.source a source
+    (contains-flat (of_classes meaning r a.source) (type_names meaning) a.target a target (contains-flat (of_class_named meaning r a.source a.target) (class_names meaning) a.the_class a class whole))
 
 among-candidates : (meaning : Meaning) (a : Atom) → is_in_table meaning a ≡ true → Contains (candidates meaning) a
 among-candidates meaning a is =

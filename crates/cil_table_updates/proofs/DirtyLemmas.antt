@@ -2,7 +2,7 @@
 use Rattle.cil_table_updates.proofs.Common.{◌≡◌, ◌≢◌, ◌⊎◌, ℕ, ◌+◌, ◌<◌, ◌==◌, ◌&&◌, Bool, true, false, List, [], ◌++◌, get_or, length, map, nat_lt, not, slice_get, Option, None, Some, Result, Ok, Err, OnOk, refl, sym, ap, ◌∙◌, subst, inl, inr, arith, true≢false, All, AllPairs, Contains, cases_Bool, cases_eq, eq-eqb, lt-ltb, ltb-true, ne_eqb, length-append, length-map, All-append, All-contains, All-map, Contains-append_left, Contains-append_right, Contains-get_or, none-some, same_Some, slice_get-get_or, slice_get_read, slice_get_within, below, RisesBy, across, alone, sum_below, across-none, across-some, alone-none, alone-some, sum-differs, sum-zero, gives, Meaning, a_type, at_itself, kind_index, Atom, IsSameRule, Rule, SymbolKey, is_rule_below, is_rule_of, rule_of, meaning_in, NumberedRule, atom_of, is_named, name_at, members_of, covers-named, covers-none, differs, one_if, goes, turns, AdjustsAtLeast, AdjustsAtMost, Counter, given, gives_by, AreApart, HasSoundRules, IsPolicy, Policy}
 use Rattle.cil_sums.proofs.PairLemmas.{at-most-all, from-mapped as from-map, mapped, pairs-append, pairs-map}
 use Rattle.std.proofs.lemmas.Option.{get_or_from_slice_get}
-use Rattle.cil_specs.specs.Expr.{nothing}
+use Rattle.cil_specs.specs.Rule.{of_set}
 use Rattle.cil_specs.specs.Statements.{allow}
 use Rattle.cil_delta_specs.specs.Dirty.{HasGiver, OnlyOne}
 use Rattle.cil_keyed_lines.proofs.KeyedLemmas.{one_kind}
@@ -11,7 +11,7 @@ use Rattle.cil_matching.specs.Spot as spots
 use Rattle.cil_matching.specs.Spot.{rule_spot}
 use Rattle.cil_matching.proofs.MatchedLemmas.{from-mapped, to-mapped}
 use Rattle.cil_table_updates.proofs.AdjustedLemmas.{and-both, counted-other, counted-some}
-use Rattle.cil_table_updates.proofs.GivenLemmas.{given-rule}
+use Rattle.cil_table_updates.proofs.GivenLemmas.{and-first, given-rule}
 use Rattle.cil_table_updates.proofs.PlaceLemmas.{passes-at}
 
 -- what follows where there is no error, from two facts
@@ -29,8 +29,7 @@ nowhere = record {
   kind = allow;
   source = a_type [];
   target = at_itself;
-  the_class = [];
-  permissions = nothing;
+  permissions = of_set [];
 }
 
 module _ (rules : List Rule) where
@@ -112,7 +111,7 @@ module _ (names : List (List ℕ)) (apart : AreApart names) where
     by-names : (c : Counter) (i : ℕ) (rule : NumberedRule A) → slice_get p.resolved.now.rules.items i ≡ Some rule → gives_by p c.key c.target rule ≡ (named c && gives meaning (named-rule rule) (atom c))
     by-names c i rule at =
         let below_it = passes-at (is_rule_below (length p.resolved.now.names.items)) p.resolved.now.rules.items i rule sound.below at in
-        let declared_it = passes-at (is_rule_of meaning.types meaning.attributes meaning.classes) meaning.rules i (named-rule rule) sound.consistent (to-mapped named-rule p.resolved.now.rules.items i rule at) in
+        let declared_it = passes-at (is_rule_of meaning.types meaning.attributes meaning.classes) meaning.rules i (named-rule rule) (and-first _ _ sound.consistent) (to-mapped named-rule p.resolved.now.rules.items i rule at) in
         let within = slice_get_within p.resolved.now.rules.items i rule at in
         let permitted_it = sound.permitted rule (i, within, get_or_from_slice_get p.resolved.now.rules.items i rule rule at) in
         elim (cases_Bool (named c)) [

@@ -86,7 +86,7 @@ module _ {A : Type 0} (names : List (List ℕ)) (apart : AreApart names) (r : Re
       → count_by covers_it r.rules.items ≡ count_named names (meaning_in r) key t
   counted-named below consistent permitted =
       elim (cases_Bool (is_named names key t)) [
-        | inl named ↦ named-counts named r.rules.items below consistent permitted ∙ sym (ap (λ b. cond b (count_of (meaning_in r) (atom_of names key t)) 0) named)
+        | inl named ↦ named-counts named r.rules.items below (and-first _ _ consistent) permitted ∙ sym (ap (λ b. cond b (count_of (meaning_in r) (atom_of names key t)) 0) named)
         | inr unnamed ↦ unnamed-counts unnamed r.rules.items below ∙ sym (ap (λ b. cond b (count_of (meaning_in r) (atom_of names key t)) 0) unnamed)
       ]
 

@@ -5,6 +5,7 @@ pub mod ChangedLemmas
 pub mod MoveLemmas
 pub mod AdjustedLemmas
 pub mod SameLemmas
+pub mod StayingLemmas
 pub mod UpdateLemmas
 pub mod DirtyLemmas
 pub mod LoadLemmas

@@ -18,11 +18,12 @@ module _ {B : Type 0} (kind : RuleKind) (reach : Reach B) (permits : List Permit
   -- what a rule of the kind reaches and permits it covers
   pub gives-covered : {A : Type 0} (members : ℕ → ℕ → ℕ) (symbols : List ℕ) (rule : NumberedRule A) → kind ≡ rule.kind
       → ((s : ℕ) → has_source reach s ≡ has_by members symbols rule.source s) → ((s t : ℕ) → takes reach.targets s t ≡ aims_by members symbols rule.target s t)
-      → ((c p : ℕ) → has_permit permits c p ≡ permits_by symbols rule c p) → (key : SymbolKey) (t : ℕ) → granted kind reach permits key t ≡ covers_by members symbols rule key t
+      → ((s t c p : ℕ) → (reaches reach s t && has_permit permits c p) ≡ (reaches reach s t && permits_by symbols rule c p)) → (key : SymbolKey) (t : ℕ) → granted kind reach permits key t ≡ covers_by members symbols rule key t
   unfolding covers_by
   gives-covered members symbols rule same sources targets permitted key t =
       and-front (reaches reach key.source t) (is_kind kind key.kind) (has_permit permits key.class key.permission)
-      ∙ λ i. is_kind (same i) key.kind && ((sources key.source i && targets key.source t i) && permitted key.class key.permission i)
+      ∙ ap (λ b. is_kind kind key.kind && b) (permitted key.source t key.class key.permission)
+      ∙ λ i. is_kind (same i) key.kind && ((sources key.source i && targets key.source t i) && permits_by symbols rule key.class key.permission)
 
 -- a rule that is passed over gives what it did
 module _ {A : Type 0} (rows : State) (old : Policy A) (i : ℕ) (new : Policy A) (j : ℕ) (replaced : IsReplaced rows old i new j) where

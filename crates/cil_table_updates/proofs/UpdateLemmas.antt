@@ -30,6 +30,7 @@ module _ {A : Type 0} (names : List (List ℕ)) (apart : AreApart names) (rows :
         same-reach r s names apart old.numbering.now.symbols new.numbering.now.symbols old_is.numbers new_is.numbers one.0 other.0 one_low other_below same (members_of old.members) source t
         ∙ ap (λ members. reaches_by members new.numbering.now.symbols other.0 source t) before;
     reaches = λ source t. ap (λ members. reaches_by members new.numbering.now.symbols other.0 source t) now;
+    written = ap (λ (content : spec.RuleContent). content.permissions) same;
     permits = same-permits r s names apart old.numbering.now.symbols new.numbering.now.symbols old_is.numbers new_is.numbers one.0 other.0 one_low other_below same one_no_list;
   }
     where

@@ -10,4 +10,5 @@ pub use Rattle.cil_sums.specs.Rises.{below}
 pub use Rattle.cil_table_updates.specs.Adjusted.{Adjusts, AdjustsAtLeast, AdjustsAtMost, comes, gives_it, goes, replaces, shifts, swaps, turns}
 pub use Rattle.cil_table_updates.specs.Given.{all_given, all_gone, all_stayed, given_by, given_there, gone_there, rules_in, stayed_there}
 pub use Rattle.cil_table_updates.specs.Moves.{AreReplaced, IsKnown, IsReady, IsReplaced, IsRuleOf, PermitTheSame, is_plain_list}
+pub use Rattle.cil_table_updates.specs.Staying.{AreAlike, AreMatchedAlike, AreStaying, PermitsAlike, answer_at}
 pub use Rattle.cil_table_updates.specs.Policies.{AreApart, AreCountsOf, HasSoundRules, HasSymbols, IsPolicy, count_named}

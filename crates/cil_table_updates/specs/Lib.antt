@@ -4,3 +4,4 @@ pub mod Given
 pub mod Moves
 pub mod Adjusted
 pub mod Changed
+pub mod Staying

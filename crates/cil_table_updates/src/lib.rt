@@ -6,7 +6,9 @@ mod loading;
 mod moves;
 mod passes;
 mod policy;
+mod same_permits;
 mod staying;
+mod staying_sets;
 mod updating;
 
 pub use loading::load;

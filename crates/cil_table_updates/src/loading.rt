@@ -8,7 +8,7 @@ ghost use Rattle.cil_specs.specs.Meaning.{Meaning};
 use crate::policy::{Named, Policy, Shared};
 use cil_keyed_lines::{KeyedLines, SymbolKey};
 use cil_resolve::{Meter, NumberedRule, resolved_rules_are_in_order};
-use cil_rule_reach::{When, rule_permits, rule_reach};
+use cil_rule_reach::{When, reached_permits, rule_reach};
 use cil_rule_shifts::{Grant, put_rule};
 use std::alloc::{AllocError, Allocator};
 
@@ -30,7 +30,7 @@ fn add_rule<A: Allocator + Copy>(
     ensures evaluations { evaluations_in meter.new ≡ evaluations_in meter.old }
 {
     let reach = rule_reach(alloc, &policy.members, policy.numbering, rule)?;
-    let permits = rule_permits(alloc, policy.numbering, rule)?;
+    let permits = reached_permits(alloc, policy.numbering, rule, &reach)?;
     let is = Grant {
         reach: &reach,
         permits: &permits,

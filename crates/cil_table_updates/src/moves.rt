@@ -6,7 +6,7 @@ ghost use Rattle.cil_table_updates.specs.Common.{evaluations_in, IsGrant, grants
 use crate::policy::Policy;
 use cil_keyed_lines::KeyedLines;
 use cil_resolve::{Meter, NumberedRule};
-use cil_rule_reach::{rule_permits, rule_reach};
+use cil_rule_reach::{reached_permits, rule_reach};
 use cil_rule_shifts::{Grant, Reach, shift_rule};
 use cil_text::RuleKind;
 use std::alloc::{AllocError, Allocator, Global};
@@ -69,7 +69,7 @@ pub fn take_rule<A: Allocator + Copy>(
     ensures evaluations { evaluations_in meter.new ≡ evaluations_in meter.old }
 {
     let reach = rule_reach(alloc, &policy.members, policy.numbering, rule)?;
-    let permits = rule_permits(alloc, policy.numbering, rule)?;
+    let permits = reached_permits(alloc, policy.numbering, rule, &reach)?;
     let none = Reach::none(alloc);
     let was = Grant {
         reach: &reach,
@@ -99,7 +99,7 @@ pub fn put_rule<A: Allocator + Copy>(
     ensures evaluations { evaluations_in meter.new ≡ evaluations_in meter.old }
 {
     let reach = rule_reach(alloc, &policy.members, policy.numbering, rule)?;
-    let permits = rule_permits(alloc, policy.numbering, rule)?;
+    let permits = reached_permits(alloc, policy.numbering, rule, &reach)?;
     let none = Reach::none(alloc);
     let was = Grant {
         reach: &none,
@@ -138,8 +138,8 @@ pub fn replace_rule<A: Allocator + Copy>(
 {
     let reached = rule_reach(alloc, &old.policy.members, old.policy.numbering, old.rule)?;
     let reaches = rule_reach(alloc, &new.policy.members, new.policy.numbering, new.rule)?;
-    let had = rule_permits(alloc, old.policy.numbering, old.rule)?;
-    let has = rule_permits(alloc, new.policy.numbering, new.rule)?;
+    let had = reached_permits(alloc, old.policy.numbering, old.rule, &reached)?;
+    let has = reached_permits(alloc, new.policy.numbering, new.rule, &reaches)?;
     let was = Grant {
         reach: &reached,
         permits: &had,

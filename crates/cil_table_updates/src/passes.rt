@@ -1,24 +1,27 @@
 //! Rules taken out, put in and replaced, one by one.
 
 ghost use Rattle.std.specs.Prelude.{◌≡◌, ◌<◌, OnOk};
-ghost use Rattle.cil_table_updates.specs.Common.{evaluations_in, below, AreLowered, AreMoved, CountAtLeast, NoneRises, RiseAtMost, StaysBefore, Adjusts, goes, swaps, turns, all_given, all_gone, all_stayed, given_there, gone_there, rules_in, stayed_there, AreReplaced, IsReady, IsReplaced};
+ghost use Rattle.cil_table_updates.specs.Common.{evaluations_in, below, AreLowered, AreMoved, CountAtLeast, NoneRises, RiseAtMost, StaysBefore, Adjusts, goes, swaps, turns, all_given, all_gone, all_stayed, given_there, gone_there, rules_in, stayed_there, AreReplaced, AreStaying, IsReady, IsReplaced};
 
 use crate::changed_rows::ChangedRows;
 use crate::moves::{PolicyRule, put_rule, replace_rule, take_rule};
 use crate::policy::Policy;
 use crate::staying::rule_stays;
+use crate::staying_sets::StayingSets;
 use cil_keyed_lines::KeyedLines;
 use cil_matching::RuleMatching;
 use cil_resolve::Meter;
 use std::alloc::{AllocError, Allocator, Global};
 
-/// Two policies with their rules matched, and the rows whose members changed.
+/// Two policies with their rules matched, the rows whose members changed, and what is known of the
+/// permission sets.
 #[derive(Clone, Copy)]
 pub struct Update<'p, A: Allocator = Global> {
     pub old: &'p Policy<'p, A>,
     pub new: &'p Policy<'p, A>,
     pub matching: &'p RuleMatching<A>,
     pub changed: &'p ChangedRows<'p, A>,
+    pub sets: &'p StayingSets<A>,
 }
 
 /// A rule that both policies have, by its places.
@@ -98,6 +101,8 @@ fn replace_changed<A: Allocator + Copy>(
     requires new_ready { IsReady stayed.now.update.now.new.now }
     requires replaced { IsReplaced stayed.now.update.now.changed.now
         stayed.now.update.now.old.now stayed.now.i stayed.now.update.now.new.now stayed.now.j }
+    requires staying { AreStaying stayed.now.update.now.old.now stayed.now.update.now.new.now
+        stayed.now.update.now.sets.now }
     requires counted { CountAtLeast lines.old
         (given_there stayed.now.update.now.old.now stayed.now.i) }
     ensures now { OnOk result (AreMoved lines.old lines.new
@@ -122,7 +127,7 @@ fn replace_changed<A: Allocator + Copy>(
         policy: new,
         rule: &new.resolved.rules()[j],
     };
-    let stays = rule_stays(alloc, stayed.update.changed, &was, &is)?;
+    let stays = rule_stays(alloc, stayed.update.changed, stayed.update.sets, &was, &is)?;
     if stays {
         return Ok(());
     }
@@ -142,6 +147,7 @@ fn put_or_replace<A: Allocator + Copy>(
     requires within { j < rules_in update.now.new.now }
     requires matched { AreReplaced update.now.changed.now
         update.now.old.now update.now.new.now update.now.matching.now }
+    requires staying { AreStaying update.now.old.now update.now.new.now update.now.sets.now }
     requires counted { CountAtLeast lines.old
         (stayed_there update.now.old.now update.now.matching.now j) }
     ensures now { OnOk result (AreMoved lines.old lines.new
@@ -178,6 +184,7 @@ pub fn put_new<A: Allocator + Copy>(
     requires new_ready { IsReady update.now.new.now }
     requires matched { AreReplaced update.now.changed.now
         update.now.old.now update.now.new.now update.now.matching.now }
+    requires staying { AreStaying update.now.old.now update.now.new.now update.now.sets.now }
     requires counted { CountAtLeast lines.old
         (all_stayed update.now.old.now update.now.new.now update.now.matching.now) }
     ensures now { OnOk result (AreMoved lines.old lines.new

@@ -2,33 +2,42 @@
 
 ghost use Rattle.std.specs.Prelude.{◌≡◌, true, IfOk};
 ghost use Rattle.cil_table_updates.specs.Changed.{StaysReach};
-ghost use Rattle.cil_table_updates.specs.Common.{is_plain_list, IsRuleOf, PermitTheSame};
+ghost use Rattle.cil_table_updates.specs.Common.{is_plain_list, AreAlike, AreStaying, IsRuleOf, PermitTheSame};
 
 use crate::changed_rows::ChangedRows;
 use crate::moves::PolicyRule;
-use cil_rule_reach::rule_permits;
+use crate::same_permits::same_permits;
+use crate::staying_sets::StayingSets;
+use cil_resolve::ResolvedPermissions;
 use std::alloc::{AllocError, Allocator};
 
 /// Whether a rule of the new policy permits what the same one of the old policy did. A plain list
-/// names what it permits; of another expression the permits of both are compared.
+/// names what it permits; of a permission set the answer is known; of another expression the
+/// permits of both are compared.
 fn permits_stay<A: Allocator + Copy>(
     alloc: A,
+    sets: &StayingSets<A>,
     old: &PolicyRule<'_, A>,
     new: &PolicyRule<'_, A>,
 ) -> Result<bool, AllocError>
     requires old_below { IsRuleOf old.now.policy.now old.now.rule.now }
     requires new_below { IsRuleOf new.now.policy.now new.now.rule.now }
+    requires alike { AreAlike old.now new.now }
     requires plain { is_plain_list new.now.rule.now ≡ true → PermitTheSame
         old.now.policy.now old.now.rule.now new.now.policy.now new.now.rule.now }
+    requires staying { AreStaying old.now.policy.now new.now.policy.now sets.now }
     ensures { IfOk result (λ same. same ≡ true → PermitTheSame
         old.now.policy.now old.now.rule.now new.now.policy.now new.now.rule.now) }
 {
-    if new.rule.written.is_none() {
-        return Ok(true);
+    match &new.rule.permissions {
+        ResolvedPermissions::OfSet(of) => Ok(sets.stays(of.set)),
+        ResolvedPermissions::OfClass(of) => {
+            if of.written.is_none() {
+                return Ok(true);
+            }
+            same_permits(alloc, old, new)
+        }
     }
-    let had = rule_permits(alloc, old.policy.numbering, old.rule)?;
-    let has = rule_permits(alloc, new.policy.numbering, new.rule)?;
-    Ok(had.as_slice() == has.as_slice())
 }
 
 /// Whether a rule of the new policy gives what the same one of the old policy did. No is the answer
@@ -36,20 +45,23 @@ fn permits_stay<A: Allocator + Copy>(
 pub fn rule_stays<A: Allocator + Copy>(
     alloc: A,
     changed: &ChangedRows<'_, A>,
+    sets: &StayingSets<A>,
     old: &PolicyRule<'_, A>,
     new: &PolicyRule<'_, A>,
 ) -> Result<bool, AllocError>
     requires old_below { IsRuleOf old.now.policy.now old.now.rule.now }
     requires new_below { IsRuleOf new.now.policy.now new.now.rule.now }
+    requires alike { AreAlike old.now new.now }
     requires plain { is_plain_list new.now.rule.now ≡ true → PermitTheSame
         old.now.policy.now old.now.rule.now new.now.policy.now new.now.rule.now }
+    requires staying { AreStaying old.now.policy.now new.now.policy.now sets.now }
     ensures reach { IfOk result (λ stays. stays ≡ true
         → StaysReach changed.now new.now.policy.now.numbering.now.symbols new.now.rule.now) }
     ensures permits { IfOk result (λ stays. stays ≡ true → PermitTheSame
         old.now.policy.now old.now.rule.now new.now.policy.now new.now.rule.now) }
 {
     if changed.reach_stays(new.policy.numbering, new.rule) {
-        permits_stay(alloc, old, new)
+        permits_stay(alloc, sets, old, new)
     } else {
         Ok(false)
     }

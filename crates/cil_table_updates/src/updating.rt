@@ -7,6 +7,7 @@ ghost use Rattle.cil_member_rows.specs.Rows as members;
 use crate::changed_rows::ChangedRows;
 use crate::passes::{Update, put_new, take_gone};
 use crate::policy::{Policies, Policy, Shared};
+use crate::staying_sets::StayingSets;
 use cil_keyed_lines::{KeyedLines, SymbolKey};
 use cil_matching::RuleMatching;
 use cil_resolve::{Meter, resolved_rules_are_in_order};
@@ -53,11 +54,13 @@ pub fn update<A: Allocator + Copy>(
     resolved_rules_are_in_order(new.resolved);
     let matching = RuleMatching::of(alloc, old.resolved, new.resolved)?;
     let changed = ChangedRows::of(alloc, shared.rows, shared.names.len())?;
+    let sets = StayingSets::of(alloc, &old, &new, &matching)?;
     let update = Update {
         old: &old,
         new: &new,
         matching: &matching,
         changed: &changed,
+        sets: &sets,
     };
     take_gone(lines, alloc, &update, meter)?;
     put_new(lines, alloc, &update, meter)

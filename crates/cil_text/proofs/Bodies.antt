@@ -1,9 +1,9 @@
 -- The statements inside a statement.
-use Rattle.cil_text.proofs.Common.{◌≡◌, false, Vec, refl, sym, ap, ◌∙◌, Trees, Statements, statement, tree_then, statement_then, form_of, at_of, has_body, behind, body_of, Place, Tree, Statement, Statement-F, out-Statement, roll-Statement, roll-out-Statement, Block', Optional', TypeName, TypeAlias, TypeAliasActual, TypeAttribute, TypeAttributeSet, Common, Class, ClassCommon, ClassOrder, Rule}
+use Rattle.cil_text.proofs.Common.{◌≡◌, false, Vec, refl, sym, ap, ◌∙◌, Trees, Statements, statement, tree_then, statement_then, form_of, at_of, has_body, behind, body_of, Place, Tree, Statement, Statement-F, out-Statement, roll-Statement, roll-out-Statement, Block', Optional', TypeName, TypeAlias, TypeAliasActual, TypeAttribute, TypeAttributeSet, Common, Class, ClassCommon, ClassOrder, ClassPermission, ClassPermissionSet, Rule}
 use Rattle.cil_text.specs.declared.word.Word as words
 use Rattle.cil_text.specs.declared.tree.Tree.TheVariants.{Word, String, List as Listed}
 use Rattle.cil_text.specs.declared.statement.Statement.TheOpen as opened
-use Rattle.cil_text.specs.declared.statement.Statement.TheVariants.{Block, Optional, rolls-Block, rolls-Optional, rolls-TypeName, rolls-TypeAlias, rolls-TypeAliasActual, rolls-TypeAttribute, rolls-TypeAttributeSet, rolls-Common, rolls-Class, rolls-ClassCommon, rolls-ClassOrder, rolls-Rule}
+use Rattle.cil_text.specs.declared.statement.Statement.TheVariants.{Block, Optional, rolls-Block, rolls-Optional, rolls-TypeName, rolls-TypeAlias, rolls-TypeAliasActual, rolls-TypeAttribute, rolls-TypeAttributeSet, rolls-Common, rolls-Class, rolls-ClassCommon, rolls-ClassOrder, rolls-ClassPermission, rolls-ClassPermissionSet, rolls-Rule}
 
 -- the trees behind the first
 pub behind_first : (t : Tree) (rest : Trees) → behind (tree_then t rest) ≡ rest
@@ -24,7 +24,9 @@ leaf_then (Common at id permissions) body more leaf = refl
 leaf_then (Class at id permissions) body more leaf = refl
 leaf_then (ClassCommon at the_class the_common) body more leaf = refl
 leaf_then (ClassOrder at the_classes) body more leaf = refl
-leaf_then (Rule at kind source target the_class permissions) body more leaf = refl
+leaf_then (ClassPermission at id) body more leaf = refl
+leaf_then (ClassPermissionSet at set the_class permissions) body more leaf = refl
+leaf_then (Rule at kind source target permissions) body more leaf = refl
 
 -- a statement that is neither a block nor an optional may have none inside it
 pub leaf_form : {A : Type 0} → (s : Statement A) → ((at : Place) (id : words.Word) (v : Vec (Statement A) A) → s ≡ Block at id v → ⊥) → ((at : Place) (id : words.Word) (v : Vec (Statement A) A) → s ≡ Optional at id v → ⊥) → has_body (form_of s) ≡ false
@@ -42,4 +44,6 @@ leaf_form {A} s no_block no_optional = by (out-Statement A s) (sym (roll-out-Sta
     by (opened.Class at id permissions) is = ap (λ s. has_body (form_of s)) (is ∙ rolls-Class at id permissions)
     by (opened.ClassCommon at the_class the_common) is = ap (λ s. has_body (form_of s)) (is ∙ rolls-ClassCommon at the_class the_common)
     by (opened.ClassOrder at the_classes) is = ap (λ s. has_body (form_of s)) (is ∙ rolls-ClassOrder at the_classes)
-    by (opened.Rule at kind source target the_class permissions) is = ap (λ s. has_body (form_of s)) (is ∙ rolls-Rule at kind source target the_class permissions)
+    by (opened.ClassPermission at id) is = ap (λ s. has_body (form_of s)) (is ∙ rolls-ClassPermission at id)
+    by (opened.ClassPermissionSet at set the_class permissions) is = ap (λ s. has_body (form_of s)) (is ∙ rolls-ClassPermissionSet at set the_class permissions)
+    by (opened.Rule at kind source target permissions) is = ap (λ s. has_body (form_of s)) (is ∙ rolls-Rule at kind source target permissions)

@@ -13,13 +13,13 @@ pub use Rattle.cil_specs.specs.Names.{Role, begins_name, components, declared, i
 pub use Rattle.cil_specs.specs.Parts.{EndsBefore, IsClean, IsPart, Moves, Part, closing, comment, opening, spelling, string, word}
 pub use Rattle.cil_specs.specs.Place.{is_line_feed, place_at}
 pub use Rattle.cil_specs.specs.Reading.{IsReadingFault, IsUnclosed, Stops}
-pub use Rattle.cil_specs.specs.Shape.{Fits, IsAllowed, IsAtWord, IsClassAndPermissions, IsExpressionList, IsFirstShapeFault, IsInnerFault, IsShapeFault, IsTargetThen, IsWordFault, IsWordList, Shapes, all_words, in_optional, is_among, keywords, no_fit, no_keyword, no_name, outside_optionals, put_word}
-pub use Rattle.cil_specs.specs.Statements.{Form, RuleKind, Statements, Target, as_declared, as_referred, block, is_optional, itself, no_more, optional, rule, rule_word, statement, statement_offsets, target_words, the_named, words_of}
+pub use Rattle.cil_specs.specs.Shape.{ArePermissions, Fits, IsAllowed, IsAtWord, IsClassAndPermissions, IsExpressionList, IsFirstShapeFault, IsInnerFault, IsShapeFault, IsTargetThen, IsWordFault, IsWordList, Shapes, all_words, in_optional, is_among, keywords, no_fit, no_keyword, no_name, outside_optionals, put_word}
+pub use Rattle.cil_specs.specs.Statements.{ClassPermissions, Form, RuleKind, Statements, Target, anonymous, as_declared, as_referred, block, by_name, class_permission_set, is_optional, itself, no_more, optional, permission_words, rule, rule_word, statement, statement_offsets, target_words, the_named, words_of}
 pub use Rattle.cil_specs.specs.TextFault.{IsNoLater, TextFault, TextFaultKind, bad_name, bare_word, code_of, misshapen, not_in_optional, reserved, unclosed, unsupported}
 pub use Rattle.cil_specs.specs.Trees.{Mark, Reads, Trees, a_list, a_string, a_word, are_lists, closing_before, in_order, marks, none, opening_at, string_at, told, word_at}
 pub use Rattle.cil_text.specs.Expr.{AreExpressionList, BeginsOperation, SpellsElements, SpellsExpr, SpellsOne, SpellsOperation, SpellsTwo, exprs_of, operator_word}
-pub use Rattle.cil_text.specs.Form.{AreClassAndPermissions, AreClasses, FitsAs, HasBody, at_of, behind, body_of, form_of, has_body, inner_of}
-pub use Rattle.cil_text.specs.Image.{FaultIs, IsMemory, expr_of, kind_of, place_of, row_expr, row_statements, rule_kind_of, shown, statement_then, statements_of, target_of, tree_then, trees_in, trees_of, trees_upto, word_of}
+pub use Rattle.cil_text.specs.Form.{AreClassAndPermissions, AreClasses, ArePermissionsOf, FitsAs, HasBody, at_of, behind, body_of, form_of, has_body, inner_of}
+pub use Rattle.cil_text.specs.Image.{FaultIs, IsMemory, expr_of, kind_of, permissions_of, place_of, row_expr, row_statements, rule_kind_of, shown, statement_then, statements_of, target_of, tree_then, trees_in, trees_of, trees_upto, word_of}
 pub use Rattle.cil_text.specs.Name.{role_of, without_dot}
 pub use Rattle.cil_text.specs.Reader.{AreWhole, GoesOver, HasRead, HaveMarks, IsPlaced, IsRead, IsStopped, open_lists}
 pub use Rattle.cil_text.specs.Split.{AreWordAndList, AreWordList}
@@ -30,7 +30,7 @@ pub use Rattle.cil_text.specs.declared.place.Place.{Place}
 pub use Rattle.cil_text.specs.declared.reader.Open.{Open}
 pub use Rattle.cil_text.specs.declared.reader.Reader.{Reader}
 pub use Rattle.cil_text.specs.declared.statement.Expr.{Expr, Row_of-Expr, end_of-Expr, more_of-Expr}
-pub use Rattle.cil_text.specs.declared.statement.Statement.{Block', Class, ClassCommon, ClassOrder, Common, Optional', Row_of-Statement, Rule, Statement, Statement-F, TypeAlias, TypeAliasActual, TypeAttribute, TypeAttributeSet, TypeName, end_of-Statement, more_of-Statement, out-Statement, roll-Statement, roll-out-Statement}
+pub use Rattle.cil_text.specs.declared.statement.Statement.{Block', Class, ClassCommon, ClassOrder, ClassPermission, ClassPermissionSet, Common, Optional', Row_of-Statement, Rule, Statement, Statement-F, TypeAlias, TypeAliasActual, TypeAttribute, TypeAttributeSet, TypeName, end_of-Statement, more_of-Statement, out-Statement, roll-Statement, roll-out-Statement}
 pub use Rattle.cil_text.specs.declared.tree.Tree.{Tree}
 pub use Rattle.cil_text.specs.declared.word.Word.{Word}
 pub use Rattle.std.proofs.Common.{Bool, Bor, Contains, Err, IfErr, IsErrAnd, IsTrue, List, MatchOption, None, Ok, Option, Result, Some, Vec, [], add-one, add-zero, ap, append-nil, append_assoc, arith, bytes_eq, codes, cond, drop, false, get_or, get_or-drop, if◌then◌else◌, inl, inr, length, length-append, length-drop, map, max, nat_le, not, option_map, refl, reverse, rules, subst, suc, sym, take, tests, true, zero, ℕ, ◌&&◌, ◌*◌, ◌++◌, ◌+◌, ◌-◌, ◌<◌, ◌==◌, ◌||◌, ◌∙◌, ◌∷◌, ◌≡◌, ◌≢◌, ◌≤◌, ◌⊎◌}

@@ -5,14 +5,15 @@ use Rattle.cil_specs.specs.Names as spec_names
 use Rattle.cil_specs.specs.Trees.{Trees, none, a_word, a_string, a_list}
 use Rattle.cil_specs.specs.Expr as spec_exprs
 use Rattle.cil_specs.specs.Expr.{Expresses}
-use Rattle.cil_specs.specs.Statements.{Form, block, optional, type_name, type_alias, alias_actual, type_attribute, attribute_set, common, class, class_common, class_order, rule, Statements, no_more, statement}
-use Rattle.cil_specs.specs.Shape.{put_word, IsClassList, IsClassAndPermissions, Fits}
-use Rattle.cil_text.specs.Image.{place_of, word_of, expr_of, rule_kind_of, target_of, statement_then, statements_of}
+use Rattle.cil_specs.specs.Statements.{Form, block, optional, type_name, type_alias, alias_actual, type_attribute, attribute_set, common, class, class_common, class_order, class_permission, class_permission_set, rule, ClassPermissions, Statements, no_more, statement}
+use Rattle.cil_specs.specs.Shape.{put_word, IsClassList, IsClassAndPermissions, ArePermissions, Fits}
+use Rattle.cil_text.specs.Image.{place_of, word_of, expr_of, rule_kind_of, target_of, permissions_of, statement_then, statements_of}
 use Rattle.cil_text.specs.Keyword.{spelling}
 use Rattle.cil_text.specs.declared.keyword.Keyword.{Keyword}
 use Rattle.cil_text.specs.declared.word.Word.{Word}
 use Rattle.cil_text.specs.declared.statement.Expr.{Expr}
-use Rattle.cil_text.specs.declared.statement.Statement.{Statement, Block', Optional', TypeName, TypeAlias, TypeAliasActual, TypeAttribute, TypeAttributeSet, Common, Class, ClassCommon, ClassOrder, Rule}
+use Rattle.cil_text.specs.declared.statement.ClassPermissions as code
+use Rattle.cil_text.specs.declared.statement.Statement.{Statement, Block', Optional', TypeName, TypeAlias, TypeAliasActual, TypeAttribute, TypeAttributeSet, Common, Class, ClassCommon, ClassOrder, ClassPermission, ClassPermissionSet, Rule}
 
 -- what a statement says, but for the statements inside it
 abbrev pub form_of : {A : Type 0} → Statement A → Form
@@ -27,7 +28,9 @@ form_of (Common at id permissions) = common (word_of id) (map word_of permission
 form_of (Class at id permissions) = class (word_of id) (map word_of permissions.items)
 form_of (ClassCommon at the_class the_common) = class_common (word_of the_class) (word_of the_common)
 form_of (ClassOrder at the_classes) = class_order (map word_of the_classes.items)
-form_of (Rule at kind source target the_class permissions) = rule (rule_kind_of kind) (word_of source) (target_of target) (word_of the_class) (expr_of permissions)
+form_of (ClassPermission at id) = class_permission (word_of id)
+form_of (ClassPermissionSet at set the_class permissions) = class_permission_set (word_of set) (word_of the_class) (expr_of permissions)
+form_of (Rule at kind source target permissions) = rule (rule_kind_of kind) (word_of source) (target_of target) (permissions_of permissions)
 
 -- the place of a statement's (
 abbrev pub at_of : {A : Type 0} → Statement A → spec_place.Place
@@ -42,7 +45,9 @@ at_of (Common at id permissions) = place_of at
 at_of (Class at id permissions) = place_of at
 at_of (ClassCommon at the_class the_common) = place_of at
 at_of (ClassOrder at the_classes) = place_of at
-at_of (Rule at kind source target the_class permissions) = place_of at
+at_of (ClassPermission at id) = place_of at
+at_of (ClassPermissionSet at set the_class permissions) = place_of at
+at_of (Rule at kind source target permissions) = place_of at
 
 -- whether statements may stand inside a statement of the form
 abbrev pub has_body : Form → Bool
@@ -57,7 +62,9 @@ has_body (common id permissions) = false
 has_body (class id permissions) = false
 has_body (class_common the_class the_common) = false
 has_body (class_order classes) = false
-has_body (rule kind source target the_class permissions) = false
+has_body (class_permission id) = false
+has_body (class_permission_set set the_class permissions) = false
+has_body (rule kind source target permissions) = false
 
 -- the trees behind the first
 abbrev pub behind : Trees → Trees
@@ -94,6 +101,11 @@ AreClasses trees (Some v) = IsClassList trees (map word_of v.items)
 abbrev pub AreClassAndPermissions : {A : Type 0} → Trees → Option (Word × Expr A) → Type 0
 AreClassAndPermissions trees None = (the_class : spec_names.Word) (permissions : spec_exprs.WordExpr) → IsClassAndPermissions trees the_class permissions → ⊥
 AreClassAndPermissions trees (Some (the_class, permissions)) = IsClassAndPermissions trees (word_of the_class) (expr_of permissions)
+
+-- the trees are a rule's permissions, these, or not
+abbrev pub ArePermissionsOf : {A : Type 0} → Trees → Option (code.ClassPermissions A) → Type 0
+ArePermissionsOf trees None = (permissions : ClassPermissions) → ArePermissions trees permissions → ⊥
+ArePermissionsOf trees (Some x) = ArePermissions trees (permissions_of x)
 
 -- the inner statements of a form that may have some
 abbrev pub body_of : Form → Statements → Statements

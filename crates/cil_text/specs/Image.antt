@@ -9,7 +9,7 @@ use Rattle.cil_specs.specs.TextFault.{bad_byte, unbalanced, unclosed, unclosed_s
 use Rattle.cil_specs.specs.Expr as spec_exprs
 use Rattle.cil_specs.specs.Expr.{every, named, opposite, both, either, one_of, nothing, elements}
 use Rattle.cil_specs.specs.Statements as spec_statements
-use Rattle.cil_specs.specs.Statements.{allow, auditallow, dontaudit, neverallow, itself, the_named, block, optional, type_name, type_alias, alias_actual, type_attribute, attribute_set, common, class, class_common, class_order, rule, Statements, no_more, statement}
+use Rattle.cil_specs.specs.Statements.{allow, auditallow, dontaudit, neverallow, itself, the_named, block, optional, type_name, type_alias, alias_actual, type_attribute, attribute_set, common, class, class_common, class_order, class_permission, class_permission_set, rule, anonymous, by_name, Statements, no_more, statement}
 use Rattle.cil_text.specs.declared.place.Place.{Place}
 use Rattle.cil_text.specs.declared.word.Word.{Word}
 use Rattle.cil_text.specs.declared.node.Node.{Node}
@@ -28,7 +28,9 @@ use Rattle.cil_text.specs.declared.statement.RuleKind.TheVariants.{Allow, AuditA
 use Rattle.cil_text.specs.declared.statement.Target.{Target}
 use Rattle.cil_text.specs.declared.statement.Target.TheVariants.{Itself, Named}
 use Rattle.cil_text.specs.declared.statement.Expr.{Expr, All, Name, Not', And', Or', Xor', Union', Row_of-Expr, end_of-Expr, more_of-Expr}
-use Rattle.cil_text.specs.declared.statement.Statement.{Statement, Block', Optional', TypeName, TypeAlias, TypeAliasActual, TypeAttribute, TypeAttributeSet, Common, Class, ClassCommon, ClassOrder, Rule, Row_of-Statement, end_of-Statement, more_of-Statement}
+use Rattle.cil_text.specs.declared.statement.ClassPermissions.{ClassPermissions}
+use Rattle.cil_text.specs.declared.statement.ClassPermissions.TheVariants as permits
+use Rattle.cil_text.specs.declared.statement.Statement.{Statement, Block', Optional', TypeName, TypeAlias, TypeAliasActual, TypeAttribute, TypeAttributeSet, Common, Class, ClassCommon, ClassOrder, ClassPermission, ClassPermissionSet, Rule, Row_of-Statement, end_of-Statement, more_of-Statement}
 
 abbrev pub place_of : Place → spec.Place
 place_of p = record { offset = p.offset; line = p.line; column = p.column }
@@ -109,6 +111,10 @@ abbrev mutual
   row_expr end_of-Expr = nothing
   row_expr (more_of-Expr x rest) = elements (expr_of x) (row_expr rest)
 
+abbrev pub permissions_of : {A : Type 0} → ClassPermissions A → spec_statements.ClassPermissions
+permissions_of (permits.Anonymous the_class permissions) = anonymous (word_of the_class) (expr_of permissions)
+permissions_of (permits.Named set) = by_name (word_of set)
+
 abbrev mutual
   -- the statement, and then the rest
   pub statement_then : {A : Type 0} → Statement A → Statements → Statements
@@ -123,8 +129,11 @@ abbrev mutual
   statement_then (Class at id permissions) rest = statement (place_of at) (class (word_of id) (map word_of permissions.items)) no_more rest
   statement_then (ClassCommon at the_class the_common) rest = statement (place_of at) (class_common (word_of the_class) (word_of the_common)) no_more rest
   statement_then (ClassOrder at the_classes) rest = statement (place_of at) (class_order (map word_of the_classes.items)) no_more rest
-  statement_then (Rule at kind source target the_class permissions) rest =
-      statement (place_of at) (rule (rule_kind_of kind) (word_of source) (target_of target) (word_of the_class) (expr_of permissions)) no_more rest
+  statement_then (ClassPermission at id) rest = statement (place_of at) (class_permission (word_of id)) no_more rest
+  statement_then (ClassPermissionSet at set the_class permissions) rest =
+      statement (place_of at) (class_permission_set (word_of set) (word_of the_class) (expr_of permissions)) no_more rest
+  statement_then (Rule at kind source target permissions) rest =
+      statement (place_of at) (rule (rule_kind_of kind) (word_of source) (target_of target) (permissions_of permissions)) no_more rest
 
   pub row_statements : {A : Type 0} {n : _} → Row_of-Statement A n → Statements
   row_statements end_of-Statement = no_more

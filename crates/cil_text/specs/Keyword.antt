@@ -3,7 +3,7 @@ use Rattle.std.specs.Prelude.{ℕ, List, codes}
 use Rattle.cil_specs.specs.Statements.{rule_word}
 use Rattle.cil_text.specs.Image.{rule_kind_of}
 use Rattle.cil_text.specs.declared.keyword.Keyword.{Keyword}
-use Rattle.cil_text.specs.declared.keyword.Keyword.TheVariants.{Block, Optional, TypeName, TypeAlias, TypeAliasActual, TypeAttribute, TypeAttributeSet, Common, Class, ClassCommon, ClassOrder, Rule}
+use Rattle.cil_text.specs.declared.keyword.Keyword.TheVariants.{Block, Optional, TypeName, TypeAlias, TypeAliasActual, TypeAttribute, TypeAttributeSet, Common, Class, ClassCommon, ClassOrder, ClassPermission, ClassPermissionSet, Rule}
 
 abbrev pub spelling : Keyword → List ℕ
 spelling Block = codes "block"
@@ -17,4 +17,6 @@ spelling Common = codes "common"
 spelling Class = codes "class"
 spelling ClassCommon = codes "classcommon"
 spelling ClassOrder = codes "classorder"
+spelling ClassPermission = codes "classpermission"
+spelling ClassPermissionSet = codes "classpermissionset"
 spelling (Rule kind) = rule_word (rule_kind_of kind)

@@ -1,11 +1,11 @@
 //! Whether the words of a statement are spelt and free as their places ask.
 
 ghost use Rattle.std.specs.Prelude.{◌≡◌, [], ◌∷◌, ◌++◌, map};
-ghost use Rattle.cil_text.specs.Common.{leaves, as_declared, as_referred, target_words, words_of, word_of, expr_of, target_of, role_of, exprs_of, form_of, in_role, Checks};
+ghost use Rattle.cil_text.specs.Common.{leaves, as_declared, as_referred, target_words, permission_words, words_of, word_of, expr_of, target_of, permissions_of, role_of, exprs_of, form_of, in_role, Checks};
 
 use crate::fault::{ShownWord, TextFault, TextFaultKind};
 use crate::name::{Role, name_fault};
-use crate::statement::{Expr, Statement, Target};
+use crate::statement::{ClassPermissions, Expr, Statement, Target};
 use crate::word::Word;
 use std::alloc::Allocator;
 
@@ -114,21 +114,55 @@ fn check_permissions<'a>(id: Word<'a>, permissions: &[Word<'a>]) -> Result<(), T
     check_words(Role::Declared, permissions)
 }
 
-fn check_rule<'a, A: Allocator>(
-    source: Word<'a>,
-    target: Target<'a>,
+fn check_class_permissions<'a, A: Allocator>(
     class: Word<'a>,
     permissions: &Expr<'a, A>,
 ) -> Result<(), TextFault<'a>>
+    ensures { Checks (as_referred (word_of class.entry)
+        ∷ map as_declared (leaves (expr_of permissions.now))) result }
+{
+    check_word(Role::Referred, class)?;
+    check_expr(Role::Declared, permissions)
+}
+
+fn check_permission_set<'a, A: Allocator>(
+    set: Word<'a>,
+    class: Word<'a>,
+    permissions: &Expr<'a, A>,
+) -> Result<(), TextFault<'a>>
+    ensures { Checks (as_referred (word_of set.entry)
+        ∷ as_referred (word_of class.entry)
+        ∷ map as_declared (leaves (expr_of permissions.now))) result }
+{
+    check_word(Role::Referred, set)?;
+    check_class_permissions(class, permissions)
+}
+
+fn check_rule_permissions<'a, A: Allocator>(
+    permissions: &ClassPermissions<'a, A>,
+) -> Result<(), TextFault<'a>>
+    ensures { Checks (permission_words (permissions_of permissions.now)) result }
+{
+    match permissions {
+        ClassPermissions::Anonymous { class, permissions } => {
+            check_class_permissions(*class, permissions)
+        }
+        ClassPermissions::Named(set) => check_word(Role::Referred, *set),
+    }
+}
+
+fn check_rule<'a, A: Allocator>(
+    source: Word<'a>,
+    target: Target<'a>,
+    permissions: &ClassPermissions<'a, A>,
+) -> Result<(), TextFault<'a>>
     ensures { Checks (as_referred (word_of source.entry)
         ∷ (map as_referred (target_words (target_of target.entry))
-        ++ (as_referred (word_of class.entry)
-        ∷ map as_declared (leaves (expr_of permissions.now))))) result }
+        ++ permission_words (permissions_of permissions.now))) result }
 {
     check_word(Role::Referred, source)?;
     check_target(target)?;
-    check_word(Role::Referred, class)?;
-    check_expr(Role::Declared, permissions)
+    check_rule_permissions(permissions)
 }
 
 /// Finds the first word of a statement that is not as its place asks, but for those of the
@@ -160,12 +194,18 @@ pub fn check_statement<'a, A: Allocator>(statement: &Statement<'a, A>) -> Result
         } => check_permissions(*id, permissions),
         Statement::ClassCommon { class, common, .. } => check_pair(*class, *common),
         Statement::ClassOrder { classes, .. } => check_words(Role::Referred, classes),
-        Statement::Rule {
-            source,
-            target,
+        Statement::ClassPermission { id, .. } => check_word(Role::Declared, *id),
+        Statement::ClassPermissionSet {
+            set,
             class,
             permissions,
             ..
-        } => check_rule(*source, *target, *class, permissions),
+        } => check_permission_set(*set, *class, permissions),
+        Statement::Rule {
+            source,
+            target,
+            permissions,
+            ..
+        } => check_rule(*source, *target, permissions),
     }
 }

@@ -2,7 +2,7 @@
 //! word of each).
 
 ghost use Rattle.std.specs.Prelude.{◌≡◌, ◌≢◌, IfOk};
-ghost use Rattle.cil_text.specs.Common.{Trees, put_word, IsTargetThen, place_of, word_of, trees_of, target_of, FitsAs, IsWithoutUnordered, AreClasses, AreClassAndPermissions, IsAttributeAndSet};
+ghost use Rattle.cil_text.specs.Common.{Trees, put_word, IsTargetThen, place_of, word_of, trees_of, target_of, FitsAs, IsWithoutUnordered, AreClasses, AreClassAndPermissions, ArePermissionsOf, IsAttributeAndSet};
 
 use crate::expr::{expression, expression_list};
 use crate::keyword::Keyword;
@@ -10,7 +10,7 @@ use crate::place::Place;
 use crate::split::{
     are_lists, only_list, only_tree, only_word, split_word, two_words, word_and_list, words,
 };
-use crate::statement::{Expr, RuleKind, Statement, Target};
+use crate::statement::{ClassPermissions, Expr, RuleKind, Statement, Target};
 use crate::tree::TreeSlice;
 use crate::word::Word;
 use std::alloc::{AllocError, Allocator};
@@ -216,7 +216,7 @@ fn target_at(word: Word) -> Target
     }
 }
 
-/// The class of a rule and the expression of its permissions, which is a list.
+/// A class and the expression of permissions of it, which is a list.
 fn class_and_permissions<'a, A: Allocator + Copy>(
     alloc: A,
     trees: TreeSlice<'_, 'a>,
@@ -235,6 +235,55 @@ fn class_and_permissions<'a, A: Allocator + Copy>(
     }
 }
 
+fn class_permission<'a, A: Allocator>(
+    at: Place,
+    operands: TreeSlice<'_, 'a>,
+) -> Option<Statement<'a, A>>
+    ensures { FitsAs (place_of at) Keyword.ClassPermission (trees_of operands.entry) result }
+{
+    let id = only_word(operands)?;
+    Some(Statement::ClassPermission { at, id })
+}
+
+fn class_permission_set<'a, A: Allocator + Copy>(
+    alloc: A,
+    at: Place,
+    operands: TreeSlice<'_, 'a>,
+) -> Result<Option<Statement<'a, A>>, AllocError>
+    ensures { IfOk result
+        (FitsAs (place_of at) Keyword.ClassPermissionSet (trees_of operands.entry)) }
+{
+    let Some((set, rest)) = split_word(operands) else {
+        return Ok(None);
+    };
+    match class_and_permissions(alloc, rest)? {
+        Some((class, permissions)) => Ok(Some(Statement::ClassPermissionSet {
+            at,
+            set,
+            class,
+            permissions,
+        })),
+        None => Ok(None),
+    }
+}
+
+/// The permissions of a rule: those of a class in a list, or those of the permission set that a word
+/// names.
+fn rule_permissions<'a, A: Allocator + Copy>(
+    alloc: A,
+    trees: TreeSlice<'_, 'a>,
+) -> Result<Option<ClassPermissions<'a, A>>, AllocError>
+    ensures { IfOk result (ArePermissionsOf (trees_of trees.entry)) }
+{
+    if let Some(set) = only_word(trees) {
+        return Ok(Some(ClassPermissions::Named(set)));
+    }
+    match class_and_permissions(alloc, trees)? {
+        Some((class, permissions)) => Ok(Some(ClassPermissions::Anonymous { class, permissions })),
+        None => Ok(None),
+    }
+}
+
 fn rule<'a, A: Allocator + Copy>(
     alloc: A,
     at: Place,
@@ -249,13 +298,12 @@ fn rule<'a, A: Allocator + Copy>(
     let Some((target, rest)) = split_word(rest) else {
         return Ok(None);
     };
-    match class_and_permissions(alloc, rest)? {
-        Some((class, permissions)) => Ok(Some(Statement::Rule {
+    match rule_permissions(alloc, rest)? {
+        Some(permissions) => Ok(Some(Statement::Rule {
             at,
             kind,
             source,
             target: target_at(target),
-            class,
             permissions,
         })),
         None => Ok(None),
@@ -283,6 +331,8 @@ pub fn fit<'a, A: Allocator + Copy>(
         Keyword::Class => class(alloc, at, operands),
         Keyword::ClassCommon => Ok(class_common(at, operands)),
         Keyword::ClassOrder => class_order(alloc, at, operands),
+        Keyword::ClassPermission => Ok(class_permission(at, operands)),
+        Keyword::ClassPermissionSet => class_permission_set(alloc, at, operands),
         Keyword::Rule(kind) => rule(alloc, at, kind, operands),
     }
 }

@@ -18,6 +18,8 @@ pub enum Keyword {
     Class,
     ClassCommon,
     ClassOrder,
+    ClassPermission,
+    ClassPermissionSet,
     Rule(RuleKind),
 }
 
@@ -49,9 +51,14 @@ const OF_11: [(&[u8], Keyword); 1] = [(b"classcommon", Keyword::ClassCommon)];
 
 const OF_13: [(&[u8], Keyword); 1] = [(b"typeattribute", Keyword::TypeAttribute)];
 
-const OF_15: [(&[u8], Keyword); 1] = [(b"typealiasactual", Keyword::TypeAliasActual)];
+const OF_15: [(&[u8], Keyword); 2] = [
+    (b"typealiasactual", Keyword::TypeAliasActual),
+    (b"classpermission", Keyword::ClassPermission),
+];
 
 const OF_16: [(&[u8], Keyword); 1] = [(b"typeattributeset", Keyword::TypeAttributeSet)];
+
+const OF_18: [(&[u8], Keyword); 1] = [(b"classpermissionset", Keyword::ClassPermissionSet)];
 
 impl Keyword {
     ghost use Rattle.std.specs.Prelude.{◌≡◌, MatchOption, false};
@@ -74,6 +81,7 @@ impl Keyword {
             13 => look_up(&OF_13, text),
             15 => look_up(&OF_15, text),
             16 => look_up(&OF_16, text),
+            18 => look_up(&OF_18, text),
             _ => None,
         }
     }

@@ -29,7 +29,7 @@ pub use laws::{
 pub use module::Module;
 pub use place::Place;
 pub use reader::read;
-pub use statement::{Expr, RuleKind, Statement, Target};
+pub use statement::{ClassPermissions, Expr, RuleKind, Statement, Target};
 pub use tree::{Tree, TreeSlice};
 pub use walk::{next_statement, shape};
 pub use word::Word;

@@ -35,6 +35,17 @@ pub enum Expr<'a, A: Allocator = Global> {
     Union(Vec<Expr<'a, A>, A>),
 }
 
+/// The permissions of a rule: an expression of those of a class, or a permission set by its name (CIL
+/// Reference Guide, "classpermission").
+#[derive(Debug, Drop)]
+pub enum ClassPermissions<'a, A: Allocator = Global> {
+    Anonymous {
+        class: Word<'a>,
+        permissions: Expr<'a, A>,
+    },
+    Named(Word<'a>),
+}
+
 /// A statement, with the place of its `(`. Blocks and optionals hold the statements inside them.
 #[derive(Debug, Drop)]
 pub enum Statement<'a, A: Allocator = Global> {
@@ -89,13 +100,23 @@ pub enum Statement<'a, A: Allocator = Global> {
         at: Place,
         classes: Vec<Word<'a>, A>,
     },
+    ClassPermission {
+        at: Place,
+        id: Word<'a>,
+    },
+    /// It gives a permission set permissions of a class.
+    ClassPermissionSet {
+        at: Place,
+        set: Word<'a>,
+        class: Word<'a>,
+        permissions: Expr<'a, A>,
+    },
     /// `allow`, `auditallow`, `dontaudit` and `neverallow`.
     Rule {
         at: Place,
         kind: RuleKind,
         source: Word<'a>,
         target: Target<'a>,
-        class: Word<'a>,
-        permissions: Expr<'a, A>,
+        permissions: ClassPermissions<'a, A>,
     },
 }

@@ -191,9 +191,9 @@ pub fn next_statement<'t, 'a, A: Allocator + Copy>(
 
 /// The statements that the trees spell, or the first shape fault.
 ///
-/// The forms are those of the CIL Reference Guide under the fifteen words that it knows. The faults
+/// The forms are those of the CIL Reference Guide under the seventeen words that it knows. The faults
 /// are this project's own choice: `Misshapen` at a list without a first word, `Unsupported` at a
-/// first word that is none of the fifteen, `Misshapen` at that of a list that doesn't fit its form,
+/// first word that is none of the seventeen, `Misshapen` at that of a list that doesn't fit its form,
 /// `NotInOptional` at a `block`, `class`, `common`, `classcommon` or `classorder` inside an optional
 /// at any depth, `BadName` and `Reserved` at a word in the place of a name. Of several faults the one
 /// at the least offset is answered, and of two there the one of lesser code.

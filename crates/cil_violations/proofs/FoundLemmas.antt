@@ -1,5 +1,5 @@
 -- The rows of tests are those that pass them.
-use Rattle.cil_violations.proofs.Common.{◌≡◌, ◌∙◌, inl, inr, ℕ, zero, suc, ◌+◌, ◌<◌, ◌≤◌, Bool, true, false, cond, [], ◌∷◌, refl, sym, ap, subst, arith, true≢false, cases_eq, AnyByRecursion, any-flat_map, any_from_flat_map, hits, Tests, row_with, target_rows, source_rows, pair_rows, all_rows, RowNumbers}
+use Rattle.cil_violations.proofs.Common.{◌≡◌, ◌∙◌, inl, inr, ℕ, zero, suc, ◌+◌, ◌<◌, ◌≤◌, Bool, true, false, cond, List, [], ◌∷◌, refl, sym, ap, subst, arith, true≢false, cases_eq, AnyByRecursion, any-flat_map, any_from_flat_map, hits, Tests, row_with, rows_at, target_rows, source_rows, pair_rows, all_rows, RowNumbers}
 
 -- a number below a bound passes a test, and P holds of it
 pub record Hit (test : ℕ → Bool) (all : ℕ) (P : ℕ → Type 0) : Type 0 where
@@ -31,12 +31,17 @@ pub record Passes (tests : Tests) (rules names : ℕ) (row : RowNumbers) : Type 
   pub allowed_below : row.allowed < rules
   pub source_below : row.source < names
   pub target_below : row.target < names
+  pub class_below : row.class < names
   pub never : tests.never row.never ≡ true
   pub pair : tests.pair row.never row.allowed ≡ true
   pub source : tests.source row.never row.allowed row.source ≡ true
   pub target : tests.target row.never row.allowed row.source row.target ≡ true
+  pub the_class : tests.the_class row.never row.allowed row.class ≡ true
 
 module _ (tests : Tests) (rules names : ℕ) (row : RowNumbers) where
+  abbrev classes : ℕ → ℕ → List ℕ
+  classes i j = hits (tests.the_class i j) 0 names
+
   pub found : Passes tests rules names row → AnyByRecursion (λ x. x ≡ row) (all_rows tests rules names)
   found is =
       any-flat_map (pair_rows tests rules names) (λ x. x ≡ row) (hits tests.never 0 rules)
@@ -45,9 +50,11 @@ module _ (tests : Tests) (rules names : ℕ) (row : RowNumbers) where
       (hit-from (tests.pair row.never) (λ j. AnyByRecursion (λ x. x ≡ row) (source_rows tests names row.never j)) rules 0 row.allowed (omega arith) (let l = is.allowed_below in omega (arith, l)) is.pair
       (any-flat_map (target_rows tests names row.never row.allowed) (λ x. x ≡ row) (hits (tests.source row.never row.allowed) 0 names)
       (hit-from (tests.source row.never row.allowed) (λ s. AnyByRecursion (λ x. x ≡ row) (target_rows tests names row.never row.allowed s)) names 0 row.source (omega arith) (let l = is.source_below in omega (arith, l)) is.source
-      (any-flat_map (λ t. row_with row.never row.allowed row.source t ∷ []) (λ x. x ≡ row) (hits (tests.target row.never row.allowed row.source) 0 names)
-      (hit-from (tests.target row.never row.allowed row.source) (λ t. AnyByRecursion (λ x. x ≡ row) (row_with row.never row.allowed row.source t ∷ [])) names 0 row.target (omega arith) (let l = is.target_below in omega (arith, l)) is.target
-      (inl refl))))))))
+      (any-flat_map (rows_at row.never row.allowed (classes row.never row.allowed) row.source) (λ x. x ≡ row) (hits (tests.target row.never row.allowed row.source) 0 names)
+      (hit-from (tests.target row.never row.allowed row.source) (λ t. AnyByRecursion (λ x. x ≡ row) (rows_at row.never row.allowed (classes row.never row.allowed) row.source t)) names 0 row.target (omega arith) (let l = is.target_below in omega (arith, l)) is.target
+      (any-flat_map (λ c. row_with row.never row.allowed row.source row.target c ∷ []) (λ x. x ≡ row) (classes row.never row.allowed)
+      (hit-from (tests.the_class row.never row.allowed) (λ c. AnyByRecursion (λ x. x ≡ row) (row_with row.never row.allowed row.source row.target c ∷ [])) names 0 row.class (omega arith) (let l = is.class_below in omega (arith, l)) is.the_class
+      (inl refl))))))))))
 
   pub passed : AnyByRecursion (λ x. x ≡ row) (all_rows tests rules names) → Passes tests rules names row
   passed there =
@@ -58,18 +65,24 @@ module _ (tests : Tests) (rules names : ℕ) (row : RowNumbers) where
       let source = hit-to (tests.source i j) (λ s. AnyByRecursion (λ x. x ≡ row) (target_rows tests names i j s)) names 0 names (omega arith) (any_from_flat_map (target_rows tests names i j) (λ x. x ≡ row) (hits (tests.source i j) 0 names) pair.holds) in
       let s = source.number in
       let target =
-      hit-to (tests.target i j s) (λ t. AnyByRecursion (λ x. x ≡ row) (row_with i j s t ∷ [])) names 0 names (omega arith)
-      (any_from_flat_map (λ t. row_with i j s t ∷ []) (λ x. x ≡ row) (hits (tests.target i j s) 0 names) source.holds) in
-      subst (Passes tests rules names) (only (row_with i j s target.number) target.holds)
+      hit-to (tests.target i j s) (λ t. AnyByRecursion (λ x. x ≡ row) (rows_at i j (classes i j) s t)) names 0 names (omega arith)
+      (any_from_flat_map (rows_at i j (classes i j) s) (λ x. x ≡ row) (hits (tests.target i j s) 0 names) source.holds) in
+      let t = target.number in
+      let the_class =
+      hit-to (tests.the_class i j) (λ c. AnyByRecursion (λ x. x ≡ row) (row_with i j s t c ∷ [])) names 0 names (omega arith)
+      (any_from_flat_map (λ c. row_with i j s t c ∷ []) (λ x. x ≡ row) (classes i j) target.holds) in
+      subst (Passes tests rules names) (only (row_with i j s t the_class.number) the_class.holds)
       (record {
         never_below = never.below;
         allowed_below = pair.below;
         source_below = source.below;
         target_below = target.below;
+        class_below = the_class.below;
         never = never.passes;
         pair = pair.passes;
         source = source.passes;
         target = target.passes;
+        the_class = the_class.passes;
       })
     where
       only : (x : RowNumbers) → AnyByRecursion (λ y. y ≡ row) (x ∷ []) → x ≡ row

@@ -1,6 +1,10 @@
 pub mod Common
 pub mod HeldLemmas
 pub mod PermissionLemmas
+pub mod PartLemmas
+pub mod ClassLemmas
+pub mod ResultLemmas
+pub mod MetLemmas
 pub mod ShareLemmas
 pub mod WordLemmas
 pub mod ListedLemmas

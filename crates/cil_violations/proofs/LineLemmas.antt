@@ -1,5 +1,5 @@
 -- The text of a line, written in parts.
-use Rattle.cil_violations.proofs.Common.{◌≡◌, ◌∙◌, ℕ, Bool, true, false, cond, List, [], ◌∷◌, ◌++◌, map, codes, decimal, Option, refl, sym, ap, subst, append_assoc, filter, slice_index_or, Gains, GainsFront, gains-both, gains-then_front, front-longer, RuleHead, rule_head, name_in, Resolved, Violation, rule_place, violation_line, is_among, shared, rule_in, violation_by, head_text, name_text, shared_text, RowNumbers}
+use Rattle.cil_violations.proofs.Common.{◌≡◌, ◌∙◌, ℕ, Bool, true, false, cond, List, [], ◌∷◌, ◌++◌, map, codes, decimal, Option, refl, sym, ap, subst, append_assoc, filter, Gains, GainsFront, gains-both, gains-then_front, front-longer, RuleHead, rule_head, name_in, Resolved, ClassPermission, rule_place, violation_line, given_at, is_among, of_class, shared, rule_in, violation_by, access_text, head_by, name_text, rule_text, shared_text, RowNumbers}
 use Rattle.std.proofs.Common.{flat_map}
 use Rattle.std.proofs.lemmas.List.Folds.{flat_map-map}
 
@@ -27,40 +27,43 @@ place-is word name line column l c a b =
     regroup w n x y = simp append_assoc
 
 -- the texts of the permissions that are shared
-pub shared-texts : {A : Type 0} (r : Resolved A) (others ps : List ℕ) → flat_map (shared_text r others) ps ≡ flat_map (λ p. p ++ codes " ") (map (name_in r) (shared ps others))
+pub shared-texts : {A : Type 0} (r : Resolved A) (others ps : List ClassPermission) → flat_map (shared_text r others) ps ≡ flat_map (λ p. p ++ codes " ") (map (λ g. name_in r g.permission) (shared ps others))
 shared-texts r others [] = refl
 shared-texts r others (p ∷ ps) = by (is_among others p) (shared-texts r others ps)
   where
-    by : (b : Bool) → flat_map (shared_text r others) ps ≡ flat_map (λ q. q ++ codes " ") (map (name_in r) (filter (is_among others) ps))
-        → (cond b (name_text r p) []) ++ flat_map (shared_text r others) ps ≡ flat_map (λ q. q ++ codes " ") (map (name_in r) (cond b (p ∷ filter (is_among others) ps) (filter (is_among others) ps)))
+    by : (b : Bool) → flat_map (shared_text r others) ps ≡ flat_map (λ q. q ++ codes " ") (map (λ g. name_in r g.permission) (filter (is_among others) ps))
+        → (cond b (name_text r p) []) ++ flat_map (shared_text r others) ps
+        ≡ flat_map (λ q. q ++ codes " ") (map (λ g. name_in r g.permission) (cond b (p ∷ filter (is_among others) ps) (filter (is_among others) ps)))
     by true rest = ap (λ l. name_text r p ++ l) rest
     by false rest = rest
 
--- a line by its head, its permissions and its end
-pub line-is : (v : Violation) (n a : RuleHead) (texts : List ℕ) → n ≡ rule_head v.never → a ≡ rule_head v.allowed → v.the_class ≡ v.never.the_class → texts ≡ flat_map (λ p. p ++ codes " ") v.permissions
-    → head_text n a v.source v.target ++ (texts ++ codes "};\n") ≡ violation_line v
-line-is v n a texts n_is a_is class_is is =
-    (λ i. head_text (n_is i) (a_is i) v.source v.target ++ (is i ++ codes "};\n"))
-    ∙ regroup (rule_place v.never) (rule_place v.allowed) v.source v.target v.never.the_class (flat_map (λ p. p ++ codes " ") v.permissions)
-    ∙ (λ i. rule_place v.never ++ codes " " ++ rule_place v.allowed ++ codes " " ++ v.source ++ codes " " ++ v.target ++ codes ":" ++ sym class_is i ++ codes " { " ++ flat_map (λ p. p ++ codes " ") v.permissions ++ codes "};\n")
+-- the head of a line by its parts
+pub head-is : {A : Type 0} (r : Resolved A) (row : RowNumbers) (n a : RuleHead) (source target the_class : List ℕ) → n ≡ rule_head (rule_in r row.never) → a ≡ rule_head (rule_in r row.allowed)
+    → source ≡ name_in r row.source → target ≡ name_in r row.target → the_class ≡ name_in r row.class
+    → rule_text n ++ (rule_text a ++ access_text source target the_class) ≡ head_by r row
+head-is r row n a source target the_class n_is a_is source_is target_is class_is = λ i. rule_text (n_is i) ++ (rule_text (a_is i) ++ access_text (source_is i) (target_is i) (class_is i))
+
+-- the texts of the permissions of a row
+abbrev pub texts-of : {A : Type 0} → Resolved A → List (List ClassPermission) → RowNumbers → List ℕ
+texts-of r lists row = flat_map (λ p. p ++ codes " ") (violation_by r lists row).permissions
+
+pub texts-are : {A : Type 0} (r : Resolved A) (lists : List (List ClassPermission)) (row : RowNumbers) (first second : List ClassPermission)
+    → first ≡ of_class row.class (given_at r.rules.items lists row.never) → second ≡ of_class row.class (given_at r.rules.items lists row.allowed)
+    → flat_map (shared_text r second) first ≡ texts-of r lists row
+texts-are r lists row first second first_is second_is =
+    shared-texts r second first ∙ (λ i. flat_map (λ p. p ++ codes " ") (map (λ g. name_in r g.permission) (shared (first_is i) (second_is i))))
+
+-- the line of a row by its head, its permissions and its end
+pub line-whole : {A : Type 0} (r : Resolved A) (lists : List (List ClassPermission)) (row : RowNumbers) (texts : List ℕ) → texts ≡ texts-of r lists row
+    → head_by r row ++ (texts ++ codes "};\n") ≡ violation_line (violation_by r lists row)
+line-whole r lists row texts is =
+    let v = violation_by r lists row in
+    ap (λ l. head_by r row ++ (l ++ codes "};\n")) is
+    ∙ regroup (rule_place v.never) (rule_place v.allowed) v.source v.target v.the_class (texts-of r lists row)
   where
     regroup : (x y s t c ps : List ℕ) → ((x ++ codes " ") ++ ((y ++ codes " ") ++ (s ++ codes " " ++ t ++ codes ":" ++ c ++ codes " { "))) ++ (ps ++ codes "};\n")
         ≡ x ++ codes " " ++ y ++ codes " " ++ s ++ codes " " ++ t ++ codes ":" ++ c ++ codes " { " ++ ps ++ codes "};\n"
     regroup x y s t c ps = simp append_assoc
-
--- the texts of the permissions of a row
-abbrev pub texts-of : {A : Type 0} → Resolved A → List (List ℕ) → RowNumbers → List ℕ
-texts-of r permissions row = flat_map (λ p. p ++ codes " ") (violation_by r permissions row).permissions
-
-pub texts-are : {A : Type 0} (r : Resolved A) (permissions : List (List ℕ)) (row : RowNumbers) (first second : List ℕ) → first ≡ slice_index_or permissions row.never [] → second ≡ slice_index_or permissions row.allowed []
-    → flat_map (shared_text r second) first ≡ texts-of r permissions row
-texts-are r permissions row first second first_is second_is = shared-texts r second first ∙ (λ i. flat_map (λ p. p ++ codes " ") (map (name_in r) (shared (first_is i) (second_is i))))
-
--- the line of a row by its parts
-pub line-whole : {A : Type 0} (r : Resolved A) (permissions : List (List ℕ)) (row : RowNumbers) (n a : RuleHead) (source target texts : List ℕ) → n ≡ rule_head (rule_in r row.never) → a ≡ rule_head (rule_in r row.allowed)
-    → source ≡ name_in r row.source → target ≡ name_in r row.target → texts ≡ texts-of r permissions row → head_text n a source target ++ (texts ++ codes "};\n") ≡ violation_line (violation_by r permissions row)
-line-whole r permissions row n a source target texts n_is a_is source_is target_is texts_is =
-    (λ i. head_text n a (source_is i) (target_is i) ++ (texts ++ codes "};\n")) ∙ line-is (violation_by r permissions row) n a texts n_is a_is refl texts_is
 
 pub mapped-text : {X Y : Type 0} (f : Y → List ℕ) (v : X → Y) (xs : List X) (ys : List Y) → map v xs ≡ ys → flat_map (λ x. f (v x)) xs ≡ flat_map f ys
 mapped-text f v xs ys is = sym (flat_map-map f v xs) ∙ ap (flat_map f) is

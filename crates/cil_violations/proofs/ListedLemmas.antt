@@ -66,7 +66,7 @@ module _ (symbols : List ℕ) (test : ℕ → Bool) where
 
   -- those in all words, in order, are the numbers whose symbols pass the test
   pub found-all : (from : ℕ) (list ordered : List ℕ) → NoneFromWord test from → AreFoundBefore from list
-      → IsOrdered list ordered → ordered ≡ hits (λ n. test (slice_index symbols n)) 0 (length symbols)
+      → IsOrdered nat_cmp list ordered → ordered ≡ hits (λ n. test (slice_index symbols n)) 0 (length symbols)
   found-all from list ordered none found is =
       one-sorted nat_cmp nat_cmp_total ordered (hits passes 0 (length symbols)) is.rising
       (hits-ascend passes (length symbols) 0) to back

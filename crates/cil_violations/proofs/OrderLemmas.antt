@@ -1,5 +1,5 @@
 -- The order of violations by numbers.
-use Rattle.cil_violations.proofs.Common.{◌≡◌, ◌∙◌, ◌⊎◌, inl, inr, ℕ, zero, suc, ◌<◌, ◌≤◌, Bool, true, false, cond, List, [], ◌∷◌, ◌++◌, length, get_or, Ordering, Equal, refl, sym, ap, arith, nat_cmp, ordering_then, ordering_reverse, on, then_cmp, Greater, AllByRecursion, flat_map, IsStrictlySortedBy, cases_order, tied_itself, all_weaker, hits, Tests, row_with, target_rows, source_rows, pair_rows, all_rows, RowNumbers}
+use Rattle.cil_violations.proofs.Common.{◌≡◌, ◌∙◌, ◌⊎◌, inl, inr, ℕ, zero, suc, ◌<◌, ◌≤◌, Bool, true, false, cond, List, [], ◌∷◌, ◌++◌, length, get_or, Ordering, Equal, refl, sym, ap, arith, nat_cmp, ordering_then, ordering_reverse, on, then_cmp, Greater, AllByRecursion, flat_map, IsStrictlySortedBy, cases_order, tied_itself, all_weaker, hits, Tests, row_with, rows_at, target_rows, source_rows, pair_rows, all_rows, RowNumbers}
 use Rattle.std.proofs.Common.{Less}
 use Rattle.std.specs.Cmp.{IsTotalOrder}
 use Rattle.std.proofs.lemmas.Bool.Decides.{nat_tests}
@@ -26,7 +26,8 @@ ranked R total ks d ascending i j i_within j_within = by (cases_order i j)
 
 -- rows by their numbers in turn
 abbrev pub row_cmp : RowNumbers → RowNumbers → Ordering
-row_cmp = then_cmp (on (λ r. r.never) nat_cmp) (then_cmp (on (λ r. r.allowed) nat_cmp) (then_cmp (on (λ r. r.source) nat_cmp) (on (λ r. r.target) nat_cmp)))
+row_cmp = then_cmp (on (λ r. r.never) nat_cmp) (then_cmp (on (λ r. r.allowed) nat_cmp) (then_cmp (on (λ r. r.source) nat_cmp)
+    (then_cmp (on (λ r. r.target) nat_cmp) (on (λ r. r.class) nat_cmp))))
 
 -- the numbers at which a test holds ascend
 hits-from : (test : ℕ → Bool) (n from low : ℕ) → low ≤ from → AllByRecursion (λ k. low ≤ k) (hits test from n)
@@ -79,28 +80,55 @@ flat-all f Q all (n ∷ ns) = all-append Q (f n) (flat_map f ns) (all n) (flat-a
 tie : (i j : ℕ) → i ≡ j → nat_cmp i j ≡ Equal
 tie i j same = ap (nat_cmp i) (sym same) ∙ equal i
 
-by-never : (x y : RowNumbers) → x.never < y.never → row_cmp x y ≡ Less
-by-never x y low = ap (λ o. ordering_then o (ordering_then (nat_cmp x.allowed y.allowed) (ordering_then (nat_cmp x.source y.source) (nat_cmp x.target y.target)))) (less x.never y.never low)
+-- what is left of a comparison of rows
+module _ (x y : RowNumbers) where
+  abbrev by_class : Ordering
+  by_class = nat_cmp x.class y.class
 
-by-allowed : (x y : RowNumbers) → x.never ≡ y.never → x.allowed < y.allowed → row_cmp x y ≡ Less
-by-allowed x y never low =
-    (λ i. ordering_then (tie x.never y.never never i) (ordering_then (less x.allowed y.allowed low i) (ordering_then (nat_cmp x.source y.source) (nat_cmp x.target y.target))))
+  abbrev by_target : Ordering
+  by_target = ordering_then (nat_cmp x.target y.target) by_class
 
-by-source : (x y : RowNumbers) → x.never ≡ y.never → x.allowed ≡ y.allowed → x.source < y.source → row_cmp x y ≡ Less
-by-source x y never allowed low =
-    (λ i. ordering_then (tie x.never y.never never i) (ordering_then (tie x.allowed y.allowed allowed i) (ordering_then (less x.source y.source low i) (nat_cmp x.target y.target))))
+  abbrev by_source : Ordering
+  by_source = ordering_then (nat_cmp x.source y.source) by_target
 
-by-target : (x y : RowNumbers) → x.never ≡ y.never → x.allowed ≡ y.allowed → x.source ≡ y.source → x.target < y.target → row_cmp x y ≡ Less
-by-target x y never allowed source low =
-    (λ i. ordering_then (tie x.never y.never never i) (ordering_then (tie x.allowed y.allowed allowed i) (ordering_then (tie x.source y.source source i) (less x.target y.target low i))))
+  by-never : x.never < y.never → row_cmp x y ≡ Less
+  by-never low = ap (λ o. ordering_then o (ordering_then (nat_cmp x.allowed y.allowed) by_source)) (less x.never y.never low)
+
+  by-allowed : x.never ≡ y.never → x.allowed < y.allowed → row_cmp x y ≡ Less
+  by-allowed never low = (λ i. ordering_then (tie x.never y.never never i) (ordering_then (less x.allowed y.allowed low i) by_source))
+
+  by-source : x.never ≡ y.never → x.allowed ≡ y.allowed → x.source < y.source → row_cmp x y ≡ Less
+  by-source never allowed low =
+      (λ i. ordering_then (tie x.never y.never never i) (ordering_then (tie x.allowed y.allowed allowed i) (ordering_then (less x.source y.source low i) by_target)))
+
+  by-target : x.never ≡ y.never → x.allowed ≡ y.allowed → x.source ≡ y.source → x.target < y.target → row_cmp x y ≡ Less
+  by-target never allowed source low =
+      (λ i. ordering_then (tie x.never y.never never i) (ordering_then (tie x.allowed y.allowed allowed i)
+      (ordering_then (tie x.source y.source source i) (ordering_then (less x.target y.target low i) by_class))))
+
+  by-class : x.never ≡ y.never → x.allowed ≡ y.allowed → x.source ≡ y.source → x.target ≡ y.target → x.class < y.class → row_cmp x y ≡ Less
+  by-class never allowed source target low =
+      (λ i. ordering_then (tie x.never y.never never i) (ordering_then (tie x.allowed y.allowed allowed i)
+      (ordering_then (tie x.source y.source source i) (ordering_then (tie x.target y.target target i) (less x.class y.class low i)))))
 
 alone : (x : RowNumbers) → IsStrictlySortedBy row_cmp (x ∷ [])
 unfolding IsStrictlySortedBy
 alone x = (tt, tt)
 
 module _ (tests : Tests) (rules names : ℕ) where
+  abbrev classes : ℕ → ℕ → List ℕ
+  classes i j = hits (tests.the_class i j) 0 names
+
+  classes-of : (i j s t : ℕ) → AllByRecursion (λ x. (x.never ≡ i) × (x.allowed ≡ j) × (x.source ≡ s) × (x.target ≡ t)) (rows_at i j (classes i j) s t)
+  classes-of i j s t =
+      flat-all (λ c. row_with i j s t c ∷ []) (λ x. (x.never ≡ i) × (x.allowed ≡ j) × (x.source ≡ s) × (x.target ≡ t)) (λ c. ((refl, refl, refl, refl), tt)) (classes i j)
+
   targets-of : (i j s : ℕ) → AllByRecursion (λ x. (x.never ≡ i) × (x.allowed ≡ j) × (x.source ≡ s)) (target_rows tests names i j s)
-  targets-of i j s = flat-all (λ t. row_with i j s t ∷ []) (λ x. (x.never ≡ i) × (x.allowed ≡ j) × (x.source ≡ s)) (λ t. ((refl, refl, refl), tt)) (hits (tests.target i j s) 0 names)
+  targets-of i j s =
+      flat-all (rows_at i j (classes i j) s) (λ x. (x.never ≡ i) × (x.allowed ≡ j) × (x.source ≡ s))
+      (λ t. all_weaker (λ x. (x.never ≡ i) × (x.allowed ≡ j) × (x.source ≡ s) × (x.target ≡ t)) (λ x. (x.never ≡ i) × (x.allowed ≡ j) × (x.source ≡ s)) (λ x h. (h.0, h.1, h.2))
+      (rows_at i j (classes i j) s t) (classes-of i j s t))
+      (hits (tests.target i j s) 0 names)
 
   sources-of : (i j : ℕ) → AllByRecursion (λ x. (x.never ≡ i) × (x.allowed ≡ j)) (source_rows tests names i j)
   sources-of i j =
@@ -114,10 +142,18 @@ module _ (tests : Tests) (rules names : ℕ) where
       (λ j. all_weaker (λ x. (x.never ≡ i) × (x.allowed ≡ j)) (λ x. x.never ≡ i) (λ x h. h.0) (source_rows tests names i j) (sources-of i j))
       (hits (tests.pair i) 0 rules)
 
+  classes-sorted : (i j s t : ℕ) → IsStrictlySortedBy row_cmp (rows_at i j (classes i j) s t)
+  classes-sorted i j s t =
+      flat-sorted row_cmp (λ x. (x.never ≡ i) × (x.allowed ≡ j) × (x.source ≡ s) × (x.target ≡ t)) (λ x. x.class)
+      (λ x y px py low. by-class x y (px.0 ∙ sym py.0) (px.1 ∙ sym py.1) (px.2 ∙ sym py.2) (px.3 ∙ sym py.3) low) (λ c. row_with i j s t c ∷ []) (λ c. alone (row_with i j s t c))
+      (λ c. (((refl, refl, refl, refl), refl), tt)) (classes i j) (hits-ascend (tests.the_class i j) names 0)
+
   targets-sorted : (i j s : ℕ) → IsStrictlySortedBy row_cmp (target_rows tests names i j s)
   targets-sorted i j s =
       flat-sorted row_cmp (λ x. (x.never ≡ i) × (x.allowed ≡ j) × (x.source ≡ s)) (λ x. x.target)
-      (λ x y px py low. by-target x y (px.0 ∙ sym py.0) (px.1 ∙ sym py.1) (px.2 ∙ sym py.2) low) (λ t. row_with i j s t ∷ []) (λ t. alone (row_with i j s t)) (λ t. (((refl, refl, refl), refl), tt))
+      (λ x y px py low. by-target x y (px.0 ∙ sym py.0) (px.1 ∙ sym py.1) (px.2 ∙ sym py.2) low) (rows_at i j (classes i j) s) (classes-sorted i j s)
+      (λ t. all_weaker (λ x. (x.never ≡ i) × (x.allowed ≡ j) × (x.source ≡ s) × (x.target ≡ t)) (λ x. ((x.never ≡ i) × (x.allowed ≡ j) × (x.source ≡ s)) × (x.target ≡ t))
+      (λ x h. ((h.0, h.1, h.2), h.3)) (rows_at i j (classes i j) s t) (classes-of i j s t))
       (hits (tests.target i j s) 0 names) (hits-ascend (tests.target i j s) names 0)
 
   sources-sorted : (i j : ℕ) → IsStrictlySortedBy row_cmp (source_rows tests names i j)

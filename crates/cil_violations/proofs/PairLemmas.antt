@@ -1,5 +1,5 @@
 -- The types that two rules have in common.
-use Rattle.cil_violations.proofs.Common.{◌≡◌, ◌∙◌, ℕ, ◌+◌, ◌<◌, ◌&&◌, true, false, List, [], ◌∷◌, ◌++◌, length, get_or, take, slice_get, MatchOption, Option, None, Some, true≢false, refl, sym, ap, subst, arith, is_target_below, NumberedRule, aim_of, are_both_held, both_hold, is_held_in, is_known, symbols_in, if_there, hits, names_in, row_with, rows_of, rules_in, source_rows, sources_of, target_rows, targets_of, tests_of, IsSearch, Tests, NoneFromWord, IsFirstWordFrom, Search}
+use Rattle.cil_violations.proofs.Common.{◌≡◌, ◌∙◌, ℕ, ◌+◌, ◌<◌, ◌&&◌, true, false, List, [], ◌∷◌, ◌++◌, length, get_or, take, slice_get, MatchOption, Option, None, Some, true≢false, refl, sym, ap, subst, arith, is_target_below, NumberedRule, aim_of, are_both_held, both_hold, is_held_in, is_known, symbols_in, if_there, hits, names_in, rows_at, rows_of, rules_in, source_rows, sources_of, target_rows, targets_of, tests_of, IsSearch, Tests, NoneFromWord, IsFirstWordFrom, Search}
 use Rattle.std.specs.Option.{is_some}
 use Rattle.std.proofs.lemmas.Grind.{common_steps}
 use Rattle.cil_expression.specs.declared.expression.Element.{Element}
@@ -27,7 +27,7 @@ pub no-targets : (tests : Tests) (names never allowed : ℕ)
     → source_rows tests names never allowed ≡ []
 no-targets tests names never allowed none =
     flat-none (target_rows tests names never allowed)
-    (λ source. ap (flat_map (λ target. row_with never allowed source target ∷ [])) (sym (none source)))
+    (λ source. ap (flat_map (rows_at never allowed (hits (tests.the_class never allowed) 0 names) source)) (sym (none source)))
     (hits (tests.source never allowed) 0 names)
 
 module _ {A : Type 0} (s : Search A) (is : IsSearch s) (i : ℕ) (rule : NumberedRule A)

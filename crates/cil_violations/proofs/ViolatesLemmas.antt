@@ -1,7 +1,8 @@
 -- The rows that pass the tests are the violations of the policy, in order.
-use Rattle.cil_violations.proofs.Common.{◌≡◌, ◌≢◌, ◌∙◌, inl, inr, ℕ, ◌==◌, ◌&&◌, ◌<◌, Bool, true, List, [], ◌∷◌, length, map, Some, slice_get, Contains, bytes_eq, Ordering, Equal, refl, sym, ap, subst, arith, nat_lt, AllByRecursion, list_all, list_any, IsStrictlySortedBy, nat_cmp, ordering_then, Greater, ltb-true, and_parts, and_from, cases_order, tied_itself, get_or-map, length-map, slice_get_within, slice_get_read, get_or_from_slice_get, keeps_type, holds, aims, covers, AnyByRecursion, any_from, any-map, any_from_map, any_from_filter, any_from_test, contains_to, contains_from, any_weaker, all_weaker, sorted_map, all_from_contains, is_name_below, rule_of, element_of, resolved_target_of, declared_of, meaning_in, name_in, NumberedRule, ResolvedTarget, is_held_in, Violation, IsViolation, AreViolations, rule_cmp, violation_cmp, aim_of, is_among, share, shared, if_there, is_kind, rules_in, permissions_at, takes_source, takes_target, tests_of, all_rows, IsSearch, rule_in, no_rule, violation_by, IsRow, AreRows, RowNumbers, Search}
+use Rattle.cil_violations.proofs.Common.{◌≡◌, ◌≢◌, ◌↔◌, ◌∙◌, inl, inr, ℕ, ◌==◌, ◌&&◌, ◌<◌, Bool, true, List, [], ◌∷◌, length, map, Some, slice_get, Contains, bytes_eq, Ordering, refl, sym, ap, subst, arith, AllByRecursion, IsStrictlySortedBy, nat_cmp, nat_cmp_total, ordering_then, ltb-true, and_parts, and_from, eqb-true, eq-eqb, cases_lt, tied_itself, get_or-map, length-map, slice_get_within, slice_get_read, get_or_from_slice_get, keeps_type, holds, aims, covers, AnyByRecursion, any_from, any-map, any_from_map, any_from_filter, any_from_test, contains_to, contains_from, any_weaker, all_weaker, sorted_map, all_from_contains, is_name_below, rule_of, element_of, resolved_target_of, declared_of, given_in, meaning_in, name_in, NumberedRule, ResolvedTarget, Resolved, ClassPermission, is_held_in, Violation, IsViolation, AreViolations, rule_cmp, violation_cmp, aim_of, AreInOrder, is_among, of_class, or_else, set_gives_at, permission_cmp, share, shared, is_allow, is_kind, rules_in, permissions_at, takes_source, takes_target, tests_of, all_rows, IsSearch, rule_in, no_rule, violation_by, IsRow, AreRows, RowNumbers, Search}
 use Rattle.std.specs.Bool.{IsTrue}
-use Rattle.std.proofs.Common.{Less, eqb-true, eq-eqb}
+use Rattle.std.proofs.lemmas.List.{get_or_past}
+use Rattle.std.proofs.lemmas.Option.{slice_get_past}
 use Rattle.std.proofs.lemmas.List.Elements.{recursion_from_All, All-from_recursion}
 use Rattle.std.proofs.lemmas.List.Kept.{IsStrictlySortedBy-filter}
 use Rattle.cil_specs.specs.Statements.{allow, neverallow}
@@ -13,15 +14,11 @@ use Rattle.cil_text.specs.Image.{rule_kind_of}
 use Rattle.cil_resolve.specs.declared.numbered.ResolvedTarget.TheVariants as targets
 use Rattle.cil_resolve.proofs.RisingNames.{same-number}
 use Rattle.cil_specs.proofs.ViolationLemmas.{one-sorted, rule_total}
-use Rattle.cil_violations.proofs.OrderLemmas.{ranked, row_cmp, rows-sorted, less, greater}
+use Rattle.cil_violations.proofs.OrderLemmas.{ranked, row_cmp, rows-sorted}
 use Rattle.cil_violations.proofs.TestLemmas.{is-there, if-at}
 use Rattle.cil_violations.proofs.FoundLemmas.{Passes, found, passed}
-use Rattle.cil_violations.proofs.MeaningLemmas.{IsSound, rule-sound, witness, listed-to, listed-from, shared-to, shared-from, share-from, share-to, covers-to, covers-from, bytes-same}
-
-pub all-any : {X : Type 0} (p : X → Bool) (xs : List X) (x : X) → list_all p xs ≡ true → AnyByRecursion (λ y. y ≡ x) xs → p x ≡ true
-all-any p [] x all none = absurd none
-all-any p (y ∷ ys) x all (inl is) = subst (λ z. p z ≡ true) is (and_parts (p y) (list_all p ys) all).0
-all-any p (y ∷ ys) x all (inr later) = all-any p ys x (and_parts (p y) (list_all p ys) all).1 later
+use Rattle.cil_violations.proofs.ShareLemmas.{share-from, share-to}
+use Rattle.cil_violations.proofs.MeaningLemmas.{IsSound, rule-sound, given-rising, witness, all-any, shared-to, shared-from, share-class, class-shared, of_class-to, of_class-from, covers-to, covers-from, bytes-same}
 
 first-of : {X : Type 0} (xs : List X) → xs ≢ [] → (x : X) × Contains xs x
 first-of [] some = absurd (some refl)
@@ -30,10 +27,9 @@ first-of (x ∷ xs) some = (x, contains_from (x ∷ xs) x (inl refl))
 none-in : {X : Type 0} (xs : List X) (x : X) → Contains xs x → xs ≢ []
 none-in xs x there empty = elim (contains_to [] x (subst (λ l. Contains l x) empty there)) [ ]
 
-then-equal : (o : Ordering) → ordering_then o Equal ≡ o
-then-equal Less = refl
-then-equal Equal = refl
-then-equal Greater = refl
+none-rise : AreInOrder []
+unfolding IsStrictlySortedBy
+none-rise = tt
 
 module _ {A : Type 0} (s : Search A) (is : IsSearch s) where
   -- a row's rules, which meet at its source and target
@@ -44,10 +40,10 @@ module _ {A : Type 0} (s : Search A) (is : IsSearch s) where
     pub allowed_at : slice_get (rules_in s) row.allowed ≡ Some allowed
     pub forbids : is_kind 3 never ≡ true
     pub permits : is_kind 0 allowed ≡ true
-    pub the_class : (allowed.class == never.class) ≡ true
-    pub shares : share (permissions_at s row.never) (permissions_at s row.allowed) ≡ true
+    pub shares : share (of_class row.class (permissions_at s row.never)) (of_class row.class (permissions_at s row.allowed)) ≡ true
     pub source_low : row.source < length s.resolved.now.names.items
     pub target_low : row.target < length s.resolved.now.names.items
+    pub class_low : row.class < length s.resolved.now.names.items
     pub never_source : is_held_in s.members never.source row.source ≡ true
     pub allowed_source : is_held_in s.members allowed.source row.source ≡ true
     pub never_target : is_held_in s.members (aim_of never.target row.source) row.target ≡ true
@@ -56,11 +52,8 @@ module _ {A : Type 0} (s : Search A) (is : IsSearch s) where
   pub meets : (row : RowNumbers) → Passes (tests_of s) (length (rules_in s)) (length s.resolved.now.names.items) row → Meets row
   meets row p =
       let (n, n_at, n_kind) = is-there (is_kind 3) (slice_get (rules_in s) row.never) p.never in
-      let test = λ (x : NumberedRule A). if_there (λ a. is_kind 0 a && ((a.class == x.class) && share (permissions_at s row.never) (permissions_at s row.allowed))) (slice_get (rules_in s) row.allowed) in
-      let inner : test n ≡ true = sym (if-at test (slice_get (rules_in s) row.never) n n_at) ∙ p.pair in
-      let (a, a_at, both) = is-there (λ a. is_kind 0 a && ((a.class == n.class) && share (permissions_at s row.never) (permissions_at s row.allowed))) (slice_get (rules_in s) row.allowed) inner in
-      let parts = and_parts (is_kind 0 a) ((a.class == n.class) && share (permissions_at s row.never) (permissions_at s row.allowed)) both in
-      let rest = and_parts (a.class == n.class) (share (permissions_at s row.never) (permissions_at s row.allowed)) parts.1 in
+      let parts = and_parts (is_allow (rules_in s) row.allowed) (share (permissions_at s row.never) (permissions_at s row.allowed)) p.pair in
+      let (a, a_at, a_kind) = is-there (is_kind 0) (slice_get (rules_in s) row.allowed) parts.0 in
       let sources = and_parts (takes_source s row.never row.source) (takes_source s row.allowed row.source) p.source in
       let aimed = and_parts (takes_target s row.never row.source row.target) (takes_target s row.allowed row.source row.target) p.target in
       record {
@@ -69,11 +62,11 @@ module _ {A : Type 0} (s : Search A) (is : IsSearch s) where
         never_at = n_at;
         allowed_at = a_at;
         forbids = n_kind;
-        permits = parts.0;
-        the_class = rest.0;
-        shares = rest.1;
+        permits = a_kind;
+        shares = p.the_class;
         source_low = p.source_below;
         target_low = p.target_below;
+        class_low = p.class_below;
         never_source = sym (if-at (λ r. is_held_in s.members r.source row.source) (slice_get (rules_in s) row.never) n n_at) ∙ sources.0;
         allowed_source = sym (if-at (λ r. is_held_in s.members r.source row.source) (slice_get (rules_in s) row.allowed) a a_at) ∙ sources.1;
         never_target = sym (if-at (λ r. is_held_in s.members (aim_of r.target row.source) row.target) (slice_get (rules_in s) row.never) n n_at) ∙ aimed.0;
@@ -88,11 +81,14 @@ module _ {A : Type 0} (s : Search A) (is : IsSearch s) where
         allowed_below = slice_get_within (rules_in s) row.allowed m.allowed m.allowed_at;
         source_below = m.source_low;
         target_below = m.target_low;
+        class_below = m.class_low;
         never = if-at (is_kind 3) (slice_get (rules_in s) row.never) n m.never_at ∙ m.forbids;
         pair =
-            if-at (λ x. if_there (λ a. is_kind 0 a && ((a.class == x.class) && share (permissions_at s row.never) (permissions_at s row.allowed))) (slice_get (rules_in s) row.allowed)) (slice_get (rules_in s) row.never) n m.never_at
-            ∙ if-at (λ a. is_kind 0 a && ((a.class == n.class) && share (permissions_at s row.never) (permissions_at s row.allowed))) (slice_get (rules_in s) row.allowed) m.allowed m.allowed_at
-            ∙ and_from (is_kind 0 m.allowed) _ m.permits (and_from (m.allowed.class == n.class) (share (permissions_at s row.never) (permissions_at s row.allowed)) m.the_class m.shares);
+            let (g, here, there, same) = class-shared row.class (permissions_at s row.never) (permissions_at s row.allowed) m.shares in
+            and_from (is_allow (rules_in s) row.allowed) (share (permissions_at s row.never) (permissions_at s row.allowed))
+            (if-at (is_kind 0) (slice_get (rules_in s) row.allowed) m.allowed m.allowed_at ∙ m.permits)
+            (share-to (permissions_at s row.never) (permissions_at s row.allowed) g here there);
+        the_class = m.shares;
         source =
             and_from (takes_source s row.never row.source) (takes_source s row.allowed row.source)
             (if-at (λ r. is_held_in s.members r.source row.source) (slice_get (rules_in s) row.never) n m.never_at ∙ m.never_source)
@@ -103,6 +99,10 @@ module _ {A : Type 0} (s : Search A) (is : IsSearch s) where
             (if-at (λ r. is_held_in s.members (aim_of r.target row.source) row.target) (slice_get (rules_in s) row.allowed) m.allowed m.allowed_at ∙ m.allowed_target);
       }
 
+  -- what both rules of a row give of its class
+  abbrev pub both-in : RowNumbers → List ClassPermission
+  both-in row = shared (of_class row.class (permissions_at s row.never)) (of_class row.class (permissions_at s row.allowed))
+
   -- the violation of rules by numbers
   abbrev pub violation_of : (row : RowNumbers) → NumberedRule A → NumberedRule A → Violation
   violation_of row n a = record {
@@ -110,8 +110,8 @@ module _ {A : Type 0} (s : Search A) (is : IsSearch s) where
     allowed = rule_of s.resolved.now.modules.items s.resolved.now.names.items a;
     source = name_in s.resolved.now row.source;
     target = name_in s.resolved.now row.target;
-    the_class = name_in s.resolved.now n.class;
-    permissions = map (name_in s.resolved.now) (shared (permissions_at s row.never) (permissions_at s row.allowed));
+    the_class = name_in s.resolved.now row.class;
+    permissions = map (λ g. name_in s.resolved.now g.permission) (both-in row);
   }
 
   rule-named : (i : ℕ) (rule : NumberedRule A) → slice_get (rules_in s) i ≡ Some rule → rule_in s.resolved.now i ≡ rule_of s.resolved.now.modules.items s.resolved.now.names.items rule
@@ -128,8 +128,8 @@ module _ {A : Type 0} (s : Search A) (is : IsSearch s) where
         allowed = a k;
         source = name_in s.resolved.now row.source;
         target = name_in s.resolved.now row.target;
-        the_class = (n k).the_class;
-        permissions = map (name_in s.resolved.now) (shared (permissions_at s row.never) (permissions_at s row.allowed));
+        the_class = name_in s.resolved.now row.class;
+        permissions = map (λ g. name_in s.resolved.now g.permission) (both-in row);
       }
 
   rule-there : (i : ℕ) (rule : NumberedRule A) → slice_get (rules_in s) i ≡ Some rule → Contains (meaning_in s.resolved.now).rules (rule_of s.resolved.now.modules.items s.resolved.now.names.items rule)
@@ -139,62 +139,86 @@ module _ {A : Type 0} (s : Search A) (is : IsSearch s) where
       (any-map f (λ y. y ≡ f rule) (rules_in s)
       (any_weaker (λ x. x ≡ rule) (λ x. f x ≡ f rule) (λ x e. ap f e) (rules_in s) (contains_to (rules_in s) rule (i, slice_get_within (rules_in s) i rule at, get_or_from_slice_get (rules_in s) i rule rule at))))
 
-  permission-low : (rule : NumberedRule A) → IsSound s.resolved.now rule → (q : ℕ) → Contains rule.permissions q → q < length s.resolved.now.names.items
-  permission-low rule sound q there =
-      ltb-true q (length s.resolved.now.names.items) (all-any (λ p. nat_lt p (length s.resolved.now.names.items)) rule.permissions q sound.permissions_below (contains_to rule.permissions q there))
-
   module _ (row : RowNumbers) (m : Meets row) where
-    first : List ℕ
+    abbrev r : Resolved A
+    r = s.resolved.now
+
+    abbrev name : ClassPermission → List ℕ
+    name g = name_in r g.permission
+
+    -- what a rule gives, as it is listed
+    abbrev first : List ClassPermission
     first = permissions_at s row.never
 
-    never_sound : IsSound s.resolved.now m.never
-    never_sound = rule-sound s.resolved.now row.never m.never m.never_at
+    abbrev second : List ClassPermission
+    second = permissions_at s row.allowed
 
-    allowed_sound : IsSound s.resolved.now m.allowed
-    allowed_sound = rule-sound s.resolved.now row.allowed m.allowed m.allowed_at
+    never_sound : IsSound r m.never
+    never_sound = rule-sound r row.never m.never m.never_at
 
-    classes : name_in s.resolved.now m.allowed.class ≡ name_in s.resolved.now m.never.class
-    classes = ap (name_in s.resolved.now) (eqb-true m.allowed.class m.never.class m.the_class)
+    allowed_sound : IsSound r m.allowed
+    allowed_sound = rule-sound r row.allowed m.allowed m.allowed_at
 
-    covered : (p : List ℕ) → Contains (map (name_in s.resolved.now) (shared (permissions_at s row.never) (permissions_at s row.allowed))) p
-        → (covers (meaning_in s.resolved.now) (violation_of row m.never m.allowed).never (name_in s.resolved.now row.source) (name_in s.resolved.now row.target) (name_in s.resolved.now m.never.class) p
-        && covers (meaning_in s.resolved.now) (violation_of row m.never m.allowed).allowed (name_in s.resolved.now row.source) (name_in s.resolved.now row.target) (name_in s.resolved.now m.never.class) p) ≡ true
+    in_never : (g : ClassPermission) → Contains first g ↔ Contains (given_in m.never.permissions) g
+    in_never g = (is.permissions.each row.never m.never m.never_at).same g
+
+    in_allowed : (g : ClassPermission) → Contains second g ↔ Contains (given_in m.allowed.permissions) g
+    in_allowed g = (is.permissions.each row.allowed m.allowed m.allowed_at).same g
+
+    -- what both rules cover at the source, the target and the class
+    abbrev both-cover : List ℕ → Bool
+    both-cover p =
+        covers (meaning_in r) (violation_of row m.never m.allowed).never (name_in r row.source) (name_in r row.target) (name_in r row.class) p
+        && covers (meaning_in r) (violation_of row m.never m.allowed).allowed (name_in r row.source) (name_in r row.target) (name_in r row.class) p
+
+    covered : (p : List ℕ) → Contains (map name (both-in row)) p → both-cover p ≡ true
     covered p there =
-        let r = s.resolved.now in
-        let name = name_in r in
-        let (q, here, also, p_is) = shared-from name (permissions_at s row.never) (permissions_at s row.allowed) p there in
-        let in_never = ((is.permissions.each row.never m.never m.never_at).same q).0 here in
-        let in_allowed = ((is.permissions.each row.allowed m.allowed m.allowed_at).same q).0 also in
-        and_from _ _
-        (covers-to r s.members is.members m.never never_sound row.source row.target m.source_low m.target_low m.never_source m.never_target (name m.never.class) p refl
-        (subst (λ t. list_any (bytes_eq t) (map name m.never.permissions) ≡ true) (sym p_is) (listed-to name m.never.permissions q in_never)))
-        (covers-to r s.members is.members m.allowed allowed_sound row.source row.target m.source_low m.target_low m.allowed_source m.allowed_target (name m.never.class) p classes
-        (subst (λ t. list_any (bytes_eq t) (map name m.allowed.permissions) ≡ true) (sym p_is) (listed-to name m.allowed.permissions q in_allowed)))
+        let (g, here, also, p_is) = shared-from name (of_class row.class first) (of_class row.class second) p there in
+        let (one, same) = of_class-from row.class first g here in
+        let (other, again) = of_class-from row.class second g also in
+        let never =
+        covers-to r s.members is.members m.never never_sound row.source row.target m.source_low m.target_low m.never_source m.never_target g ((in_never g).0 one) in
+        let allowed =
+        covers-to r s.members is.members m.allowed allowed_sound row.source row.target m.source_low m.target_low m.allowed_source m.allowed_target g ((in_allowed g).0 other) in
+        (λ k. covers (meaning_in r) (violation_of row m.never m.allowed).never (name_in r row.source) (name_in r row.target) (name_in r (sym same k)) (p_is k)
+        && covers (meaning_in r) (violation_of row m.never m.allowed).allowed (name_in r row.source) (name_in r row.target) (name_in r (sym same k)) (p_is k))
+        ∙ and_from _ _ never allowed
 
-    uncovered : (p : List ℕ) → (covers (meaning_in s.resolved.now) (violation_of row m.never m.allowed).never (name_in s.resolved.now row.source) (name_in s.resolved.now row.target) (name_in s.resolved.now m.never.class) p
-        && covers (meaning_in s.resolved.now) (violation_of row m.never m.allowed).allowed (name_in s.resolved.now row.source) (name_in s.resolved.now row.target) (name_in s.resolved.now m.never.class) p) ≡ true
-        → Contains (map (name_in s.resolved.now) (shared (permissions_at s row.never) (permissions_at s row.allowed))) p
+    -- a number of the class that both give, where both cover a permission
+    uncovered : (p : List ℕ) → both-cover p ≡ true → Contains (map name (both-in row)) p
     uncovered p both =
-        let r = s.resolved.now in
-        let name = name_in r in
         let parts = and_parts _ _ both in
-        let one = covers-from r s.members is.members m.never never_sound row.source row.target m.source_low m.target_low (name m.never.class) p parts.0 in
-        let two = covers-from r s.members is.members m.allowed allowed_sound row.source row.target m.source_low m.target_low (name m.never.class) p parts.1 in
-        let (q, here, q_is) = listed-from name p m.never.permissions one.3 in
-        let (k, there, k_is) = listed-from name p m.allowed.permissions two.3 in
-        let same = same-number r.names.items q k r.ordered (permission-low m.never never_sound q here) (permission-low m.allowed allowed_sound k there) (sym q_is ∙ k_is) in
-        subst (Contains (map name (shared (permissions_at s row.never) (permissions_at s row.allowed)))) (sym q_is)
-        (shared-to name (permissions_at s row.never) (permissions_at s row.allowed) q (((is.permissions.each row.never m.never m.never_at).same q).1 here)
-        (((is.permissions.each row.allowed m.allowed m.allowed_at).same q).1 (subst (Contains m.allowed.permissions) (sym same) there)))
+        let one = covers-from r s.members is.members m.never never_sound row.source row.target m.source_low m.target_low (name_in r row.class) p parts.0 in
+        let two = covers-from r s.members is.members m.allowed allowed_sound row.source row.target m.source_low m.target_low (name_in r row.class) p parts.1 in
+        let (g, here, g_class, g_is) = one.2 in
+        let (h, there, h_class, h_is) = two.2 in
+        let g_low = never_sound.given_below g here in
+        let h_low = allowed_sound.given_below h there in
+        let g_at = same-number r.names.items g.class row.class r.ordered g_low.0 m.class_low g_class in
+        let h_at = same-number r.names.items h.class row.class r.ordered h_low.0 m.class_low h_class in
+        let permission = same-number r.names.items h.permission g.permission r.ordered h_low.1 g_low.1 (sym h_is ∙ g_is) in
+        let same : h ≡ g = λ k. record { class = (h_at ∙ sym g_at) k; permission = permission k } in
+        subst (Contains (map name (both-in row))) (sym g_is)
+        (shared-to name (of_class row.class first) (of_class row.class second) g (of_class-to row.class first g ((in_never g).1 here) g_at)
+        (of_class-to row.class second g ((in_allowed g).1 (subst (Contains (given_in m.allowed.permissions)) same there)) g_at))
 
-    shared-low : AllByRecursion (λ k. k < length s.resolved.now.names.items) (shared (permissions_at s row.never) (permissions_at s row.allowed))
-    shared-low =
-        recursion_from_All (λ k. k < length s.resolved.now.names.items) (shared (permissions_at s row.never) (permissions_at s row.allowed))
-        (all_from_contains (λ k. k < length s.resolved.now.names.items) (shared (permissions_at s row.never) (permissions_at s row.allowed))
-        (λ k c.
-        let (j, here, at) = witness (λ j. (j ≡ k) × IsTrue (is_among (permissions_at s row.allowed) j)) (permissions_at s row.never)
-        (any_from_filter (is_among (permissions_at s row.allowed)) (λ j. j ≡ k) (permissions_at s row.never) (contains_to (shared (permissions_at s row.never) (permissions_at s row.allowed)) k c)) in
-        subst (λ i. i < length s.resolved.now.names.items) at.0 (permission-low m.never never_sound j (((is.permissions.each row.never m.never m.never_at).same j).0 here))))
+    -- what both give of the class, in order
+    of-class-low : AllByRecursion (λ g. (g.class ≡ row.class) × (g.permission < length r.names.items)) (both-in row)
+    of-class-low =
+        recursion_from_All (λ g. (g.class ≡ row.class) × (g.permission < length r.names.items)) (both-in row)
+        (all_from_contains (λ g. (g.class ≡ row.class) × (g.permission < length r.names.items)) (both-in row)
+        (λ g c.
+        let (x, here, at) = witness (λ x. (x ≡ g) × IsTrue (is_among (of_class row.class second) x)) (of_class row.class first)
+        (any_from_filter (is_among (of_class row.class second)) (λ x. x ≡ g) (of_class row.class first) (contains_to (both-in row) g c)) in
+        let (there, same) = of_class-from row.class first x here in
+        subst (λ (y : ClassPermission). (y.class ≡ row.class) × (y.permission < length r.names.items)) at.0
+        (same, (never_sound.given_below x ((in_never x).0 there)).1)))
+
+    names-rise : (x y : ClassPermission) → (x.class ≡ row.class) × (x.permission < length r.names.items) → (y.class ≡ row.class) × (y.permission < length r.names.items)
+        → name_cmp (name x) (name y) ≡ permission_cmp x y
+    names-rise x y px py =
+        ranked name_cmp name_total r.names.items [] (sorted_from_names_rise r.names.items r.ordered) x.permission y.permission px.1 py.1
+        ∙ sym (ap (λ o. ordering_then o (nat_cmp x.permission y.permission)) (ap (nat_cmp x.class) (py.0 ∙ sym px.0) ∙ tied_itself nat_cmp_total x.class))
 
     pub violates : IsViolation (meaning_in s.resolved.now) (violation_of row m.never m.allowed)
     violates = record {
@@ -203,14 +227,12 @@ module _ {A : Type 0} (s : Search A) (is : IsSearch s) where
       allowed = rule-there row.allowed m.allowed m.allowed_at;
       permits = same-kind (rule_kind_of m.allowed.kind) allow (eqb-true (kind_index (rule_kind_of m.allowed.kind)) 0 m.permits);
       some =
-          let (q, here, also) = share-from (permissions_at s row.never) (permissions_at s row.allowed) m.shares in
-          none-in (map (name_in s.resolved.now) (shared (permissions_at s row.never) (permissions_at s row.allowed))) (name_in s.resolved.now q)
-          (shared-to (name_in s.resolved.now) (permissions_at s row.never) (permissions_at s row.allowed) q here also);
+          let (g, here, also) = share-from (of_class row.class first) (of_class row.class second) m.shares in
+          none-in (map name (both-in row)) (name g) (shared-to name (of_class row.class first) (of_class row.class second) g here also);
       ordered =
-          sorted_map (name_in s.resolved.now) nat_cmp name_cmp (λ k. k < length s.resolved.now.names.items)
-          (λ x y px py. ranked name_cmp name_total s.resolved.now.names.items [] (sorted_from_names_rise s.resolved.now.names.items s.resolved.now.ordered) x y px py)
-          (shared (permissions_at s row.never) (permissions_at s row.allowed)) shared-low
-          (IsStrictlySortedBy-filter nat_cmp (is_among (permissions_at s row.allowed)) (permissions_at s row.never) (is.permissions.each row.never m.never m.never_at).rising);
+          sorted_map name permission_cmp name_cmp (λ g. (g.class ≡ row.class) × (g.permission < length r.names.items)) names-rise (both-in row) of-class-low
+          (IsStrictlySortedBy-filter permission_cmp (is_among (of_class row.class second)) (of_class row.class first)
+          (IsStrictlySortedBy-filter permission_cmp (λ g. g.class == row.class) first (is.permissions.each row.never m.never m.never_at).rising));
       exact = λ p. (covered p, uncovered p);
     }
 
@@ -262,11 +284,14 @@ module _ {A : Type 0} (s : Search A) (is : IsSearch s) where
       covers-from r s.members is.members n n_sound source target source_low target_low v.the_class p (subst (λ t. covers m (f n) t (name target) v.the_class p ≡ true) source_is (subst (λ t. covers m (f n) v.source t v.the_class p ≡ true) target_is n_covers)) in
       let two =
       covers-from r s.members is.members a a_sound source target source_low target_low v.the_class p (subst (λ t. covers m (f a) t (name target) v.the_class p ≡ true) source_is (subst (λ t. covers m (f a) v.source t v.the_class p ≡ true) target_is a_covers)) in
-      let same_class = same-number r.names.items a.class n.class r.ordered a_sound.class_below n_sound.class_below (two.2 ∙ sym one.2) in
-      let (q, here, q_is) = listed-from name p n.permissions one.3 in
-      let (k, there, k_is) = listed-from name p a.permissions two.3 in
-      let same = same-number r.names.items q k r.ordered (permission-low n n_sound q here) (permission-low a a_sound k there) (sym q_is ∙ k_is) in
-      let row : RowNumbers = record { never = i; allowed = j; source = source; target = target } in
+      let (g, here, g_class, g_is) = one.2 in
+      let (h, there, h_class, h_is) = two.2 in
+      let g_low = n_sound.given_below g here in
+      let h_low = a_sound.given_below h there in
+      let classes = same-number r.names.items h.class g.class r.ordered h_low.0 g_low.0 (h_class ∙ sym g_class) in
+      let permission = same-number r.names.items h.permission g.permission r.ordered h_low.1 g_low.1 (sym h_is ∙ g_is) in
+      let same : h ≡ g = λ k. record { class = classes k; permission = permission k } in
+      let row : RowNumbers = record { never = i; allowed = j; source = source; target = target; class = g.class } in
       let met : Meets row = record {
         never = n;
         allowed = a;
@@ -274,26 +299,26 @@ module _ {A : Type 0} (s : Search A) (is : IsSearch s) where
         allowed_at = a_at;
         forbids = eq-eqb (kind_index (rule_kind_of n.kind)) 3 (ap (λ x. kind_index x.kind) n_is ∙ ap kind_index violation.forbids);
         permits = eq-eqb (kind_index (rule_kind_of a.kind)) 0 (ap (λ x. kind_index x.kind) a_is ∙ ap kind_index violation.permits);
-        the_class = eq-eqb a.class n.class same_class;
         shares =
-            share-to (permissions_at s i) (permissions_at s j) q (((is.permissions.each i n n_at).same q).1 here)
-            (((is.permissions.each j a a_at).same q).1 (subst (Contains a.permissions) (sym same) there));
+            share-class g.class (permissions_at s i) (permissions_at s j) g refl (((is.permissions.each i n n_at).same g).1 here)
+            (((is.permissions.each j a a_at).same g).1 (subst (Contains (given_in a.permissions)) same there));
         source_low = source_low;
         target_low = target_low;
+        class_low = g_low.0;
         never_source = one.0;
         allowed_source = two.0;
         never_target = one.1;
         allowed_target = two.1;
       } in
-      (row, met, by-rules row met ∙ same-violation row met v violation n_is a_is (sym source_is) (sym target_is) one.2)
+      (row, met, by-rules row met ∙ same-violation row met v violation n_is a_is (sym source_is) (sym target_is) g_class)
     where
       same-violation : (row : RowNumbers) (met : Meets row) (v : Violation) → IsViolation (meaning_in s.resolved.now) v → (violation_of row met.never met.allowed).never ≡ v.never → (violation_of row met.never met.allowed).allowed ≡ v.allowed
-          → name_in s.resolved.now row.source ≡ v.source → name_in s.resolved.now row.target ≡ v.target → name_in s.resolved.now met.never.class ≡ v.the_class → violation_of row met.never met.allowed ≡ v
+          → name_in s.resolved.now row.source ≡ v.source → name_in s.resolved.now row.target ≡ v.target → name_in s.resolved.now row.class ≡ v.the_class → violation_of row met.never met.allowed ≡ v
       same-violation row met v violation n_is a_is source_is target_is class_is =
           let m = meaning_in s.resolved.now in
           let w = violates row met in
-          let cover : (p : List ℕ) → (covers m (violation_of row met.never met.allowed).never (name_in s.resolved.now row.source) (name_in s.resolved.now row.target) (name_in s.resolved.now met.never.class) p
-          && covers m (violation_of row met.never met.allowed).allowed (name_in s.resolved.now row.source) (name_in s.resolved.now row.target) (name_in s.resolved.now met.never.class) p)
+          let cover : (p : List ℕ) → (covers m (violation_of row met.never met.allowed).never (name_in s.resolved.now row.source) (name_in s.resolved.now row.target) (name_in s.resolved.now row.class) p
+          && covers m (violation_of row met.never met.allowed).allowed (name_in s.resolved.now row.source) (name_in s.resolved.now row.target) (name_in s.resolved.now row.class) p)
           ≡ (covers m v.never v.source v.target v.the_class p && covers m v.allowed v.source v.target v.the_class p) =
           λ p k. covers m (n_is k) (source_is k) (target_is k) (class_is k) p && covers m (a_is k) (source_is k) (target_is k) (class_is k) p in
           let listed = (violation_of row met.never met.allowed).permissions in
@@ -320,24 +345,8 @@ module _ {A : Type 0} (s : Search A) (is : IsSearch s) where
       let allowed = ranked rule_cmp rule_total rules no_rule ascend x.allowed y.allowed (omega (arith, x_allowed, mapped)) (omega (arith, y_allowed, mapped)) in
       let source = ranked name_cmp name_total r.names.items [] rise x.source y.source px.source_below py.source_below in
       let target = ranked name_cmp name_total r.names.items [] rise x.target y.target px.target_below py.target_below in
-      (λ k. ordering_then (never k) (ordering_then (allowed k) (ordering_then (source k) (ordering_then (target k) (name_cmp (rule_in r x.never).the_class (rule_in r y.never).the_class)))))
-      ∙ by-class x y (nat_cmp x.allowed y.allowed) (nat_cmp x.source y.source) (nat_cmp x.target y.target) (λ i. (rule_in r i).the_class)
-    where
-      by-class : (x y : RowNumbers) (b c d : Ordering) (class_at : ℕ → List ℕ) → ordering_then (nat_cmp x.never y.never) (ordering_then b (ordering_then c (ordering_then d (name_cmp (class_at x.never) (class_at y.never)))))
-          ≡ ordering_then (nat_cmp x.never y.never) (ordering_then b (ordering_then c d))
-      by-class x y b c d class_at = elim (cases_order x.never y.never) [
-        | inl same ↦
-            ap (λ o. ordering_then (nat_cmp x.never y.never) (ordering_then b (ordering_then c o)))
-            (ap (ordering_then d) (ap (λ i. name_cmp (class_at x.never) (class_at i)) (sym same) ∙ tied_itself name_total (class_at x.never)) ∙ then-equal d)
-        | inr order ↦ elim order [
-          | inl low ↦
-              ap (λ o. ordering_then o (ordering_then b (ordering_then c (ordering_then d (name_cmp (class_at x.never) (class_at y.never)))))) (less x.never y.never low)
-              ∙ sym (ap (λ o. ordering_then o (ordering_then b (ordering_then c d))) (less x.never y.never low))
-          | inr high ↦
-              ap (λ o. ordering_then o (ordering_then b (ordering_then c (ordering_then d (name_cmp (class_at x.never) (class_at y.never)))))) (greater x.never y.never high)
-              ∙ sym (ap (λ o. ordering_then o (ordering_then b (ordering_then c d))) (greater x.never y.never high))
-        ]
-      ]
+      let the_class = ranked name_cmp name_total r.names.items [] rise x.class y.class px.class_below py.class_below in
+      λ k. ordering_then (never k) (ordering_then (allowed k) (ordering_then (source k) (ordering_then (target k) (the_class k))))
 
   all-pass : (rows : List RowNumbers) → ((x : RowNumbers) → AnyByRecursion (λ y. y ≡ x) rows → Passes (tests_of s) (length (rules_in s)) (length s.resolved.now.names.items) x)
       → AllByRecursion (Passes (tests_of s) (length (rules_in s)) (length s.resolved.now.names.items)) rows
@@ -368,15 +377,23 @@ module _ {A : Type 0} (s : Search A) (is : IsSearch s) where
       }
 
   -- and there are rules at their places
-  pub are-rows : (permissions : List (List ℕ)) → length permissions ≡ length (rules_in s) → AreRows s.resolved.now permissions (all_rows (tests_of s) (length (rules_in s)) (length s.resolved.now.names.items))
-  are-rows permissions len =
+  pub are-rows : AreRows s.resolved.now s.permissions.now.0 (all_rows (tests_of s) (length (rules_in s)) (length s.resolved.now.names.items))
+  are-rows =
       let rows = all_rows (tests_of s) (length (rules_in s)) (length s.resolved.now.names.items) in
       let rules = (meaning_in s.resolved.now).rules in
       let mapped : length rules ≡ length (rules_in s) = length-map (rules_in s) (rule_of s.resolved.now.modules.items s.resolved.now.names.items) in
       record {
-        len = len ∙ sym mapped;
+        listed = record { len = is.permissions.len; rising = all-rising };
         each =
             All-from_recursion (IsRow (length rules)) rows
             (all_weaker (Passes (tests_of s) (length (rules_in s)) (length s.resolved.now.names.items)) (IsRow (length rules))
             (λ x p. record { never = subst (λ n. x.never < n) (sym mapped) p.never_below; allowed = subst (λ n. x.allowed < n) (sym mapped) p.allowed_below }) rows rows-pass);
       }
+    where
+      all-rising : (i : ℕ) → AreInOrder (permissions_at s i)
+      all-rising i = elim (cases_lt i (length (rules_in s))) [
+        | inl low ↦ given-rising s.resolved.now s.permissions.now.0 is.permissions i low
+        | inr past ↦
+            let len = is.permissions.len in
+            subst AreInOrder (sym (λ k. or_else (get_or_past s.permissions.now.0 i [] (omega (arith, past, len)) k) (set_gives_at (slice_get_past (rules_in s) i past k)))) none-rise
+      ]

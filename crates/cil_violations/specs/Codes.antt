@@ -1,7 +1,9 @@
--- The code of an expression of names, by which a proof tells two rules apart: its nodes, each behind those of its operands.
+-- The code of a rule's permissions, by which a proof tells two rules apart; that of an expression of names is its nodes, each behind those
+-- of its operands.
 use Rattle.std.specs.Prelude.{◌≡◌, ℕ, zero, suc, List, [], ◌∷◌, refl}
 use Rattle.std.specs.Coded.{Coded, code_by, coded_ℕ, coded_list, coded×}
 use Rattle.cil_specs.specs.Expr.{Expr, every, named, opposite, both, either, one_of, nothing, elements}
+use Rattle.cil_specs.specs.Rule.{ResolvedPermissions, of_class, of_set}
 use mathlib.Core.Path.{◌∙◌, ap}
 
 -- a node: what it is, and the name of a leaf
@@ -53,3 +55,23 @@ nodes-applied (elements x more) rest stack = nodes-applied x (nodes more ((7, []
 abbrev pub coded_expr : Coded (Expr (List ℕ))
 coded_expr =
     code_by (List Node) (coded_list (coded× coded_ℕ (coded_list coded_ℕ))) (λ e. nodes e []) (λ list. first (all_applied list [])) (λ e. ap first (nodes-applied e [] []))
+
+-- what permissions are of: a class and an expression, or a set
+abbrev Parts : Type 0
+Parts = ℕ × (List ℕ × Expr (List ℕ))
+
+abbrev parts : ResolvedPermissions → Parts
+parts (of_class the_class e) = (0, (the_class, e))
+parts (of_set set) = (1, (set, nothing))
+
+abbrev of_parts : Parts → ResolvedPermissions
+of_parts (zero, (name, e)) = of_class name e
+of_parts (suc n, (name, e)) = of_set name
+
+-- and they give it back
+pub parts-back : (p : ResolvedPermissions) → of_parts (parts p) ≡ p
+parts-back (of_class the_class e) = refl
+parts-back (of_set set) = refl
+
+abbrev pub coded_permissions : Coded ResolvedPermissions
+coded_permissions = code_by Parts (coded× coded_ℕ (coded× (coded_list coded_ℕ) coded_expr)) parts of_parts parts-back

@@ -1,16 +1,15 @@
--- The numbers at which a test holds, the first of them from a number on, and the words of 64 numbers that they stand in.
-use Rattle.std.specs.Prelude.{◌≡◌, ◌==◌, ◌*◌, ◌/◌, ◌+◌, ◌<◌, ◌≤◌, ℕ, Bool, IsTrue, false}
+-- The numbers at which a test holds, and the words of 64 numbers that they stand in.
+use Rattle.std.specs.Prelude.{◌≡◌, ◌==◌, ◌*◌, ◌/◌, ◌+◌, ◌<◌, ◌≤◌, ℕ, zero, suc, Bool, IsTrue, false, List, [], ◌∷◌, if◌then◌else◌}
 use Rattle.std.specs.Int.{bit_at}
+
+-- the numbers from one on, so many of them, at which it holds
+abbrev pub hits : (ℕ → Bool) → ℕ → ℕ → List ℕ
+hits test from zero = []
+hits test from (suc n) = if test from then from ∷ hits test (suc from) n else hits test (suc from) n
 
 -- it holds at no number from one on
 abbrev pub NoneFrom : (ℕ → Bool) → ℕ → Type 0
 NoneFrom test from = (n : ℕ) → from ≤ n → test n ≡ false
-
--- the first number from one on at which it holds
-pub record IsFirstFrom (test : ℕ → Bool) (from first : ℕ) : Type 0 where
-  pub from_on : from ≤ first
-  pub holds : IsTrue (test first)
-  pub before : (n : ℕ) → from ≤ n → n < first → test n ≡ false
 
 -- the bits of the word at an index tell its 64 numbers
 abbrev pub IsWordOf : (ℕ → Bool) → ℕ → ℕ → Type 0

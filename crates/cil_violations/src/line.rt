@@ -1,15 +1,15 @@
 //! Writes violations as lines.
 
 ghost use Rattle.std.specs.Prelude.{◌≡◌, ◌<◌, ◌≤◌, length, OnOk, OnErr};
-ghost use Rattle.cil_violations.specs.Common.{flat_map, HasFailed, Gains, GainsFront, meaning_in, violation_line, rule_in, place_text, rule_text, access_text, head_text, shared_text, violation_by, IsRow};
+ghost use Rattle.cil_violations.specs.Common.{flat_map, HasFailed, Gains, GainsFront, AreInOrder, meaning_in, violation_line, rule_in, place_text, rule_text, access_text, head_by, shared_text, violation_by, AreLists, IsRow};
 ghost use Rattle.cil_specs.specs.Statements.{rule_word};
 ghost use Rattle.cil_text.specs.Image.{place_of, rule_kind_of};
 ghost use Rattle.cil_resolve.specs.Views.{rule_seen, rule_head};
 
-use crate::permissions::is_among;
+use crate::permissions::{given_at, is_among, of_class};
 use crate::row::RowNumbers;
 use cil_parse::Lists;
-use cil_resolve::{Resolved, RuleView};
+use cil_resolve::{ClassPermission, Resolved, RuleView};
 use cil_stream::{Sink, SinkFault, write_all, write_pieces};
 use cil_text::{Place, RuleKind};
 use itoa::Buffer;
@@ -81,38 +81,43 @@ fn write_access<W: Sink>(
     write_pieces(sink, &[source, b" ", target, b":", class, b" { "])
 }
 
-/// Writes a line up to its permissions.
-fn write_head<W: Sink>(
+/// Writes the line of a violation up to its permissions.
+fn write_head<W: Sink, A: Allocator>(
     sink: &mut W,
-    never: &RuleView<'_>,
-    allowed: &RuleView<'_>,
-    source: &[u8],
-    target: &[u8],
+    resolved: &Resolved<A>,
+    row: &RowNumbers,
 ) -> Result<(), SinkFault>
-    ensures ok { OnOk result (Gains (W.taken sink.old) (W.taken sink.new) (head_text (rule_seen never.now) (rule_seen allowed.now) source.now target.now)) }
-    ensures err { OnErr result (GainsFront (W.taken sink.old) (W.taken sink.new) (head_text (rule_seen never.now) (rule_seen allowed.now) source.now target.now)) }
+    requires { IsRow (length (meaning_in resolved.now).rules) row.now }
+    ensures ok { OnOk result (Gains (W.taken sink.old) (W.taken sink.new) (head_by resolved.now row.now)) }
+    ensures err { OnErr result (GainsFront (W.taken sink.old) (W.taken sink.new) (head_by resolved.now row.now)) }
     ensures failed { OnErr result (HasFailed (W.failures sink.old) (W.failures sink.new)) }
     ensures counted { W.failures sink.old ≤ W.failures sink.new }
 {
-    write_rule(sink, never)?;
-    write_rule(sink, allowed)?;
-    write_access(sink, source, target, never.class)
+    let never = rule_at(resolved, row.never);
+    let allowed = rule_at(resolved, row.allowed);
+    let source = resolved.name(row.source);
+    let target = resolved.name(row.target);
+    let class = resolved.name(row.class);
+    write_rule(sink, &never)?;
+    write_rule(sink, &allowed)?;
+    write_access(sink, source, target, class)
 }
 
 /// Writes the name of a permission and a space, if the permission is among others.
 fn write_permission<W: Sink, A: Allocator>(
     sink: &mut W,
     resolved: &Resolved<A>,
-    permission: usize,
-    others: &[usize],
+    permission: ClassPermission,
+    others: &[ClassPermission],
 ) -> Result<(), SinkFault>
+    requires { AreInOrder others.now }
     ensures ok { OnOk result (Gains (W.taken sink.old) (W.taken sink.new) (shared_text resolved.now others.now permission)) }
     ensures err { OnErr result (GainsFront (W.taken sink.old) (W.taken sink.new) (shared_text resolved.now others.now permission)) }
     ensures failed { OnErr result (HasFailed (W.failures sink.old) (W.failures sink.new)) }
     ensures counted { W.failures sink.old ≤ W.failures sink.new }
 {
     if is_among(permission, others) {
-        write_pieces(sink, &[resolved.name(permission), b" "])
+        write_pieces(sink, &[resolved.name(permission.permission), b" "])
     } else {
         Ok(())
     }
@@ -122,9 +127,10 @@ fn write_permission<W: Sink, A: Allocator>(
 fn write_permissions<W: Sink, A: Allocator>(
     sink: &mut W,
     resolved: &Resolved<A>,
-    never: &[usize],
-    allowed: &[usize],
+    never: &[ClassPermission],
+    allowed: &[ClassPermission],
 ) -> Result<(), SinkFault>
+    requires { AreInOrder allowed.now }
     ensures ok { OnOk result (Gains (W.taken sink.old) (W.taken sink.new) (flat_map (shared_text resolved.now allowed.now) never.now)) }
     ensures err { OnErr result (GainsFront (W.taken sink.old) (W.taken sink.new) (flat_map (shared_text resolved.now allowed.now) never.now)) }
     ensures failed { OnErr result (HasFailed (W.failures sink.old) (W.failures sink.new)) }
@@ -147,27 +153,24 @@ pub fn rule_at<A: Allocator>(resolved: &Resolved<A>, i: usize) -> RuleView<'_>
     rule
 }
 
-/// Writes the line of a violation, by the permissions of each rule in order.
+/// Writes the line of a violation, by lists of what rules give.
 pub fn write_line<W: Sink, A: Allocator>(
     sink: &mut W,
     resolved: &Resolved<A>,
-    permissions: &Lists<usize, A>,
+    permissions: &Lists<ClassPermission, A>,
     row: &RowNumbers,
 ) -> Result<(), SinkFault>
     requires row { IsRow (length (meaning_in resolved.now).rules) row.now }
-    requires permissions { length permissions.now.0 ≡ length (meaning_in resolved.now).rules }
+    requires permissions { AreLists resolved.now permissions.now.0 }
     ensures ok { OnOk result (Gains (W.taken sink.old) (W.taken sink.new) (violation_line (violation_by resolved.now permissions.now.0 row.now))) }
     ensures err { OnErr result (GainsFront (W.taken sink.old) (W.taken sink.new) (violation_line (violation_by resolved.now permissions.now.0 row.now))) }
     ensures failed { OnErr result (HasFailed (W.failures sink.old) (W.failures sink.new)) }
     ensures counted { W.failures sink.old ≤ W.failures sink.new }
 {
-    let never = rule_at(resolved, row.never);
-    let allowed = rule_at(resolved, row.allowed);
-    let source = resolved.name(row.source);
-    let target = resolved.name(row.target);
-    write_head(sink, &never, &allowed, source, target)?;
-    let never_permissions = permissions.get(row.never);
-    let allowed_permissions = permissions.get(row.allowed);
-    write_permissions(sink, resolved, never_permissions, allowed_permissions)?;
+    write_head(sink, resolved, row)?;
+    let rules = resolved.rules();
+    let never = of_class(given_at(rules, permissions, row.never), row.class);
+    let allowed = of_class(given_at(rules, permissions, row.allowed), row.class);
+    write_permissions(sink, resolved, never, allowed)?;
     write_all(sink, b"};\n")
 }

@@ -1,29 +1,40 @@
-//! Looks for violations: pairs of rules of one class first, then the types that they have in common.
+//! Looks for violations: pairs of rules that share a permission first, then the types that they have in common.
 
-ghost use Rattle.std.specs.Prelude.{◌≡◌, ◌+◌, ◌++◌, ◌∷◌, [], ◌<◌, ℕ, length, slice_get, Some, IfOk, OnOk};
-ghost use Rattle.cil_violations.specs.Common.{flat_map, is_met, IsNext, share, names_in, permissions_at, rules_in, tests_of, IsSearch, all_rows, pair_rows, row_with, rows_of, sources_of, targets_of};
+ghost use Rattle.std.specs.Prelude.{◌≡◌, ◌++◌, ◌∷◌, [], ◌<◌, ℕ, length, slice_get, Some, IfOk, OnOk};
+ghost use Rattle.cil_violations.specs.Common.{flat_map, is_set_rule, set_at, share, stood_for, names_in, permissions_at, rules_in, tests_of, AreHeadsOf, AreMetBySet, IsIndexOf, IsSearch, all_rows, classes_of, met_in, pair_rows, row_with, rows_at, rows_of, sources_of, targets_of};
 ghost use Rattle.cil_violations.specs.Aims.{aim_of};
 
 use crate::index::ClassIndex;
 use crate::members::Members;
-use crate::permissions::share;
-use crate::row::RowNumbers;
+use crate::permissions::{given_at, put_in_order, share, shared_classes};
+use crate::row::{Pair, RowNumbers};
 use crate::shared::shared;
 use cil_parse::Lists;
-use cil_resolve::{Element, NumberedRule, Resolved, ResolvedTarget};
+use cil_resolve::{
+    ClassPermission, Element, NumberedRule, Resolved, ResolvedPermissions, ResolvedTarget,
+};
 use cil_text::RuleKind;
 use std::alloc::{AllocError, Allocator, Global};
 
-/// What violations are looked for in: a policy, the members of its attributes, the permissions of each
-/// rule in order, and the allow rules of each class. Lists of the types that two rules have in common are
-/// made by the allocator.
+/// What violations are looked for in: a policy, the members of its attributes, lists of what its rules
+/// give, and its allow rules by classes. Lists of the types that two rules have in common are made by the
+/// allocator.
 #[derive(Clone, Copy)]
 pub struct Search<'r, A: Allocator = Global> {
     pub alloc: A,
     pub resolved: &'r Resolved<A>,
     pub members: Members<'r, A>,
-    pub permissions: &'r Lists<usize, A>,
+    pub permissions: &'r Lists<ClassPermission, A>,
     pub index: &'r ClassIndex<A>,
+}
+
+/// The allow rules that a neverallow rule meets, and the number of its permission set, if it is a rule of one: the next rule of that set
+/// meets the same. What the rules are found by is kept for its memory.
+#[derive(Drop)]
+struct Met<A: Allocator> {
+    heads: Vec<usize, A>,
+    rules: Vec<usize, A>,
+    set: Option<usize>,
 }
 
 /// The element that a target takes in for a source.
@@ -36,24 +47,40 @@ fn aim(target: ResolvedTarget, source: usize) -> Element
     }
 }
 
+/// Appends the violations of two rules with a source and a target.
+fn push_classes<A: Allocator>(
+    rows: &mut Vec<RowNumbers, A>,
+    pair: Pair<'_>,
+    source: usize,
+    target: usize,
+) -> Result<(), AllocError>
+    ensures { OnOk result (rows.new.items ≡ rows.old.items
+        ++ rows_at pair.entry.never pair.entry.allowed pair.entry.classes.now source target) }
+{
+    for class in pair.classes {
+        rows.push(RowNumbers {
+            never: pair.never,
+            allowed: pair.allowed,
+            source,
+            target,
+            class: *class,
+        })?;
+    }
+    Ok(())
+}
+
 /// Appends the violations of two rules with a source and some targets.
 fn push_rows<A: Allocator>(
     rows: &mut Vec<RowNumbers, A>,
-    never: usize,
-    allowed: usize,
+    pair: Pair<'_>,
     source: usize,
     targets: &[usize],
 ) -> Result<(), AllocError>
     ensures { OnOk result (rows.new.items ≡ rows.old.items
-        ++ flat_map (λ target. row_with never allowed source target ∷ []) targets.now) }
+        ++ flat_map (rows_at pair.entry.never pair.entry.allowed pair.entry.classes.now source) targets.now) }
 {
     for target in targets {
-        rows.push(RowNumbers {
-            never,
-            allowed,
-            source,
-            target: *target,
-        })?;
+        push_classes(rows, pair, source, *target)?;
     }
     Ok(())
 }
@@ -75,22 +102,13 @@ impl<A: Allocator + Copy> Search<'_, A> {
         self.resolved.rules()[never].kind == RuleKind::NeverAllow
     }
 
-    /// The place of the first allow rule of the class of a rule.
-    fn first_of_class(&self, never: usize) -> Option<usize>
+    /// What the rule at a place gives, in order.
+    fn given(&self, place: usize) -> &[ClassPermission]
         requires search { IsSearch self.now }
-        requires never { never < length (rules_in self.now) }
-        ensures { IsNext (is_met (rules_in self.now) never) 0 result }
+        requires place { place < length (rules_in self.now) }
+        ensures { result.now ≡ permissions_at self.now place }
     {
-        self.index.first[self.resolved.rules()[never].class]
-    }
-
-    /// The place of the next allow rule of the class of a rule behind it.
-    fn next_of_class(&self, allowed: usize) -> Option<usize>
-        requires search { IsSearch self.now }
-        requires allowed { allowed < length (rules_in self.now) }
-        ensures { IsNext (is_met (rules_in self.now) allowed) (allowed + 1) result }
-    {
-        self.index.next[allowed]
+        given_at(self.resolved.rules(), self.permissions, place)
     }
 
     /// Whether two rules share a permission.
@@ -100,21 +118,122 @@ impl<A: Allocator + Copy> Search<'_, A> {
         requires allowed { allowed < length (rules_in self.now) }
         ensures { result ≡ share (permissions_at self.now never) (permissions_at self.now allowed) }
     {
-        share(self.permissions.get(never), self.permissions.get(allowed))
+        share(self.given(never), self.given(allowed))
     }
 
-    /// Whether the rule at a second place is an allow rule of the class of the first, and they share a permission.
-    fn is_pair(&self, never: usize, allowed: usize) -> bool
+    /// Puts in a list, in place of what is in it, the allow rules of the classes of a rule, in order: of a permission set one alone.
+    fn heads(&self, list: &mut Vec<usize, A>, never: usize) -> Result<(), AllocError>
+        requires search { IsSearch self.now }
+        requires never { never < length (rules_in self.now) }
+        ensures { OnOk result ((is : IsIndexOf self.now.resolved.now self.now.permissions.now.0 self.now.index.now)
+            → AreHeadsOf is.holds.heads (permissions_at self.now never) list.new.items) }
+    {
+        list.clear();
+        let mut last = None;
+        let mut are_several = false;
+        let given = self.given(never);
+        for permission in given {
+            if last != Some(permission.class) {
+                are_several = last.is_some();
+                let first = self.index.first[permission.class];
+                self.index.push_chain(list, first)?;
+                last = Some(permission.class);
+            }
+        }
+        if are_several {
+            put_in_order(list);
+        }
+        Ok(())
+    }
+
+    /// Appends the allow rules for which one stands, and tells whether it is one of a permission set.
+    fn push_stood_for(&self, list: &mut Vec<usize, A>, head: usize) -> Result<bool, AllocError>
+        requires search { IsSearch self.now }
+        requires head { head < length (rules_in self.now) }
+        ensures rules { OnOk result (list.new.items ≡ list.old.items ++ stood_for (rules_in self.now) head) }
+        ensures sets { IfOk result (λ is_of_set. is_of_set ≡ is_set_rule (rules_in self.now) head) }
+    {
+        match &self.rule(head).permissions {
+            ResolvedPermissions::OfClass(_) => {
+                list.push(head)?;
+                Ok(false)
+            }
+            ResolvedPermissions::OfSet(set) => {
+                let first = self.index.of_set[set.set];
+                self.index.push_chain(list, first)?;
+                Ok(true)
+            }
+        }
+    }
+
+    /// Puts in a list, in place of what is in it, the allow rules that share a permission with a rule, in order. Those of its classes are
+    /// put in another one first. All rules of a permission set share what one of them shares.
+    fn meet(
+        &self,
+        heads: &mut Vec<usize, A>,
+        list: &mut Vec<usize, A>,
+        never: usize,
+    ) -> Result<(), AllocError>
+        requires search { IsSearch self.now }
+        requires never { never < length (rules_in self.now) }
+        ensures { OnOk result (list.new.items ≡ met_in self.now never) }
+    {
+        self.heads(heads, never)?;
+        list.clear();
+        let mut are_of_sets = false;
+        for head in heads.as_slice() {
+            if self.share_permission(never, *head) {
+                let is_of_set = self.push_stood_for(list, *head)?;
+                are_of_sets = are_of_sets || is_of_set;
+            }
+        }
+        if are_of_sets {
+            put_in_order(list);
+        }
+        Ok(())
+    }
+
+    /// The number of the permission set of a rule, if it is a rule of one.
+    fn set_of(&self, place: usize) -> Option<usize>
+        requires { place < length (rules_in self.now) }
+        ensures { result ≡ set_at (rules_in self.now) place }
+    {
+        match &self.rule(place).permissions {
+            ResolvedPermissions::OfClass(_) => None,
+            ResolvedPermissions::OfSet(set) => Some(set.set),
+        }
+    }
+
+    /// Brings what was met to what a rule meets.
+    fn bring(&self, met: &mut Met<A>, never: usize) -> Result<(), AllocError>
+        requires search { IsSearch self.now }
+        requires never { never < length (rules_in self.now) }
+        requires known { AreMetBySet self.now met.old.set met.old.rules.items }
+        ensures met { OnOk result (met.new.rules.items ≡ met_in self.now never) }
+        ensures known { OnOk result (AreMetBySet self.now met.new.set met.new.rules.items) }
+    {
+        let set = self.set_of(never);
+        if set.is_none() || set != met.set {
+            self.meet(&mut met.heads, &mut met.rules, never)?;
+            met.set = set;
+        }
+        Ok(())
+    }
+
+    /// The classes in which two rules share a permission, in order. It looks up the permissions of the one that gives fewer.
+    fn classes(&self, never: usize, allowed: usize) -> Result<Vec<usize, A>, AllocError>
         requires search { IsSearch self.now }
         requires never { never < length (rules_in self.now) }
         requires allowed { allowed < length (rules_in self.now) }
-        ensures { result ≡ (tests_of self.now).pair never allowed }
+        ensures { IfOk result (λ list. list.items ≡ classes_of self.now never allowed) }
     {
-        let rules = self.resolved.rules();
-        let other = &rules[allowed];
-        other.kind == RuleKind::Allow
-            && other.class == rules[never].class
-            && self.share_permission(never, allowed)
+        let first = self.given(never);
+        let second = self.given(allowed);
+        if second.len() < first.len() {
+            shared_classes(self.alloc, second, first)
+        } else {
+            shared_classes(self.alloc, first, second)
+        }
     }
 
     /// The types that are in the sources of both rules, in order.
@@ -164,8 +283,14 @@ impl<A: Allocator + Copy> Search<'_, A> {
         if targets.is_empty() {
             return Ok(());
         }
+        let classes = self.classes(never, allowed)?;
+        let pair = Pair {
+            never,
+            allowed,
+            classes: &classes,
+        };
         for source in &self.sources(never, allowed)? {
-            push_rows(rows, never, allowed, *source, targets)?;
+            push_rows(rows, pair, *source, targets)?;
         }
         Ok(())
     }
@@ -182,9 +307,15 @@ impl<A: Allocator + Copy> Search<'_, A> {
         requires allowed { allowed < length (rules_in self.now) }
         ensures { OnOk result (rows.new.items ≡ rows.old.items ++ rows_of self.now never allowed) }
     {
+        let classes = self.classes(never, allowed)?;
+        let pair = Pair {
+            never,
+            allowed,
+            classes: &classes,
+        };
         for source in &self.sources(never, allowed)? {
             let targets = self.targets(never, allowed, *source)?;
-            push_rows(rows, never, allowed, *source, &targets)?;
+            push_rows(rows, pair, *source, &targets)?;
         }
         Ok(())
     }
@@ -219,19 +350,21 @@ impl<A: Allocator + Copy> Search<'_, A> {
         }
     }
 
-    /// Appends the violations of a neverallow rule. It meets the allow rules of its class alone.
-    fn push_pairs(&self, rows: &mut Vec<RowNumbers, A>, never: usize) -> Result<(), AllocError>
+    /// Appends the violations of a neverallow rule with the allow rules that it meets.
+    fn push_pairs(
+        &self,
+        rows: &mut Vec<RowNumbers, A>,
+        never: usize,
+        met: &[usize],
+    ) -> Result<(), AllocError>
         requires search { IsSearch self.now }
         requires never { never < length (rules_in self.now) }
+        requires met { met.now ≡ met_in self.now never }
         ensures { OnOk result (rows.new.items ≡ rows.old.items
             ++ pair_rows (tests_of self.now) (length (rules_in self.now)) (names_in self.now) never) }
     {
-        let mut next = self.first_of_class(never);
-        while let Some(allowed) = next {
-            if self.is_pair(never, allowed) {
-                self.push_sources(rows, never, allowed)?;
-            }
-            next = self.next_of_class(allowed);
+        for allowed in met {
+            self.push_sources(rows, never, *allowed)?;
         }
         Ok(())
     }
@@ -242,9 +375,15 @@ impl<A: Allocator + Copy> Search<'_, A> {
         ensures { OnOk result (rows.new.items ≡ rows.old.items
             ++ all_rows (tests_of self.now) (length (rules_in self.now)) (names_in self.now)) }
     {
+        let mut met = Met {
+            heads: Vec::new(self.alloc),
+            rules: Vec::new(self.alloc),
+            set: None,
+        };
         for never in 0..self.resolved.rules_len() {
             if self.is_never(never) {
-                self.push_pairs(rows, never)?;
+                self.bring(&mut met, never)?;
+                self.push_pairs(rows, never, &met.rules)?;
             }
         }
         Ok(())

@@ -1,22 +1,22 @@
 //! Violations by full names.
 
 ghost use Rattle.std.specs.Prelude.{◌≡◌, ◌==◌, length, slice_get, option_map};
-ghost use Rattle.cil_violations.specs.Common.{meaning_in, violation_by, IsRow, violation_seen, violation_head};
+ghost use Rattle.cil_violations.specs.Common.{meaning_in, violation_by, AreLists, IsRow, violation_seen, violation_head};
 
 use crate::line::rule_at;
-use crate::permissions::is_among;
+use crate::permissions::{given_at, is_among, of_class};
 use crate::row::RowNumbers;
 use cil_parse::Lists;
-use cil_resolve::{Resolved, RuleView};
+use cil_resolve::{ClassPermission, Resolved, RuleView};
 use std::alloc::{Allocator, Global};
 use std::marker::Model;
 
-/// The permissions that two rules share, in order and each once. Contracts see them as the list of their names.
+/// The permissions of a class that two rules share, in order and each once. Contracts see them as the list of their names.
 #[derive(Drop)]
 pub struct Permissions<'v, A: Allocator = Global> {
     resolved: &'v Resolved<A>,
-    never: &'v [usize],
-    allowed: &'v [usize],
+    never: &'v [ClassPermission],
+    allowed: &'v [ClassPermission],
 }
 
 impl<'v, A: Allocator> Model for Permissions<'v, A> {
@@ -25,9 +25,12 @@ impl<'v, A: Allocator> Model for Permissions<'v, A> {
     ghost Value = { List (List ℕ) };
 
     ghost use Rattle.cil_resolve.specs.Sets.{name_in};
+    ghost use Rattle.cil_resolve.specs.SetPermissions.{AreInOrder};
     ghost use Rattle.cil_violations.specs.Permissions.{shared};
 
-    ghost view = { λ p. map (name_in p.resolved.now) (shared p.never.now p.allowed.now) };
+    ghost view = { λ p. map (λ g. name_in p.resolved.now g.permission) (shared p.never.now p.allowed.now) };
+
+    ghost invariant = { λ p. AreInOrder p.allowed.now };
 }
 
 impl<'v, A: Allocator> Permissions<'v, A> {
@@ -60,7 +63,7 @@ impl<'v, A: Allocator> Permissions<'v, A> {
                 continue;
             }
             if left == 0 {
-                return Some(self.resolved.name(*permission));
+                return Some(self.resolved.name(permission.permission));
             }
             left -= 1;
         }
@@ -80,28 +83,27 @@ pub struct Violation<'v, A: Allocator = Global> {
 }
 
 impl<'v, A: Allocator> Violation<'v, A> {
-    /// The violation of a row, by the permissions of each rule in order.
+    /// The violation of a row, by lists of what rules give.
     pub(super) fn of(
         resolved: &'v Resolved<A>,
-        permissions: &'v Lists<usize, A>,
+        permissions: &'v Lists<ClassPermission, A>,
         row: RowNumbers,
     ) -> Self
         requires row { IsRow (length (meaning_in resolved.now).rules) row }
-        requires permissions { length permissions.now.0 ≡ length (meaning_in resolved.now).rules }
+        requires permissions { AreLists resolved.now permissions.now.0 }
         ensures { violation_seen result ≡ violation_head (violation_by resolved.now permissions.now.0 row) }
     {
-        let never = rule_at(resolved, row.never);
-        let allowed = rule_at(resolved, row.allowed);
+        let rules = resolved.rules();
         Violation {
-            never,
-            allowed,
+            never: rule_at(resolved, row.never),
+            allowed: rule_at(resolved, row.allowed),
             source: resolved.name(row.source),
             target: resolved.name(row.target),
-            class: never.class,
+            class: resolved.name(row.class),
             permissions: Permissions {
                 resolved,
-                never: permissions.get(row.never),
-                allowed: permissions.get(row.allowed),
+                never: of_class(given_at(rules, permissions, row.never), row.class),
+                allowed: of_class(given_at(rules, permissions, row.allowed), row.class),
             },
         }
     }

@@ -15,7 +15,7 @@ use crate::search::Search;
 use crate::violation::Violation;
 use cil_member_rows::MemberRows;
 use cil_parse::Lists;
-use cil_resolve::{Resolved, resolved_rules_are_in_order};
+use cil_resolve::{ClassPermission, Resolved, resolved_rules_are_in_order};
 use cil_stream::{Sink, SinkFault};
 use cil_symbols::Numbering;
 use std::alloc::{AllocError, Allocator, Global};
@@ -27,7 +27,7 @@ use std::rc::Rc;
 #[derive(Drop)]
 pub struct Violations<A: Allocator = Global> {
     resolved: Rc<Resolved<A>, A>,
-    permissions: Lists<usize, A>,
+    permissions: Lists<ClassPermission, A>,
     rows: Vec<RowNumbers, A>,
 }
 
@@ -35,11 +35,11 @@ impl<A: Allocator> Model for Violations<A> {
     ghost use Rattle.std.specs.Prelude.{List, map};
     ghost use Rattle.cil_specs.specs.Violations.{Violation};
     ghost use Rattle.std.specs.Coded.{codes};
-    ghost use Rattle.cil_violations.specs.Codes.{coded_expr};
+    ghost use Rattle.cil_violations.specs.Codes.{coded_permissions};
 
     ghost Value = { List Violation };
 
-    ghost coded = { Prim.hlevel (codes, coded_expr) };
+    ghost coded = { Prim.hlevel (codes, coded_permissions) };
 
     ghost use Rattle.std.specs.Rc.{rc_value};
     ghost use Rattle.cil_violations.specs.Lines.{violation_by, AreRows};
@@ -53,7 +53,7 @@ impl<A: Allocator> Model for Violations<A> {
 fn write_rows<W: Sink, A: Allocator>(
     sink: &mut W,
     resolved: &Resolved<A>,
-    permissions: &Lists<usize, A>,
+    permissions: &Lists<ClassPermission, A>,
     rows: &[RowNumbers],
 ) -> Result<(), SinkFault>
     requires { AreRows resolved.now permissions.now.0 rows.now }
@@ -68,10 +68,10 @@ fn write_rows<W: Sink, A: Allocator>(
     Ok(())
 }
 
-/// The violations of a policy by numbers, and the permissions of each rule in order.
+/// The violations of a policy by numbers, and lists of what its rules give.
 #[derive(Drop)]
 struct Found<A: Allocator> {
-    permissions: Lists<usize, A>,
+    permissions: Lists<ClassPermission, A>,
     rows: Vec<RowNumbers, A>,
 }
 
@@ -87,7 +87,7 @@ fn find<A: Allocator + Copy>(
 {
     resolved_rules_are_in_order(resolved);
     let permissions = ordered_permissions(alloc, resolved.rules())?;
-    let index = ClassIndex::of(alloc, resolved)?;
+    let index = ClassIndex::of(alloc, resolved, &permissions)?;
     let mut rows = Vec::new(alloc);
     let search = Search {
         alloc,

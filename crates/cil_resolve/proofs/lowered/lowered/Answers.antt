@@ -1,6 +1,6 @@
-use Rattle.cil_resolve.proofs.Common.{rules, ◌≡◌, ◌∙◌, [], ◌<◌, ◌^◌, length, map, IsTrue, sym, ap, subst, list_all, AllPairs, IsStrictlySortedBy, length-map, HasSoundSets, meaning_of, are_rules_of, are_placed_in, HaveElements, modules_of, HavePlaces, declared_of, class_of, set_of, dropped_with, HasNoCircle, is_set_below}
+use Rattle.cil_resolve.proofs.Common.{rules, ◌≡◌, ◌∙◌, [], ◌<◌, ◌^◌, length, map, IsTrue, sym, ap, subst, list_all, AllPairs, IsStrictlySortedBy, length-map, HasSoundSets, meaning_of, are_permission_sets_of, are_rules_of, are_placed_in, HaveElements, modules_of, HavePlaces, declared_of, class_of, permission_set_of, set_of, dropped_with, HasNoCircle, is_set_below}
 use Rattle.cil_resolve.specs.Numbers.{GivesNumbered, rule_of}
-use Rattle.cil_resolve.proofs.ConsistentLemmas.{rules-declared}
+use Rattle.cil_resolve.proofs.ConsistentLemmas.{rules-declared, sets-declared}
 use Rattle.cil_resolve.proofs.PlacedLemmas.{from-named, all-placed}
 use Rattle.cil_specs.specs.Violations.{rule_cmp}
 use Rattle.cil_resolve.specs.Apart.{StandApart}
@@ -67,10 +67,11 @@ invariant_of-result g c =
     let types = (λ k. map (declared_of (modules k) names) c.in_ok-parts.parts.types.items) ∙ parts.types_are in
     let attributes = (λ k. map (declared_of (modules k) names) c.in_ok-parts.parts.attributes.items) ∙ parts.attributes_are in
     let classes = (λ k. map (class_of (modules k) names) c.in_ok-parts.parts.classes.items) ∙ parts.classes_are in
+    let permission_sets = (λ k. map (permission_set_of (modules k) names) c.in_ok-parts.parts.permission_sets.items) ∙ parts.permission_sets_are.is in
     let sets = (λ k. map (set_of (modules k) names) (c.in_ok-sets.ensures k)) ∙ parts.sets_are.is in
     let rules = (λ k. map (rule_of (modules k) names) c.in_ok-parts.parts.rules.items) ∙ parts.rules_are.is in
     let dropped = map (dropped_with (modules_of c.args.checker.now.bound.joined.now)) c.args.dropped.items in
-    let means : _ ≡ meaning_of policy dropped = λ i. record { types = types i; attributes = attributes i; classes = classes i; sets = sets i; rules = rules i; dropped = map (dropped_with (modules i)) c.args.dropped.items } in
+    let means : _ ≡ meaning_of policy dropped = λ i. record { types = types i; attributes = attributes i; classes = classes i; permission_sets = permission_sets i; sets = sets i; rules = rules i; dropped = map (dropped_with (modules i)) c.args.dropped.items } in
     record {
       sound = subst HasSoundSets (sym means) (faultless-sound policy faultless dropped);
       apart = subst (AllPairs StandApart) (sym sets) (sets-apart policy noted.is.ordered);
@@ -82,6 +83,7 @@ invariant_of-result g c =
       rules_ordered = subst (IsStrictlySortedBy rule_cmp) (sym rules) (rules-sorted policy noted.is.ordered);
       consistent = record {
         declared = (λ i. are_rules_of (types i) (attributes i) (classes i) (rules i)) ∙ rules-declared policy faultless;
+        sets_declared = (λ i. are_permission_sets_of (classes i) (permission_sets i)) ∙ sets-declared policy faultless;
         placed =
             (λ i. are_placed_in (modules i) (types i) (attributes i) (classes i) (rules i))
             ∙ all-placed (modules_of c.args.checker.now.bound.joined.now) policy (λ s there. from-named parsed rows policy s bound.from there);
@@ -113,6 +115,7 @@ returns g c policy noted faultless =
     let types = (λ k. map (declared_of (modules k) names) c.in_ok-parts.parts.types.items) ∙ parts.types_are in
     let attributes = (λ k. map (declared_of (modules k) names) c.in_ok-parts.parts.attributes.items) ∙ parts.attributes_are in
     let classes = (λ k. map (class_of (modules k) names) c.in_ok-parts.parts.classes.items) ∙ parts.classes_are in
+    let permission_sets = (λ k. map (permission_set_of (modules k) names) c.in_ok-parts.parts.permission_sets.items) ∙ parts.permission_sets_are.is in
     let sets = (λ k. map (set_of (modules k) names) (c.in_ok-sets.ensures k)) ∙ parts.sets_are.is in
     let rules = (λ k. map (rule_of (modules k) names) c.in_ok-parts.parts.rules.items) ∙ parts.rules_are.is in
-    λ i. record { types = types i; attributes = attributes i; classes = classes i; sets = sets i; rules = rules i; dropped = map (dropped_with (modules i)) c.args.dropped.items }
+    λ i. record { types = types i; attributes = attributes i; classes = classes i; permission_sets = permission_sets i; sets = sets i; rules = rules i; dropped = map (dropped_with (modules i)) c.args.dropped.items }

@@ -1,4 +1,4 @@
-use Rattle.cil_table_updates.proofs.Common.{◌∙◌, ap, arith, refl, sym, on_ok_weaker, adjustments_in, covers_by, has_permit, members_of, one_if, subst, AreInOrder}
+use Rattle.cil_table_updates.proofs.Common.{◌∙◌, ◌&&◌, ap, arith, refl, sym, on_ok_weaker, adjustments_in, covers_by, has_permit, members_of, one_if, reaches, subst, AreInOrder}
 use Rattle.cil_table_updates.proofs.AdjustedLemmas.{replace-rises}
 use Rattle.cil_table_updates.proofs.MoveLemmas.{gives-covered}
 use Rattle.cil_table_updates.proofs.moves.replace_rule.Goals as goal
@@ -8,7 +8,7 @@ shift_as-requires-clause-counted g c key t =
     let old = c.args.old.now.policy.now in
     let was =
     gives-covered c.args.new.now.rule.now.kind c.in_ok-reached.reached c.deref.result.now (members_of old.members) old.numbering.now.symbols c.args.old.now.rule.now (sym c.requires.kind)
-    c.in_ok-reached.ensures.sources c.in_ok-reached.ensures.targets (λ d p. ap (λ l. has_permit l d p) c.deref.ensures.value ∙ c.in_ok-had.ensures.same d p) key t in
+    c.in_ok-reached.ensures.sources c.in_ok-reached.ensures.targets (λ s u d p. ap (λ l. reaches c.in_ok-reached.reached s u && has_permit l d p) c.deref.ensures.value ∙ c.in_ok-had.ensures.same s u d p) key t in
     omega (arith, c.requires.counted key t, ap one_if was)
 
 pub returns : goal.returns
@@ -18,10 +18,10 @@ returns g c =
     let kind = c.args.new.now.rule.now.kind in
     let was =
     gives-covered kind c.in_ok-reached.reached c.deref.result.now (members_of old.members) old.numbering.now.symbols c.args.old.now.rule.now (sym c.requires.kind)
-    c.in_ok-reached.ensures.sources c.in_ok-reached.ensures.targets (λ d p. ap (λ l. has_permit l d p) c.deref.ensures.value ∙ c.in_ok-had.ensures.same d p) in
+    c.in_ok-reached.ensures.sources c.in_ok-reached.ensures.targets (λ s u d p. ap (λ l. reaches c.in_ok-reached.reached s u && has_permit l d p) c.deref.ensures.value ∙ c.in_ok-had.ensures.same s u d p) in
     let is =
     gives-covered kind c.in_ok-reaches.reaches c.deref-2.result.now (members_of new.members) new.numbering.now.symbols c.args.new.now.rule.now refl
-    c.in_ok-reaches.ensures.sources c.in_ok-reaches.ensures.targets (λ d p. ap (λ l. has_permit l d p) c.deref-2.ensures.value ∙ c.in_ok-has.ensures.same d p) in
+    c.in_ok-reaches.ensures.sources c.in_ok-reaches.ensures.targets (λ s u d p. ap (λ l. reaches c.in_ok-reaches.reaches s u && has_permit l d p) c.deref-2.ensures.value ∙ c.in_ok-has.ensures.same s u d p) in
     record {
       now = on_ok_weaker c.shift_as.result (λ moved key t. omega (arith, moved key t, ap one_if (was key t), ap one_if (is key t))) c.shift_as.ensures.now;
       before = c.shift_as.ensures.before;

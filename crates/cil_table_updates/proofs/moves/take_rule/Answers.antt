@@ -1,4 +1,4 @@
-use Rattle.cil_table_updates.proofs.Common.{◌∙◌, ap, arith, refl, on_ok_weaker, adjustments_in, covers_by, has_permit, members_of, one_if, subst, sym, AreInOrder}
+use Rattle.cil_table_updates.proofs.Common.{◌∙◌, ◌&&◌, ap, arith, refl, on_ok_weaker, adjustments_in, covers_by, has_permit, members_of, one_if, reaches, subst, sym, AreInOrder}
 use Rattle.cil_table_updates.proofs.AdjustedLemmas.{take-rises}
 use Rattle.cil_table_updates.proofs.MoveLemmas.{gives-covered, gives-nothing}
 use Rattle.cil_table_updates.proofs.moves.take_rule.Goals as goal
@@ -8,7 +8,7 @@ shift_as-requires-clause-counted g c key t =
     let rule = c.args.rule.now in
     let was =
     gives-covered rule.kind c.in_ok-reach.reach c.deref.result.now (members_of c.args.policy.now.members) c.args.policy.now.numbering.now.symbols rule refl
-    c.in_ok-reach.ensures.sources c.in_ok-reach.ensures.targets (λ d p. ap (λ l. has_permit l d p) c.deref.ensures.value ∙ c.in_ok-permits.ensures.same d p) key t in
+    c.in_ok-reach.ensures.sources c.in_ok-reach.ensures.targets (λ s u d p. ap (λ l. reaches c.in_ok-reach.reach s u && has_permit l d p) c.deref.ensures.value ∙ c.in_ok-permits.ensures.same s u d p) key t in
     omega (arith, c.requires.counted key t, ap one_if was)
 
 pub returns : goal.returns
@@ -19,7 +19,7 @@ returns g c =
     let none = gives-nothing rule.kind c.none-none.result c.deref-2.result.now c.none-none.ensures.none in
     let was =
     gives-covered rule.kind c.in_ok-reach.reach c.deref.result.now members symbols rule refl c.in_ok-reach.ensures.sources c.in_ok-reach.ensures.targets
-    (λ d p. ap (λ l. has_permit l d p) c.deref.ensures.value ∙ c.in_ok-permits.ensures.same d p) in
+    (λ s u d p. ap (λ l. reaches c.in_ok-reach.reach s u && has_permit l d p) c.deref.ensures.value ∙ c.in_ok-permits.ensures.same s u d p) in
     record {
       now = on_ok_weaker c.shift_as.result (λ moved key t. omega (arith, moved key t, ap one_if (none key t), ap one_if (was key t))) c.shift_as.ensures.now;
       before = c.shift_as.ensures.before;

@@ -1,7 +1,7 @@
-use Rattle.cil_table_updates.proofs.Common.{◌≡◌, ◌+◌, ◌≤◌, ◌∙◌, ap, sym, add-zero, nat_lt, slice_get, subst, Some, on_ok_weaker, adjustments_in, rises-none, rises-same, alone-some, count_now, gives_it, goes, given}
+use Rattle.cil_table_updates.proofs.Common.{◌≡◌, ◌+◌, ◌≤◌, ◌∙◌, ap, sym, add-zero, length, nat_lt, slice_get, subst, Some, on_ok_weaker, is_rule_below, adjustments_in, rises-none, rises-same, alone-some, count_now, gives_it, goes, given}
 use Rattle.cil_table_updates.proofs.AdjustedLemmas.{counted-some}
 use Rattle.cil_table_updates.proofs.GivenLemmas.{gone-rule}
-use Rattle.cil_table_updates.proofs.PlaceLemmas.{never, read-at}
+use Rattle.cil_table_updates.proofs.PlaceLemmas.{never, passes-at, read-at}
 use Rattle.cil_table_updates.proofs.passes.take_if_gone.Goals as goal
 
 pub returns-in-Some-clause-now : goal.returns-in-Some-clause-now
@@ -44,3 +44,9 @@ returns-in-None-clause-adjustments g c =
     (read-at c.rules.result.now old.resolved.now.rules.items c.args.i rule c.rules.ensures.rules c.requires.within c.index-rules-i.is)
     (never (λ j. slice_get c.args.update.now.matching.now.ahead c.args.i ≡ Some (Some j)) c.new_place.result c.new_place.ensures c.in-None.is)))))
     c.take_rule.ensures.adjustments
+
+pub take_rule-requires-clause-below : goal.take_rule-requires-clause-below
+take_rule-requires-clause-below g c =
+    let rules = c.args.update.now.old.now.resolved.now.rules.items in
+    passes-at (is_rule_below (length c.args.update.now.old.now.numbering.now.symbols)) rules c.args.i c.index-rules-i.result c.requires.ready.below
+    (read-at c.rules.result.now rules c.args.i c.index-rules-i.result c.rules.ensures.rules c.requires.within c.index-rules-i.is)

@@ -2,6 +2,7 @@ use Rattle.cil_table_updates.proofs.Common.{◌∙◌, arith, length, sym, ap, s
 use Rattle.cil_matching.proofs.ApartLemmas.{apart-rules}
 use Rattle.cil_table_updates.proofs.DirtyLemmas.{on-ok-both, rises-at-least, update-at-most}
 use Rattle.cil_table_updates.proofs.GivenLemmas.{given-named}
+use Rattle.cil_table_updates.proofs.StayingLemmas.{policy-alike, replaced-alike}
 use Rattle.cil_table_updates.proofs.UpdateLemmas.{counts-new, gone-counted, rules-replaced, stayed-counted}
 use Rattle.cil_table_updates.proofs.updating.update.Goals as goal
 
@@ -11,6 +12,17 @@ take_gone-requires-clause-counted g c key t =
     (given c.of-old.result key t) c.in_ok-matching.matching (count_now c.args.lines.now key t) c.in_ok-matching.ensures
     (c.requires.stands key t ∙ ap (λ r. count_named c.args.shared.names.now (meaning_in r) key t) (sym c.of-old.ensures.resolved)
     ∙ sym (given-named c.args.shared.names.now c.of-old.ensures.apart c.of-old.result c.of-old.ensures.policy key t c.of-old.ensures.sound))
+
+pub of-requires-3-clause-old_alike : goal.of-requires-3-clause-old_alike
+of-requires-3-clause-old_alike g c = policy-alike c.args.shared.names.now c.of-old.ensures.apart c.of-old.result c.of-old.ensures.policy c.of-old.ensures.sound
+
+pub of-requires-3-clause-new_alike : goal.of-requires-3-clause-new_alike
+of-requires-3-clause-new_alike g c = policy-alike c.args.shared.names.now c.of-new.ensures.apart c.of-new.result c.of-new.ensures.policy c.of-new.ensures.sound
+
+pub of-requires-3-clause-matched : goal.of-requires-3-clause-matched
+of-requires-3-clause-matched g c =
+    replaced-alike c.args.shared.rows.now c.of-old.result c.of-new.result c.in_ok-matching.matching
+    (rules-replaced c.args.shared.names.now c.of-old.ensures.apart c.args.shared.rows.now c.of-old.result c.of-new.result c.of-old.ensures.policy c.of-new.ensures.policy c.of-old.ensures.members c.of-new.ensures.members c.of-old.ensures.sound c.of-new.ensures.sound c.in_ok-matching.matching c.in_ok-matching.ensures)
 
 pub put_new-requires-clause-matched : goal.put_new-requires-clause-matched
 put_new-requires-clause-matched g c =

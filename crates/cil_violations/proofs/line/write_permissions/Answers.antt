@@ -5,5 +5,5 @@ pub returns-in_err-write_permission-clause-err : goal.returns-in_err-write_permi
 returns-in_err-write_permission-clause-err g c =
     let taken = g.W.Sink.taken in
     on_err c.from_residual.result
-    (gains-pieces_front (shared_text c.args.resolved.now c.args.allowed.now) (taken c.args.sink.now) (taken c.loop-permission.sink) (taken c.write_permission.new.sink) c.args.never.now c.loop-permission.permission-index 0
+    (gains-pieces_front (shared_text c.args.resolved.now c.args.allowed.now) (taken c.args.sink.now) (taken c.loop-permission.sink) (taken c.write_permission.new.sink) c.args.never.now c.loop-permission.permission-index (record { class = 0; permission = 0 })
     c.loop-permission-test.true c.loop-permission.invariant.so_far c.in_err-write_permission.ensures.err)

@@ -17,7 +17,7 @@ returns-clause-rows g c =
     let rows = all_rows (tests_of s) (length (rules_in s)) (length c.args.resolved.now.names.items) in
     subst (AreRows c.args.resolved.now c.in_ok-permissions.permissions.0)
     (sym (c.in_ok-push_all.ensures ∙ ap (λ l. l ++ rows) c.new-rows.ensures.items))
-    (are-rows s is c.in_ok-permissions.permissions.0 ordered.len)
+    (are-rows s is)
 
 pub returns-clause-violations : goal.returns-clause-violations
 returns-clause-violations g c =

@@ -2,7 +2,7 @@ use Rattle.cil_violations.proofs.Common.{rules, on_err, gains-pieces_more, gains
 use Rattle.cil_violations.proofs.violations.write_rows.Goals as goal
 
 abbrev no_row : RowNumbers
-no_row = record { never = 0; allowed = 0; source = 0; target = 0 }
+no_row = record { never = 0; allowed = 0; source = 0; target = 0; class = 0 }
 
 pub returns-in_err-write_line-clause-err : goal.returns-in_err-write_line-clause-err
 returns-in_err-write_line-clause-err g c =

@@ -1,4 +1,4 @@
-use Rattle.cil_check.proofs.Common.{◌≡◌, List, Contains, Some, Word, Placed, classes, permissions_in, AreNumbersOf, names_of, IsLead, IsSeen, IsNoted, class_lead, rule_class}
+use Rattle.cil_check.proofs.Common.{◌≡◌, List, Contains, Some, Word, Placed, classes, permissions_in, AreNumbersOf, names_of, IsLead, IsSeen, IsNoted, class_lead, named_class}
 use Rattle.cil_check.specs.Recent.{IsKnown}
 use Rattle.cil_check.proofs.AskedLemmas.{first_from}
 use Rattle.cil_check.proofs.MissingLemmas.{lacks}
@@ -7,5 +7,5 @@ use Rattle.cil_check.proofs.checker.Checker.has_named.Given as goal
 -- the first that is lacking stands no earlier, and what is known holds
 abbrev pub invariant-loop-word : goal.invariant-loop-word
 invariant-loop-word g l = (policy : List Placed) (s : Placed) (word : Word) → IsNoted l.self policy → IsSeen l.seen policy s → AreNumbersOf l.self.bound.policy.now.names l.seen.words.now (names_of l.seen.«module».now)
-    → Contains policy s → IsLead classes policy (Some l.class) (class_lead policy s) → rule_class s.form ≡ Some word → IsKnown l.self policy l.initial.known
+    → Contains policy s → IsLead classes policy (Some l.class) (class_lead policy s) → named_class s.form ≡ Some word → IsKnown l.self policy l.initial.known
     → (first_from (lacks policy s word) 0 (permissions_in s.form) ≡ first_from (lacks policy s word) l.word-index (permissions_in s.form)) × IsKnown l.self policy l.known

@@ -1,7 +1,8 @@
-use Rattle.cil_resolve.proofs.Common.{◌∙◌, ◌∷◌, [], length, true, refl, sym, ap, subst, if◌then◌else◌, option_to_list, types, declared_in, declared_as, class_as, first_true, seen-kind, there-at, form-set, is_name_below, is_class_below, is_set_below, numbered_id, is_numbered, AreRules, IsIn, modules_of, type_if, attribute_if, class_if, set_if, rule_if, declared_of, class_of, set_of}
+use Rattle.cil_resolve.proofs.Common.{inl, inr, ◌∙◌, ◌∷◌, [], length, true, refl, sym, ap, if◌then◌else◌, types, declared_in, declared_as, class_as, first_true, seen-kind, there-at, form-set, is_name_below, is_class_below, is_set_below, numbered_id, is_numbered, IsIn, modules_of, type_if, attribute_if, class_if, set_if, declared_of, class_of, set_of}
 use Rattle.cil_parse.specs.declared.row.StatementKind.TheVariants as kinds
 use Rattle.cil_resolve.proofs.ElementLemmas.{type-form}
-use Rattle.cil_resolve.proofs.PartLemmas.{attribute-form, declared-made, of-kind, no-type-kind, no-attribute-kind, no-class-kind, no-set-kind, no-type, no-attribute, no-class, grow, stay, below-more, rules-stay, rules-grow}
+use Rattle.cil_resolve.proofs.FormLemmas.{form-of-class, form-of-set, is_of_class, is_of_set}
+use Rattle.cil_resolve.proofs.PartLemmas.{attribute-form, declared-made, of-kind, is_rule_kind, no-type-kind, no-attribute-kind, no-class-kind, no-set-kind, no-rule-kind, no-type, no-attribute, no-class, grow, stay, below-more, rules-stay, with-none, with-rule}
 use Rattle.cil_resolve.proofs.StatementLemmas.{contained}
 use Rattle.cil_resolve.proofs.lowering.Lowering.add.Goals as goal
 
@@ -17,14 +18,8 @@ set-requires g c =
       low,
     )
 
-pub rule-requires : goal.rule-requires
-rule-requires g c =
-    let (policy, is, low) = c.requires in
-    let (s, at) = there-at policy c.args.i low in
-    (policy, (s, record { lowering = is; there = contained policy c.args.i s at; seen_is = c.seen-seen.ensures.seen policy s is.noted.is at; worded = c.seen-seen.ensures.worded policy is.noted.is }, at))
-
 pub returns-in_ok-push-in-TypeName-clause-parts : goal.returns-in_ok-push-in-TypeName-clause-parts
-returns-in_ok-push-in-TypeName-clause-parts g c policy statements s is at knows so_far =
+returns-in_ok-push-in-TypeName-clause-parts g c policy statements s is at knows sets so_far =
     let modules = modules_of c.args.self.now.checker.now.bound.joined.now in
     let names = c.args.self.now.numbering.now.names.items in
     let parts = c.args.parts.now in
@@ -41,12 +36,13 @@ returns-in_ok-push-in-TypeName-clause-parts g c policy statements s is at knows 
       attributes_below = so_far.attributes_below;
       classes_are = stay (class_of modules names) (class_if policy) parts.classes.items parts.classes.items statements s so_far.classes_are refl (no-class policy s (kind.a_class));
       classes_below = so_far.classes_below;
+      permission_sets_are = so_far.permission_sets_are;
       sets_are = record { is = stay (set_of modules names) (set_if policy) parts.sets.items parts.sets.items statements s so_far.sets_are.is refl (kind.no_set refl); below = so_far.sets_are.below };
       rules_are = rules-stay modules names policy parts.rules.items statements s so_far.rules_are (kind.no_rule refl);
     }
 
 pub returns-in_ok-push-in-TypeAttribute-clause-parts : goal.returns-in_ok-push-in-TypeAttribute-clause-parts
-returns-in_ok-push-in-TypeAttribute-clause-parts g c policy statements s is at knows so_far =
+returns-in_ok-push-in-TypeAttribute-clause-parts g c policy statements s is at knows sets so_far =
     let modules = modules_of c.args.self.now.checker.now.bound.joined.now in
     let names = c.args.self.now.numbering.now.names.items in
     let parts = c.args.parts.now in
@@ -63,12 +59,13 @@ returns-in_ok-push-in-TypeAttribute-clause-parts g c policy statements s is at k
       attributes_below = below-more (is_name_below (length names)) parts.attributes.items _ d so_far.attributes_below c.in_ok-push-in-TypeAttribute.ensures.items made.1;
       classes_are = stay (class_of modules names) (class_if policy) parts.classes.items parts.classes.items statements s so_far.classes_are refl (no-class policy s (kind.a_class));
       classes_below = so_far.classes_below;
+      permission_sets_are = so_far.permission_sets_are;
       sets_are = record { is = stay (set_of modules names) (set_if policy) parts.sets.items parts.sets.items statements s so_far.sets_are.is refl (kind.no_set refl); below = so_far.sets_are.below };
       rules_are = rules-stay modules names policy parts.rules.items statements s so_far.rules_are (kind.no_rule refl);
     }
 
 pub returns-in_ok-push-in-Class-clause-parts : goal.returns-in_ok-push-in-Class-clause-parts
-returns-in_ok-push-in-Class-clause-parts g c policy statements s is at knows so_far =
+returns-in_ok-push-in-Class-clause-parts g c policy statements s is at knows sets so_far =
     let modules = modules_of c.args.self.now.checker.now.bound.joined.now in
     let names = c.args.self.now.numbering.now.names.items in
     let parts = c.args.parts.now in
@@ -84,12 +81,13 @@ returns-in_ok-push-in-Class-clause-parts g c policy statements s is at knows so_
       attributes_below = so_far.attributes_below;
       classes_are = grow (class_of modules names) (class_if policy) parts.classes.items _ (x ∷ []) statements s so_far.classes_are c.in_ok-push-in-Class.ensures.items (ap (λ y. y ∷ []) made.is ∙ sym (ap (λ b. if b then class_as policy s ∷ [] else []) kind.a_class));
       classes_below = below-more (is_class_below (length names)) parts.classes.items _ x so_far.classes_below c.in_ok-push-in-Class.ensures.items made.below;
+      permission_sets_are = so_far.permission_sets_are;
       sets_are = record { is = stay (set_of modules names) (set_if policy) parts.sets.items parts.sets.items statements s so_far.sets_are.is refl (kind.no_set refl); below = so_far.sets_are.below };
       rules_are = rules-stay modules names policy parts.rules.items statements s so_far.rules_are (kind.no_rule refl);
     }
 
 pub returns-in_ok-push-in-TypeAttributeSet-clause-parts : goal.returns-in_ok-push-in-TypeAttributeSet-clause-parts
-returns-in_ok-push-in-TypeAttributeSet-clause-parts g c policy statements s is at knows so_far =
+returns-in_ok-push-in-TypeAttributeSet-clause-parts g c policy statements s is at knows sets so_far =
     let modules = modules_of c.args.self.now.checker.now.bound.joined.now in
     let names = c.args.self.now.numbering.now.names.items in
     let parts = c.args.parts.now in
@@ -107,57 +105,70 @@ returns-in_ok-push-in-TypeAttributeSet-clause-parts g c policy statements s is a
       attributes_below = so_far.attributes_below;
       classes_are = stay (class_of modules names) (class_if policy) parts.classes.items parts.classes.items statements s so_far.classes_are refl (no-class policy s (kind.a_class));
       classes_below = so_far.classes_below;
+      permission_sets_are = so_far.permission_sets_are;
       sets_are = record { is = grow (set_of modules names) (set_if policy) parts.sets.items _ (x ∷ []) statements s so_far.sets_are.is c.in_ok-push-in-TypeAttributeSet.ensures.items made.is; below = below-more (is_set_below (length names)) parts.sets.items _ x so_far.sets_are.below c.in_ok-push-in-TypeAttributeSet.ensures.items (first_true (is_set_below (length names) x) true made.below) };
       rules_are = rules-stay modules names policy parts.rules.items statements s so_far.rules_are (kind.no_rule refl);
     }
 
-pub returns-in_ok-push-in_default-clause-parts : goal.returns-in_ok-push-in_default-clause-parts
-returns-in_ok-push-in_default-clause-parts g c policy statements s is at knows so_far =
+pub rule_of_class-requires : goal.rule_of_class-requires
+rule_of_class-requires g c =
+    let (policy, is, low) = c.requires in
+    let (s, at) = there-at policy c.args.i low in
+    let seen = c.seen-seen.ensures.seen policy s is.noted.is at in
+    let kind = sym (seen-kind c.seen-seen.result policy s seen) in (
+      policy,
+      s,
+      record { lowering = is; there = contained policy c.args.i s at; seen_is = seen; worded = c.seen-seen.ensures.worded policy is.noted.is },
+      at,
+      form-of-class s.form (ap is_of_class kind ∙ elim c.in-Rule.is [ inl e ↦ ap is_of_class e.1 | inr e ↦ ap is_of_class e.1 ]),
+    )
+
+pub rule_of_set-requires : goal.rule_of_set-requires
+rule_of_set-requires g c =
+    let (policy, is, low) = c.requires in
+    let (s, at) = there-at policy c.args.i low in
+    let seen = c.seen-seen.ensures.seen policy s is.noted.is at in
+    let kind = sym (seen-kind c.seen-seen.result policy s seen) in (
+      policy,
+      s,
+      record { lowering = is; there = contained policy c.args.i s at; seen_is = seen; worded = c.seen-seen.ensures.worded policy is.noted.is },
+      at,
+      form-of-set s.form (ap is_of_set kind ∙ elim c.in-RuleOfSet.is [ inl e ↦ ap is_of_set e.1 | inr e ↦ ap is_of_set e.1 ]),
+    )
+
+pub returns-in_ok-push-in-Rule-clause-parts : goal.returns-in_ok-push-in-Rule-clause-parts
+returns-in_ok-push-in-Rule-clause-parts g c policy statements s is at knows sets so_far =
     let modules = modules_of c.args.self.now.checker.now.bound.joined.now in
     let names = c.args.self.now.numbering.now.names.items in
-    let parts = c.args.parts.now in
     let seen = c.seen-seen.ensures.seen policy s is.noted.is at in
     let is_in : IsIn c.args.self.now c.seen-seen.result policy s = record { lowering = is; there = contained policy c.args.i s at; seen_is = seen; worded = c.seen-seen.ensures.worded policy is.noted.is } in
-    let kind = of-kind policy s c.seen-seen.result.view.kind (sym (seen-kind c.seen-seen.result policy s seen)) in
-    let r = c.in-Some.rule in
-    let made : AreRules modules names policy (r ∷ []) (rule_if policy s) = subst (λ o. AreRules modules names policy (option_to_list o) (rule_if policy s)) c.in-Some.is (c.in_ok-rule-in_default.ensures.rule policy s is_in at knows) in
-    record {
-      types_are = stay (declared_of modules names) type_if parts.types.items parts.types.items statements s so_far.types_are refl (no-type s (kind.type ∙ no-type-kind c.seen-seen.result.view.kind c.in_default.not-TypeName));
-      types_below = so_far.types_below;
-      attributes_are = stay (declared_of modules names) attribute_if parts.attributes.items parts.attributes.items statements s so_far.attributes_are refl (no-attribute s (kind.attribute ∙ no-attribute-kind c.seen-seen.result.view.kind c.in_default.not-TypeAttribute));
-      attributes_below = so_far.attributes_below;
-      classes_are = stay (class_of modules names) (class_if policy) parts.classes.items parts.classes.items statements s so_far.classes_are refl (no-class policy s (kind.a_class ∙ no-class-kind c.seen-seen.result.view.kind c.in_default.not-Class));
-      classes_below = so_far.classes_below;
-      sets_are = record { is = stay (set_of modules names) (set_if policy) parts.sets.items parts.sets.items statements s so_far.sets_are.is refl (kind.no_set (no-set-kind c.seen-seen.result.view.kind c.in_default.not-TypeAttributeSet)); below = so_far.sets_are.below };
-      rules_are = rules-grow modules names policy parts.rules.items _ r statements s so_far.rules_are c.in_ok-push-in_default.ensures.items made;
-    }
+    let kind = sym (seen-kind c.seen-seen.result policy s seen) in
+    let rule = form-of-class s.form (ap is_of_class kind ∙ elim c.in-Rule.is [ inl e ↦ ap is_of_class e.1 | inr e ↦ ap is_of_class e.1 ]) in
+    with-rule modules names policy statements s c.args.parts.now _ c.in_ok-rule-in-Rule.rule (ap is_rule_kind kind ∙ elim c.in-Rule.is [ inl e ↦ ap is_rule_kind e.1 | inr e ↦ ap is_rule_kind e.1 ]) so_far
+    c.in_ok-push-in-Rule.ensures.items (c.in_ok-rule-in-Rule.ensures.rule policy s is_in at rule knows)
 
-pub returns-in_default-2-clause-parts : goal.returns-in_default-2-clause-parts
-returns-in_default-2-clause-parts g c policy statements s is at knows so_far =
+pub returns-in_ok-push-in-RuleOfSet-clause-parts : goal.returns-in_ok-push-in-RuleOfSet-clause-parts
+returns-in_ok-push-in-RuleOfSet-clause-parts g c policy statements s is at knows sets so_far =
     let modules = modules_of c.args.self.now.checker.now.bound.joined.now in
     let names = c.args.self.now.numbering.now.names.items in
-    let parts = c.args.parts.now in
     let seen = c.seen-seen.ensures.seen policy s is.noted.is at in
     let is_in : IsIn c.args.self.now c.seen-seen.result policy s = record { lowering = is; there = contained policy c.args.i s at; seen_is = seen; worded = c.seen-seen.ensures.worded policy is.noted.is } in
-    let kind = of-kind policy s c.seen-seen.result.view.kind (sym (seen-kind c.seen-seen.result policy s seen)) in
-    let made : AreRules modules names policy [] (rule_if policy s) = subst (λ o. AreRules modules names policy (option_to_list o) (rule_if policy s)) c.in_default-2.is (c.in_ok-rule-in_default.ensures.rule policy s is_in at knows) in
-    record {
-      types_are = stay (declared_of modules names) type_if parts.types.items parts.types.items statements s so_far.types_are refl (no-type s (kind.type ∙ no-type-kind c.seen-seen.result.view.kind c.in_default.not-TypeName));
-      types_below = so_far.types_below;
-      attributes_are = stay (declared_of modules names) attribute_if parts.attributes.items parts.attributes.items statements s so_far.attributes_are refl (no-attribute s (kind.attribute ∙ no-attribute-kind c.seen-seen.result.view.kind c.in_default.not-TypeAttribute));
-      attributes_below = so_far.attributes_below;
-      classes_are = stay (class_of modules names) (class_if policy) parts.classes.items parts.classes.items statements s so_far.classes_are refl (no-class policy s (kind.a_class ∙ no-class-kind c.seen-seen.result.view.kind c.in_default.not-Class));
-      classes_below = so_far.classes_below;
-      sets_are = record { is = stay (set_of modules names) (set_if policy) parts.sets.items parts.sets.items statements s so_far.sets_are.is refl (kind.no_set (no-set-kind c.seen-seen.result.view.kind c.in_default.not-TypeAttributeSet)); below = so_far.sets_are.below };
-      rules_are = rules-stay modules names policy parts.rules.items statements s so_far.rules_are (sym made.is);
-    }
+    let kind = sym (seen-kind c.seen-seen.result policy s seen) in
+    let rule = form-of-set s.form (ap is_of_set kind ∙ elim c.in-RuleOfSet.is [ inl e ↦ ap is_of_set e.1 | inr e ↦ ap is_of_set e.1 ]) in
+    with-rule modules names policy statements s c.args.parts.now _ c.in_ok-rule-in-RuleOfSet.rule (ap is_rule_kind kind ∙ elim c.in-RuleOfSet.is [ inl e ↦ ap is_rule_kind e.1 | inr e ↦ ap is_rule_kind e.1 ]) so_far
+    c.in_ok-push-in-RuleOfSet.ensures.items (c.in_ok-rule-in-RuleOfSet.ensures policy s is_in at rule sets)
 
-pub returns-in_ok-push-in_default-clause-known : goal.returns-in_ok-push-in_default-clause-known
-returns-in_ok-push-in_default-clause-known g c policy s is at knows =
-    let seen = c.seen-seen.ensures.seen policy s is.noted.is at in
-    c.in_ok-rule-in_default.ensures.known policy s (record { lowering = is; there = contained policy c.args.i s at; seen_is = seen; worded = c.seen-seen.ensures.worded policy is.noted.is }) at knows
+pub returns-in_default-clause-parts : goal.returns-in_default-clause-parts
+returns-in_default-clause-parts g c policy statements s is at knows sets so_far =
+    let modules = modules_of c.args.self.now.checker.now.bound.joined.now in
+    let names = c.args.self.now.numbering.now.names.items in
+    let kind = c.seen-seen.result.view.kind in
+    let other = c.in_default in
+    with-none modules names policy statements s c.args.parts.now kind (sym (seen-kind c.seen-seen.result policy s (c.seen-seen.ensures.seen policy s is.noted.is at))) (no-type-kind kind other.not-TypeName)
+    (no-attribute-kind kind other.not-TypeAttribute) (no-class-kind kind other.not-Class) (no-set-kind kind other.not-TypeAttributeSet)
+    (no-rule-kind kind other.not-Rule other.not-RuleToSelf other.not-RuleOfSet other.not-RuleToSelfOfSet) so_far
 
-pub returns-in_default-2-clause-known : goal.returns-in_default-2-clause-known
-returns-in_default-2-clause-known g c policy s is at knows =
-    let seen = c.seen-seen.ensures.seen policy s is.noted.is at in
-    c.in_ok-rule-in_default.ensures.known policy s (record { lowering = is; there = contained policy c.args.i s at; seen_is = seen; worded = c.seen-seen.ensures.worded policy is.noted.is }) at knows
+pub returns-in_ok-push-in-Rule-clause-known : goal.returns-in_ok-push-in-Rule-clause-known
+returns-in_ok-push-in-Rule-clause-known g c policy s is at knows =
+    c.in_ok-rule-in-Rule.ensures.known policy s
+    (record { lowering = is; there = contained policy c.args.i s at; seen_is = c.seen-seen.ensures.seen policy s is.noted.is at; worded = c.seen-seen.ensures.worded policy is.noted.is }) at knows

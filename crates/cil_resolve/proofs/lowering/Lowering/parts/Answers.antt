@@ -1,5 +1,5 @@
-use Rattle.cil_resolve.proofs.Common.{◌≡◌, ◌≤◌, ◌∙◌, [], rules, length, take, sym, subst, arith, take_all, none-some, there-at, ArePartsOf, modules_of}
-use Rattle.cil_resolve.proofs.RuleLemmas.{no-rules}
+use Rattle.cil_resolve.proofs.Common.{◌≤◌, length, take, sym, subst, arith, take_all, there-at, ArePartsOf, GivesSets, KnowSets, modules_of}
+use Rattle.cil_resolve.proofs.KnownLemmas.{none-known}
 use Rattle.cil_resolve.proofs.StatementLemmas.{take-one}
 use Rattle.cil_resolve.proofs.lowering.Lowering.parts.Goals as goal
 
@@ -11,18 +11,9 @@ add-requires g c =
 
 pub loop-i-init : goal.loop-i-init
 loop-i-init g c policy is =
-    let none : c.in_ok-with_capacity-2.field-0.items ≡ [] = search rules in (
-      record {
-        types_are = search rules;
-        types_below = search rules;
-        attributes_are = search rules;
-        attributes_below = search rules;
-        classes_are = search rules;
-        classes_below = search rules;
-        sets_are = search rules;
-        rules_are = no-rules (modules_of c.args.self.now.checker.now.bound.joined.now) c.args.self.now.numbering.now.names.items policy c.in_ok-with_capacity-2.field-0.items none;
-      },
-      λ m n numbers found. absurd (none-some numbers (sym (c.new-known.ensures m n) ∙ found)),
+    let none = none-known c.args.self.now c.new-known.result policy c.new-known.ensures in (
+      c.in_ok-parts.ensures policy (c.in_ok-permission_sets.ensures.sets policy is none),
+      c.in_ok-permission_sets.ensures.known policy is none,
     )
 
 pub loop-i-preserved : goal.loop-i-preserved
@@ -32,8 +23,14 @@ loop-i-preserved g c policy is =
     let (s, at) = there-at policy i (omega (arith, count)) in
     let modules = modules_of c.args.self.now.checker.now.bound.joined.now in
     let names = c.args.self.now.numbering.now.names.items in
-    let (so_far, knows) = c.loop-i.invariant policy is in (
-      subst (λ l. ArePartsOf modules names policy l c.add.new.parts) (sym (take-one policy i s at)) (c.in_ok-add.ensures.parts policy (take i policy) s is at knows so_far),
+    let (so_far, knows) = c.loop-i.invariant policy is in
+    let none = none-known c.args.self.now c.new-known.result policy c.new-known.ensures in
+    let sets : KnowSets c.args.self.now c.in_ok-given.given policy = record {
+      sets = c.in_ok-permission_sets.permission_sets.items;
+      are = c.in_ok-permission_sets.ensures.sets policy is none;
+      give = subst (λ l. GivesSets l c.in_ok-given.given) c.deref.ensures.value c.in_ok-given.ensures;
+    } in (
+      subst (λ l. ArePartsOf modules names policy l c.add.new.parts) (sym (take-one policy i s at)) (c.in_ok-add.ensures.parts policy (take i policy) s is at knows sets so_far),
       c.in_ok-add.ensures.known policy s is at knows,
     )
 

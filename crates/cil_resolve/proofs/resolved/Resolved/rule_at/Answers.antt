@@ -1,26 +1,23 @@
-use Rattle.cil_resolve.proofs.Common.{ℕ, ◌≡◌, ◌∙◌, length, refl, map, [], Some, option_map, sym, ap, get_or, length-map, slice_get-map, leaves, leaves-mapped, place_of, rule_kind_of, element_of, resolved_target_of}
+use Rattle.cil_resolve.proofs.Common.{◌≡◌, ◌∙◌, length, refl, Some, option_map, sym, ap, slice_get-map, place_of, rule_kind_of}
 use Rattle.std.proofs.Common.{slice_get}
 use Rattle.std.proofs.lemmas.Option.{slice_get_read}
-use Rattle.cil_resolve.specs.Numbers.{rule_of, written_in}
-use Rattle.cil_resolve.specs.Views.{rule_head, rule_seen}
+use Rattle.cil_resolve.specs.Numbers.{rule_of}
+use Rattle.cil_resolve.specs.Views.{rule_head}
 use Rattle.cil_resolve.proofs.resolved.Resolved.rule_at.Goals as goal
 
 pub returns : goal.returns
 returns g c =
     let r = c.args.self.now in
     let x = c.in_ok-rule.rule.now in
-    let f = λ (p : ℕ). get_or r.names.items p [] in
     let is = rule_of r.modules.items r.names.items in
     let found = c.in_ok-rule.ensures.lookup in
     let there : slice_get r.rules.items c.args.i ≡ Some x = ap (λ l. slice_get l c.args.i) (sym c.deref.ensures.value) ∙ slice_get_read c.deref.result.now (length c.deref.result.now) c.args.i x refl found.3.0 found.1 in
-    let names = ap length c.named_permissions.ensures ∙ sym (length-map (leaves (written_in x)) f) ∙ ap length (sym (leaves-mapped f (written_in x))) in
     let head : _ ≡ rule_head (is x) = λ k. record {
       module_name = c.module.ensures k;
       at = place_of x.at;
       kind = rule_kind_of x.kind;
       source = c.element.ensures k;
       target = c.aim.ensures k;
-      the_class = c.name.ensures k;
-      permissions = names k;
+      permissions = c.permissions.ensures k;
     } in
     ap Some head ∙ sym (ap (option_map rule_head) (slice_get-map is r.rules.items c.args.i ∙ ap (option_map is) there))

@@ -1,8 +1,9 @@
-use Rattle.cil_violations.proofs.Common.{◌∙◌, ◌-◌, ◌+◌, ◌<◌, ◌++◌, length, ap, sym, arith, length-map, rule_of, hits, tests_of, rules_in, pair_rows}
+use Rattle.cil_violations.proofs.Common.{◌∙◌, ◌-◌, ◌+◌, ◌<◌, ◌++◌, length, ap, sym, subst, arith, length-map, rule_of, AreMetBySet, hits, tests_of, rules_in, pair_rows}
 use Rattle.std.proofs.Common.{flat_map}
+use Rattle.cil_violations.specs.declared.search.Met.{Met}
 use Rattle.cil_violations.proofs.HitLemmas.{hits-here, hits-past, done-more, done-same}
 use Rattle.cil_violations.proofs.search.Search.push_all.Goals as goal
-use Rattle.cil_violations.proofs.search.Search.push_all.Goals.{then-is_never+in_ok-push_pairs, else-is_never}
+use Rattle.cil_violations.proofs.search.Search.push_all.Goals.{then-is_never+in_ok-bring+in_ok-push_pairs, else-is_never}
 
 pub loop-never-preserved : goal.loop-never-preserved
 loop-never-preserved g c =
@@ -13,11 +14,18 @@ loop-never-preserved g c =
     let i = c.loop-never.never in
     let long = c.rules_len-never-end.ensures in
     let within : i < all = (let mapped = length-map (rules_in s) (rule_of s.resolved.now.modules.items s.resolved.now.names.items) in omega (arith, long, mapped, c.loop-never-test.true)) in
+    let m = c.loop-never.invariant in
     elim c.if-is_never.branch [
-      | then-is_never+in_ok-push_pairs w ↦
-          ap (λ l. l ++ flat_map rows (hits test (i + 1) (all - (i + 1)))) (ap (λ v. v.items) w.rows-is ∙ w.in_ok-push_pairs.ensures)
-          ∙ done-more rows _ c.loop-never.rows.items i (hits test i (all - i)) (hits test (i + 1) (all - (i + 1))) (hits-here test all i within (sym c.is_never.ensures ∙ w.if-is_never.true)) c.loop-never.invariant
-      | else-is_never w ↦
-          ap (λ l. l ++ flat_map rows (hits test (i + 1) (all - (i + 1)))) (ap (λ v. v.items) w.rows-is)
-          ∙ done-same rows _ c.loop-never.rows.items (hits test i (all - i)) (hits test (i + 1) (all - (i + 1))) (hits-past test all i within (sym c.is_never.ensures ∙ w.if-is_never.false)) c.loop-never.invariant
+      | then-is_never+in_ok-bring+in_ok-push_pairs w ↦ record {
+        known = subst (λ (x : Met _). AreMetBySet s x.set x.rules.items) (sym w.met-is) w.in_ok-bring.ensures.known;
+        so_far =
+            ap (λ l. l ++ flat_map rows (hits test (i + 1) (all - (i + 1)))) (ap (λ v. v.items) w.rows-is ∙ w.in_ok-push_pairs.ensures)
+            ∙ done-more rows _ c.loop-never.rows.items i (hits test i (all - i)) (hits test (i + 1) (all - (i + 1))) (hits-here test all i within (sym c.is_never.ensures ∙ w.if-is_never.true)) m.so_far;
+      }
+      | else-is_never w ↦ record {
+        known = subst (λ (x : Met _). AreMetBySet s x.set x.rules.items) (sym w.met-is) m.known;
+        so_far =
+            ap (λ l. l ++ flat_map rows (hits test (i + 1) (all - (i + 1)))) (ap (λ v. v.items) w.rows-is)
+            ∙ done-same rows _ c.loop-never.rows.items (hits test i (all - i)) (hits test (i + 1) (all - (i + 1))) (hits-past test all i within (sym c.is_never.ensures ∙ w.if-is_never.false)) m.so_far;
+      }
     ]

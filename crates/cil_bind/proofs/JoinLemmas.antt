@@ -1,2 +1,0 @@
--- Modules in the order of their names.
-use Rattle.cil_specs.specs.Joined.{Module}

@@ -1,0 +1,34 @@
+use Rattle.cil_resolve.proofs.Common.{◌≡◌, ◌∙◌, ◌∷◌, [], inl, inr, Contains, sym, ap, subst, references, element_words, target_words, contains-first, contains-other, rule_kind_of, kind_of, rule_kind, rule, seen-kind, modules_of}
+use Rattle.std.proofs.Common.{slice_get}
+use Rattle.cil_resolve.proofs.FormLemmas.{code_in, rule-code, aims_at_word, aims_at_self, word-aimed, self-aimed}
+use Rattle.cil_resolve.proofs.RuleLemmas.{kind-back, start-itself, start-named}
+use Rattle.cil_resolve.proofs.lowering.Lowering.rule_start.Goals as goal
+use Rattle.cil_resolve.proofs.lowering.Lowering.rule_start.Goals.{in-RuleToSelf, in-RuleToSelf-2, in-Rule2}
+
+pub returns : goal.returns
+returns g c policy s kind source target permissions is at form =
+    let modules = modules_of c.args.self.now.checker.now.bound.joined.now in
+    let names = c.args.self.now.numbering.now.names.items in
+    let are = ap kind_of (sym form) ∙ sym (seen-kind c.args.seen.now policy s is.seen_is) in
+    let from = c.element-2.ensures policy s source is (ap (λ f. slice_get (references f) 0) form) (subst (λ f. Contains (element_words f) source) (sym form) (contains-first source (target_words target))) in
+    let placed_in = c.module.ensures policy s is.lowering at in
+    let placed = is.seen_is.shown.at ∙ is.seen_is.place in
+    elim c.match-seen.branch [
+      | in-RuleToSelf w ↦
+          let code : rule_kind kind ≡ w.in-RuleToSelf.kind = sym (rule-code kind source target permissions) ∙ ap code_in are ∙ elim w.in-RuleToSelf.is [ inl e ↦ ap code_in e | inr e ↦ ap code_in e ] in
+          let aimed = self-aimed kind source target permissions (ap aims_at_self are ∙ elim w.in-RuleToSelf.is [ inl e ↦ ap aims_at_self e | inr e ↦ ap aims_at_self e ]) in
+          start-itself modules names policy s kind source target permissions _ form aimed placed_in placed (ap (λ t. rule_kind_of t.0) w.kind-is ∙ ap rule_kind_of (sym code) ∙ kind-back kind) from
+          (ap (λ t. t.1) w.kind-is) (ap (λ t. t.2) w.kind-is)
+      | in-RuleToSelf-2 w ↦
+          let code : rule_kind kind ≡ w.in-RuleToSelf.kind = sym (rule-code kind source target permissions) ∙ ap code_in are ∙ elim w.in-RuleToSelf.is [ inl e ↦ ap code_in e | inr e ↦ ap code_in e ] in
+          let aimed = self-aimed kind source target permissions (ap aims_at_self are ∙ elim w.in-RuleToSelf.is [ inl e ↦ ap aims_at_self e | inr e ↦ ap aims_at_self e ]) in
+          start-itself modules names policy s kind source target permissions _ form aimed placed_in placed (ap (λ t. rule_kind_of t.0) w.kind-is ∙ ap rule_kind_of (sym code) ∙ kind-back kind) from
+          (ap (λ t. t.1) w.kind-is) (ap (λ t. t.2) w.kind-is)
+      | in-Rule2 w ↦
+          let code : rule_kind kind ≡ w.in-Rule.kind = sym (rule-code kind source target permissions) ∙ ap code_in are ∙ elim w.in-Rule.is [ inl e ↦ ap code_in e | inr e ↦ ap code_in e ] in
+          let (word, aimed) = word-aimed kind source target permissions (ap aims_at_word are ∙ elim w.in-Rule.is [ inl e ↦ ap aims_at_word e | inr e ↦ ap aims_at_word e ]) in
+          let named = form ∙ ap (λ t. rule kind source t permissions) aimed in
+          let to = w.element.ensures policy s word is (ap (λ f. slice_get (references f) 1) named) (subst (λ f. Contains (element_words f) word) (sym named) (contains-other source (word ∷ []) word (contains-first word []))) in
+          start-named modules names policy s kind source target permissions _ form word aimed w.element.result placed_in placed (ap (λ t. rule_kind_of t.0) w.kind-is ∙ ap rule_kind_of (sym code) ∙ kind-back kind) from
+          (ap (λ t. t.1) w.kind-is) to (ap (λ t. t.2) w.kind-is)
+    ]

@@ -1,0 +1,68 @@
+//! Set statements by the numbers of their names.
+
+ghost use Rattle.std.specs.Prelude.{◌≡◌, ◌<◌, ◌∷◌, [], List, Some, map, length, slice_get, IfOk};
+ghost use Rattle.cil_resolve.specs.Common.{Word, WordExpr, leaves, map_leaves, attribute_set, Placed, types, leads, IsIn, AreElements, IsSet, IsExpression, AreSets, modules_of, set_if, number_in};
+ghost use Rattle.cil_specs.specs.Rule.{element_of as element_led, name_or_none};
+
+use crate::lowering::Lowering;
+use crate::numbered::NumberedSet;
+use crate::one_name::{is_list_of_name, is_name};
+use crate::words::number_at;
+use cil_check::Seen;
+use cil_expression::{Element, SetExpression};
+use std::alloc::{AllocError, Allocator};
+
+impl<'l, 'p, 'm, A: Allocator + Copy> Lowering<'l, 'p, 'm, A> {
+    /// The number of the attribute of a set statement.
+    fn attribute(&self, seen: &Seen<'p, 'm, A>) -> usize
+        ensures { (policy : List Placed) (s : Placed) (attribute : Word) (expr : WordExpr) → IsIn self.now seen.now policy s → s.form ≡ attribute_set attribute expr
+            → number_in self.now.numbering.now.names.items (name_or_none types (leads policy types s.namespace attribute.text)) ≡ Some result }
+    {
+        let declared = seen.lead(0).unwrap_or(0);
+        number_at(&self.numbering.places, declared as usize)
+    }
+
+    /// What the names of the expression of a set statement stand for, in their order.
+    fn set_elements(&self, seen: &Seen<'p, 'm, A>) -> Result<Vec<Element, A>, AllocError>
+        ensures { IfOk result (λ elements. (policy : List Placed) (s : Placed) (attribute : Word) (expr : WordExpr) → IsIn self.now seen.now policy s → s.form ≡ attribute_set attribute expr
+            → AreElements self.now.numbering.now.names.items elements.items (map (element_led policy s.namespace) (leaves expr))) }
+    {
+        let count = seen.view.words.len().saturating_sub(1);
+        let mut elements = Vec::with_capacity(self.alloc, count)?;
+        for k in 0..count {
+            elements.push(self.element(seen, k + 1))?;
+        }
+        Ok(elements)
+    }
+
+    /// The expression of a set statement. Most are one name, alone or as the only element of a list, which takes no memory.
+    fn set_expression(&self, seen: &Seen<'p, 'm, A>) -> Result<SetExpression<A>, AllocError>
+        requires { (policy : List Placed) × (s : Placed) × IsIn self.now seen.now policy s × IsSet s.form }
+        ensures { IfOk result (λ e. (policy : List Placed) (s : Placed) (attribute : Word) (expr : WordExpr) → IsIn self.now seen.now policy s → s.form ≡ attribute_set attribute expr
+            → IsExpression self.now.numbering.now.names.items e (map_leaves (element_led policy s.namespace) expr)) }
+    {
+        if is_name(seen.view.nodes) {
+            return Ok(SetExpression::named(self.element(seen, 1)));
+        }
+        if is_list_of_name(seen.view.nodes) {
+            return Ok(SetExpression::listed(self.element(seen, 1)));
+        }
+        let nodes = Vec::from_slice(self.alloc, seen.view.nodes)?;
+        let names = self.set_elements(seen)?;
+        Ok(SetExpression::new(nodes, names))
+    }
+
+    /// The set statement of a place.
+    pub(crate) fn set(&self, seen: &Seen<'p, 'm, A>, i: usize) -> Result<NumberedSet<A>, AllocError>
+        requires { (policy : List Placed) × (s : Placed) × IsIn self.now seen.now policy s × IsSet s.form × (i < length policy) }
+        ensures { IfOk result (λ set. (policy : List Placed) (s : Placed) (attribute : Word) (expr : WordExpr) → IsIn self.now seen.now policy s → slice_get policy i ≡ Some s → s.form ≡ attribute_set attribute expr
+            → AreSets (modules_of self.now.checker.now.bound.joined.now) self.now.numbering.now.names.items (set ∷ []) (set_if policy s)) }
+    {
+        Ok(NumberedSet {
+            module: self.module(i),
+            at: seen.view.at,
+            attribute: self.attribute(seen),
+            expression: self.set_expression(seen)?,
+        })
+    }
+}
