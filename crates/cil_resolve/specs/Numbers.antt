@@ -138,8 +138,8 @@ meaning_by modules names types attributes classes permission_sets sets rules dro
   dropped = map (dropped_with modules) dropped;
 }
 
--- The rules name types and attributes, as they are tagged, and classes with permissions, that are declared; so do the statements of
--- permission sets; and all stand in these modules.
+-- The rules name types and attributes, as they are tagged, and classes with permissions, that are declared, and the statements of
+-- permission sets name such classes with permissions; declarations and rules stand in these modules.
 pub record AreConsistent {A : Type 0} (modules names : List (List ℕ)) (types attributes : List NumberedName) (classes : List (NumberedClass A)) (permission_sets : List (NumberedPermissionSet A)) (rules : List (NumberedRule A)) : Type 0 where
   pub declared : IsTrue (are_rules_of (map (declared_of modules names) types) (map (declared_of modules names) attributes) (map (class_of modules names) classes) (map (rule_of modules names) rules))
   pub sets_declared : IsTrue (are_permission_sets_of (map (class_of modules names) classes) (map (permission_set_of modules names) permission_sets))

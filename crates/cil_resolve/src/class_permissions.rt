@@ -13,7 +13,11 @@ use std::alloc::{AllocError, Allocator};
 
 impl<'l, 'p, 'm, A: Allocator + Copy> Lowering<'l, 'p, 'm, A> {
     /// Puts in the numbers of the permissions that the class or the common of a place lists, each once.
-    fn add_listed(&self, permissions: &mut Vec<usize, A>, place: u32) -> Result<(), AllocError>
+    pub(crate) fn add_listed(
+        &self,
+        permissions: &mut Vec<usize, A>,
+        place: u32,
+    ) -> Result<(), AllocError>
         requires { (policy : List Placed) × IsLowering self.now policy }
         ensures { OnOk result ((policy : List Placed) (s : Placed) (before : List (List ℕ)) → IsLowering self.now policy → slice_get policy place ≡ Some s → IsTrue (lists_own (kind_of s.form))
             → AreNumbersIn self.now.numbering.now.names.items before permissions.old.items

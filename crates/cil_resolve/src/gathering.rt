@@ -137,8 +137,8 @@ impl<A: Allocator> GivenSets<A> {
             → IsOrdered (set_gives statements set) (rc_value s.given).items) }
     {
         match place_of(&self.numbers, set) {
-            Some(place) => self.sets[place].share_as(set),
-            None => self.none.share_as(set),
+            Some(place) => self.sets[place].share(set),
+            None => self.none.share(set),
         }
     }
 }

@@ -1,4 +1,4 @@
-//! Numbers of permissions that rules share.
+//! Numbers of permissions that statements share.
 
 ghost use Rattle.std.specs.Prelude.{◌≡◌, IfOk};
 
@@ -6,7 +6,8 @@ use std::alloc::{AllocError, Allocator, Global};
 use std::marker::Model;
 use std::rc::Rc;
 
-/// The numbers of the permissions that a rule gives. Rules of a module with the same plain list of permissions share one list of them.
+/// The numbers of the permissions that a rule or a statement of a permission set gives of its class. Statements of a module with the same
+/// plain list of permissions share one list of them.
 /// Contracts see it as the numbers.
 #[derive(Drop)]
 pub struct PermissionNumbers<A: Allocator = Global> {

@@ -33,7 +33,7 @@ fn put_in_order<A: Allocator>(permissions: &mut Vec<ClassPermission, A>)
 }
 
 impl<A: Allocator + Copy> SetPermissions<A> {
-    /// What a set of this number gives: these permissions, which no rule shares yet.
+    /// What a set of this number gives: these permissions, which no rule shares yet. What is kept has no room for repeats.
     pub(crate) fn of(
         alloc: A,
         set: usize,
@@ -42,8 +42,9 @@ impl<A: Allocator + Copy> SetPermissions<A> {
         ensures set { IfOk result (λ s. s.set ≡ set) }
         ensures given { IfOk result (λ s. IsOrdered permissions.now (rc_value s.given).items) }
     {
-        let mut given = Vec::from_slice(alloc, permissions)?;
-        put_in_order(&mut given);
+        let mut ordered = Vec::from_slice(alloc, permissions)?;
+        put_in_order(&mut ordered);
+        let given = Vec::from_slice(alloc, &ordered)?;
         Ok(SetPermissions {
             set,
             given: Rc::new(alloc, given)?,
@@ -53,7 +54,7 @@ impl<A: Allocator + Copy> SetPermissions<A> {
 
 impl<A: Allocator> SetPermissions<A> {
     /// The same permissions, for a set of another number. Out of memory stands where no more owners can be counted.
-    pub(crate) fn share_as(&self, set: usize) -> Result<Self, AllocError>
+    pub(crate) fn share(&self, set: usize) -> Result<Self, AllocError>
         ensures set { IfOk result (λ s. s.set ≡ set) }
         ensures given { IfOk result (λ s. rc_value s.given ≡ rc_value self.now.given) }
     {
@@ -61,14 +62,6 @@ impl<A: Allocator> SetPermissions<A> {
             set,
             given: self.given.clone()?,
         })
-    }
-
-    /// The same permissions, for one more rule. Out of memory stands where no more owners can be counted.
-    pub fn share(&self) -> Result<Self, AllocError>
-        ensures set { IfOk result (λ s. s.set ≡ self.now.set) }
-        ensures given { IfOk result (λ s. rc_value s.given ≡ rc_value self.now.given) }
-    {
-        self.share_as(self.set)
     }
 
     /// The permissions, by class and then by permission, each once.
