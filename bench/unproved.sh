@@ -1,12 +1,14 @@
 #!/bin/sh
 # Builds the program of the working tree without proving it, to measure a change before it is proved. It runs as fast as the proved
-# program would. The word of the command is the file to write; the building takes two to three minutes.
+# program would. The first word of the command is the file to write, and the second, where there is one, another crate than cilsem, as
+# cil_trials; the building takes two to three minutes.
 #
 # `rt try` makes the program as LLVM's bitcode, with checks of overflows, indexes and addresses in it. Here it runs from a folder with a
 # compiler in place of the kit's that keeps the bitcode. Out of this the checks are taken, since the proofs make them needless, and it is
 # compiled as a proved program is. A program that isn't proved may do anything, so it is for measuring alone.
 set -eu
 out=$(realpath -m "$1")
+crate=${2:-cilsem}
 cd "$(dirname "$0")/.."
 kit=$(dirname "$(dirname "$(realpath "$(command -v rt)")")")
 folder=$(mktemp -d)
@@ -31,8 +33,10 @@ exec "$kit/toolchain/bin/clang" "\$@"
 KEEP
 chmod +x "$folder/kit/toolchain/bin/clang"
 
-(cd crates/cilsem && "$folder/kit/bin/rt" try -- --help > "$folder/told" 2>&1) || { cat "$folder/told"; exit 1; }
-module=$(ls -S "$folder"/kept/*.bc | head -n 1)
+# (a program that wants another input than none ends with another status)
+(cd "crates/$crate" && "$folder/kit/bin/rt" try -- --help > "$folder/told" 2>&1) || true
+module=$(ls -S "$folder"/kept/*.bc 2> "$folder/known" | head -n 1)
+[ -n "$module" ] || { cat "$folder/told"; exit 1; }
 clang="$kit/toolchain/bin/clang --target=x86_64-unknown-linux-gnu --no-default-config"
 $clang -S -emit-llvm -O0 -x ir "$module" -o "$folder/checked.ll"
 python3 bench/unchecked.py < "$folder/checked.ll" > "$folder/module.ll"
