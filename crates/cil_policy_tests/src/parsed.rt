@@ -116,7 +116,13 @@ const STATEMENTS: [Told; 10] = [
         Some("read"),
     ),
     ((155, 3, 0, 0, 3, 0), ALLOW_SET, None, OF_SET_RULE, None),
-    ((173, 3, 0, 0, 2, 0), ALLOW_SET_SELF, None, OF_SET_SELF, None),
+    (
+        (173, 3, 0, 0, 2, 0),
+        ALLOW_SET_SELF,
+        None,
+        OF_SET_SELF,
+        None,
+    ),
 ];
 
 fn shape_seen(view: &StatementView<'_>) -> Shape {

@@ -235,11 +235,7 @@ const FORMS: &[Said<'static>] = &[
     ("classpermission", &[("a", 281)], &[]),
     ("classpermissionset", &[("b", 303), ("c", 306)], &[]),
     ("allow", &[("d", 319), ("e", 321), ("f", 323)], &[]),
-    (
-        "dontaudit",
-        &[("g", 336), ("self", 0), (".h", 343)],
-        &[],
-    ),
+    ("dontaudit", &[("g", 336), ("self", 0), (".h", 343)], &[]),
 ];
 
 // Statements with names in lists, and a rule to itself.

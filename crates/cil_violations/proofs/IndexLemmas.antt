@@ -86,8 +86,7 @@ put-chains old new old_links new_links place number next within next_is links_is
     by (inl same) =
         let next_at : next ≡ get_or old n None = next_is ∙ sym (get_or_default old number None next within) ∙ ap (λ k. get_or old k None) (sym same) in
         let chain : IsChain old_links (f n) next = subst (IsChain old_links (f n)) (sym next_at) (are n (omega (arith, low, long))) in
-        subst (λ b. IsChain links (cond b (place ∷ f n) (f n)) (get_or first n None)) (sym (eq-eqb number n (sym same)))
-        (
+        subst (λ b. IsChain links (cond b (place ∷ f n) (f n)) (get_or first n None)) (sym (eq-eqb number n (sym same))) (
           length old_links,
           link,
           ap (λ k. get_or first k None) same ∙ get_or-set_same old number (Some (length old_links)) None within,

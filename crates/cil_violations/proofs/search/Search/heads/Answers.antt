@@ -34,8 +34,7 @@ push_chain-requires g c =
     let below = classes-low s.resolved.now s.permissions.now.0 c.requires.search.permissions c.args.never c.requires.never x there in
     let room = c.requires.search.index.classes_len in
     let low : x.class < length s.index.now.first.items = omega (arith, below, room) in
-    let heads = c.requires.search.index.holds.heads x.class in
-    (
+    let heads = c.requires.search.index.holds.heads x.class in (
       heads,
       subst (IsChain s.index.now.links.items heads) (get_or_default s.index.now.first.items x.class None c.index-first.result.now low ∙ sym c.index-first.ensures) (c.requires.search.index.holds.classes x.class low),
     )

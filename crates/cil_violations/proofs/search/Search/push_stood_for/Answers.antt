@@ -16,8 +16,7 @@ push_chain-requires g c =
     let s = c.args.self.now in
     let set = c.in-OfSet.set.set in
     let below = all-at (is_rule_below (names_in s)) (rules_in s) c.args.head c.rule.result.now s.resolved.now.rules_within c.rule.ensures in
-    let low : set < length s.index.now.of_set.items = (let under = set-below (names_in s) c.rule.result.now c.in-OfSet.set below c.in-OfSet.is in let room = c.requires.search.index.sets_len in omega (arith, under, room)) in
-    (
+    let low : set < length s.index.now.of_set.items = (let under = set-below (names_in s) c.rule.result.now c.in-OfSet.set below c.in-OfSet.is in let room = c.requires.search.index.sets_len in omega (arith, under, room)) in (
       rules_of_set (rules_in s) 0 set,
       subst (IsChain s.index.now.links.items (rules_of_set (rules_in s) 0 set)) (get_or_default s.index.now.of_set.items set None c.index-first.result.now low ∙ sym c.index-first.ensures)
           (c.requires.search.index.holds.sets set low),
