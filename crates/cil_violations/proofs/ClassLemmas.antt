@@ -1,5 +1,5 @@
 -- The classes in which two rules share a permission.
-use Rattle.cil_violations.proofs.Common.{◌≡◌, ◌∙◌, ◌⊎◌, inl, inr, ℕ, ◌<◌, List, length, map, Contains, refl, sym, subst, arith, nat_cmp, nat_cmp_total, AnyByRecursion, contains_from, contains_to, ClassPermission, IsOrdered, IsSearch, Search, classes_of, hits, names_in, permissions_at, rules_in, shared, tests_of}
+use Rattle.cil_violations.proofs.Common.{◌≡◌, ℕ, ◌<◌, List, length, map, Contains, refl, sym, subst, arith, nat_cmp, nat_cmp_total, AnyByRecursion, contains_from, contains_to, ClassPermission, IsOrdered, IsSearch, Search, classes_of, names_in, permissions_at, rules_in, shared, tests_of}
 use Rattle.cil_specs.proofs.ViolationLemmas.{one-sorted}
 use Rattle.cil_violations.proofs.FoundLemmas.{hit-from}
 use Rattle.cil_violations.proofs.HitLemmas.{hits-hold}

@@ -1,5 +1,5 @@
 -- The numbers at which a test holds, found one after the other.
-use Rattle.cil_violations.proofs.Common.{◌≡◌, ◌∙◌, inl, inr, ℕ, zero, suc, ◌+◌, ◌-◌, ◌<◌, ◌≤◌, ◌&&◌, AnyByRecursion, Bool, true, false, cond, List, [], ◌∷◌, ◌++◌, length, get_or, refl, sym, ap, subst, arith, append_assoc, add-one, filter, NoneFrom, hits}
+use Rattle.cil_violations.proofs.Common.{◌≡◌, ◌∙◌, inl, inr, ℕ, zero, suc, ◌+◌, ◌-◌, ◌<◌, ◌≤◌, ◌&&◌, AnyByRecursion, Bool, true, false, cond, List, [], ◌∷◌, ◌++◌, length, get_or, refl, sym, ap, arith, append_assoc, add-one, filter, NoneFrom, hits}
 use Rattle.std.proofs.Common.{flat_map}
 
 -- none where it holds at none

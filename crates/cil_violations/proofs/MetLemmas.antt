@@ -1,5 +1,5 @@
 -- The allow rules that a rule meets.
-use Rattle.cil_violations.proofs.Common.{◌≡◌, ◌⊎◌, ◌↔◌, ◌∙◌, inl, inr, ℕ, ◌+◌, ◌-◌, ◌<◌, ◌≤◌, ◌&&◌, ◌||◌, Bool, true, false, IsTrue, List, [], ◌∷◌, ◌++◌, length, get_or, take, Option, Some, None, slice_get, Contains, refl, sym, ap, subst, arith, true≢false, nat_cmp, nat_cmp_total, IsStrictlySortedBy, AnyByRecursion, any-filter, any_from_filter, any-flat_map, any_from_flat_map, any_weaker, contains_to, contains_from, and_parts, and_from, eqb-true, eq-eqb, none-some, same_Some, slice_get_within, filter, flat_map, list_any, take_all, IsOrdered, NumberedRule, ClassPermission, given_at, gives_class, share, AreHeads, AreHeadsOf, AreOfSet, DoAgree, IsIndexFrom, IsSearch, Search, hits, if_there, is_allow, is_allow_of, is_allow_of_set, is_kind, is_of_set, is_set_rule, are_of_set, met_in, permissions_at, rules_in, rules_of_set, set_at, stood_by, stood_by_at, stood_for, tests_of}
+use Rattle.cil_violations.proofs.Common.{◌≡◌, ◌⊎◌, ◌↔◌, ◌∙◌, inl, inr, ℕ, ◌+◌, ◌-◌, ◌<◌, ◌≤◌, ◌&&◌, ◌||◌, Bool, true, false, IsTrue, List, [], ◌∷◌, ◌++◌, length, get_or, take, Option, Some, None, slice_get, Contains, refl, sym, ap, subst, arith, true≢false, nat_cmp, nat_cmp_total, IsStrictlySortedBy, AnyByRecursion, any-filter, any_from_filter, any-flat_map, any_from_flat_map, any_weaker, contains_to, contains_from, and_parts, and_from, eqb-true, eq-eqb, none-some, same_Some, slice_get_within, filter, flat_map, list_any, take_all, IsOrdered, NumberedRule, ClassPermission, gives_class, share, AreHeads, AreHeadsOf, AreOfSet, DoAgree, IsSearch, Search, hits, is_allow, is_allow_of_set, is_kind, is_of_set, is_set_rule, are_of_set, met_in, permissions_at, rules_in, rules_of_set, set_at, stood_by, stood_by_at, stood_for}
 use Rattle.std.specs.Option.{is_some}
 use Rattle.std.proofs.lemmas.List.{take_more}
 use Rattle.std.proofs.lemmas.List.Kept.{IsStrictlySortedBy-filter}
@@ -8,7 +8,7 @@ use Rattle.cil_resolve.specs.declared.numbered.ResolvedPermissions.{ResolvedPerm
 use Rattle.cil_resolve.specs.declared.numbered.ResolvedPermissions.TheVariants as permits
 use Rattle.cil_violations.proofs.FoundLemmas.{hit-from}
 use Rattle.cil_violations.proofs.HitLemmas.{hits-hold}
-use Rattle.cil_violations.proofs.IndexLemmas.{gives-from, gives-to, set-allows, set-rule, there-at}
+use Rattle.cil_violations.proofs.IndexLemmas.{gives-to, set-allows, set-rule, there-at}
 use Rattle.cil_violations.proofs.MeaningLemmas.{same-set, witness}
 use Rattle.cil_violations.proofs.OrderLemmas.{hits-ascend}
 use Rattle.cil_violations.proofs.ShareLemmas.{share-from, share-to}

@@ -1,5 +1,5 @@
 -- Permissions in order, each once.
-use Rattle.cil_violations.proofs.Common.{◌≡◌, ◌∙◌, inl, inr, ℕ, ◌+◌, ◌<◌, ◌==◌, ◌&&◌, Bool, true, false, cond, List, [], ◌∷◌, ◌++◌, length, get_or, Some, slice_get, Contains, Ordering, Equal, eqb, refl, sym, ap, subst, arith, true≢false, nat_lt, dedup, list_any, IsSorted, IsPermutation, IsStrictlyIncreasing, IsStrictlySortedBy, IsTotalOrder, nat_cmp, ordering_then, cases_eq, cases_lt, and_parts, eq-eqb, eqb-true, ltb-true, ne_eqb, nat_cmp_total, tied_itself, same_Some, Less, Greater, NumberedRule, ClassPermission, given_in, AreInOrder, IsOrdered, is_among, is_same, or_else, permission_cmp, set_gives}
+use Rattle.cil_violations.proofs.Common.{◌≡◌, ◌∙◌, inl, inr, ℕ, ◌+◌, ◌<◌, ◌==◌, ◌&&◌, Bool, true, false, cond, List, [], ◌∷◌, ◌++◌, length, get_or, Some, slice_get, Contains, Ordering, Equal, eqb, refl, sym, ap, subst, arith, true≢false, nat_lt, dedup, IsSorted, IsPermutation, IsStrictlyIncreasing, IsTotalOrder, nat_cmp, ordering_then, cases_eq, cases_lt, and_parts, eq-eqb, eqb-true, ltb-true, ne_eqb, nat_cmp_total, tied_itself, same_Some, Less, Greater, NumberedRule, ClassPermission, given_in, AreInOrder, IsOrdered, is_among, is_same, or_else, permission_cmp, set_gives}
 use Rattle.std.proofs.Common.{Result, Ok, Err, is_ok}
 use Rattle.std.specs.Cmp.{IsEquivalence}
 use Rattle.std.specs.List.Sorted.{IsBinarySearchResult, IsNonDecreasingBy, IsSearchInRange}

@@ -1,5 +1,5 @@
 -- Whether two lists share a permission.
-use Rattle.cil_violations.proofs.Common.{◌≡◌, ◌∙◌, ℕ, zero, suc, ◌+◌, ◌<◌, ◌≤◌, ◌||◌, Bool, true, false, List, [], ◌∷◌, length, drop, get_or, Contains, refl, sym, ap, subst, arith, add-one, drop-cons, list_any, AllByRecursion, IsStrictlySortedBy, Less, all_weaker, drop_all, ClassPermission, AreInOrder, is_among, is_same, permission_cmp, share}
+use Rattle.cil_violations.proofs.Common.{◌≡◌, ◌∙◌, ℕ, zero, suc, ◌+◌, ◌<◌, ◌≤◌, ◌||◌, Bool, true, false, List, [], ◌∷◌, length, drop, get_or, Contains, refl, sym, ap, subst, arith, add-one, drop-cons, AllByRecursion, IsStrictlySortedBy, Less, all_weaker, drop_all, ClassPermission, AreInOrder, is_among, is_same, permission_cmp, share}
 use Rattle.std.proofs.lemmas.List.Folds.{list_any_at, Any-from_list_any}
 use Rattle.cil_violations.proofs.PermissionLemmas.{among-from, among-to, is-itself, less-apart, permission-total, same-one}
 

@@ -1,5 +1,5 @@
 -- The rows that pass the tests are the violations of the policy, in order.
-use Rattle.cil_violations.proofs.Common.{◌≡◌, ◌≢◌, ◌↔◌, ◌∙◌, inl, inr, ℕ, ◌==◌, ◌&&◌, ◌<◌, Bool, true, List, [], ◌∷◌, length, map, Some, slice_get, Contains, bytes_eq, Ordering, refl, sym, ap, subst, arith, AllByRecursion, IsStrictlySortedBy, nat_cmp, nat_cmp_total, ordering_then, ltb-true, and_parts, and_from, eqb-true, eq-eqb, cases_lt, tied_itself, get_or-map, length-map, slice_get_within, slice_get_read, get_or_from_slice_get, keeps_type, holds, aims, covers, AnyByRecursion, any_from, any-map, any_from_map, any_from_filter, any_from_test, contains_to, contains_from, any_weaker, all_weaker, sorted_map, all_from_contains, is_name_below, rule_of, element_of, resolved_target_of, declared_of, given_in, meaning_in, name_in, NumberedRule, ResolvedTarget, Resolved, ClassPermission, is_held_in, Violation, IsViolation, AreViolations, rule_cmp, violation_cmp, aim_of, AreInOrder, is_among, of_class, or_else, set_gives_at, permission_cmp, share, shared, is_allow, is_kind, rules_in, permissions_at, takes_source, takes_target, tests_of, all_rows, IsSearch, rule_in, no_rule, violation_by, IsRow, AreRows, RowNumbers, Search}
+use Rattle.cil_violations.proofs.Common.{◌≡◌, ◌≢◌, ◌↔◌, ◌∙◌, inl, inr, ℕ, ◌==◌, ◌&&◌, ◌<◌, Bool, true, List, [], ◌∷◌, length, map, Some, slice_get, Contains, bytes_eq, refl, sym, ap, subst, arith, AllByRecursion, IsStrictlySortedBy, nat_cmp, nat_cmp_total, ordering_then, ltb-true, and_parts, and_from, eqb-true, eq-eqb, cases_lt, tied_itself, get_or-map, length-map, slice_get_within, slice_get_read, get_or_from_slice_get, keeps_type, holds, aims, covers, AnyByRecursion, any_from, any-map, any_from_map, any_from_filter, any_from_test, contains_to, contains_from, any_weaker, all_weaker, sorted_map, all_from_contains, is_name_below, rule_of, element_of, resolved_target_of, declared_of, given_in, meaning_in, name_in, NumberedRule, ResolvedTarget, Resolved, ClassPermission, is_held_in, Violation, IsViolation, AreViolations, rule_cmp, violation_cmp, aim_of, AreInOrder, is_among, of_class, or_else, set_gives_at, permission_cmp, share, shared, is_allow, is_kind, rules_in, permissions_at, takes_source, takes_target, tests_of, all_rows, IsSearch, rule_in, no_rule, violation_by, IsRow, AreRows, RowNumbers, Search}
 use Rattle.std.specs.Bool.{IsTrue}
 use Rattle.std.proofs.lemmas.List.{get_or_past}
 use Rattle.std.proofs.lemmas.Option.{slice_get_past}

@@ -1,4 +1,4 @@
-use Rattle.cil_violations.proofs.Common.{◌≡◌, ◌∙◌, ◌++◌, [], map, sym, ap, subst, ClassPermission, IsOrdered, given_in, or_else, permission_cmp, set_gives}
+use Rattle.cil_violations.proofs.Common.{◌≡◌, ◌∙◌, ◌++◌, map, sym, subst, IsOrdered, given_in, or_else, permission_cmp, set_gives}
 use Rattle.std.specs.Rc.{rc_value}
 use Rattle.cil_resolve.specs.declared.numbered.ResolvedPermissions.TheVariants as permits
 use Rattle.cil_violations.proofs.PermissionLemmas.{or_else-none, ordered-itself}

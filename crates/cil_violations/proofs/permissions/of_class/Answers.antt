@@ -1,4 +1,4 @@
-use Rattle.cil_violations.proofs.Common.{◌≤◌, ◌∙◌, rules, ClassPermission}
+use Rattle.cil_violations.proofs.Common.{◌∙◌, rules, ClassPermission}
 use Rattle.std.proofs.Math.Dec.{leb, ltb}
 use Rattle.std.proofs.lemmas.List.Sorted.{IsPartitionPoint-from_clause, IsPartitionedBy-leb, IsPartitionedBy-ltb}
 use Rattle.cil_violations.proofs.PartLemmas.{classes-rise, part-of-class, part-ordered, IsEnd, IsStart}

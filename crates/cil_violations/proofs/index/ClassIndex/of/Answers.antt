@@ -1,4 +1,4 @@
-use Rattle.cil_violations.proofs.Common.{◌≡◌, ◌∙◌, ◌-◌, ◌+◌, ◌<◌, Contains, None, length, replicate, slice_get, Some, refl, sym, ap, subst, arith, length-replicate, Option, ℕ, slice_get_read, is_rule_below, is_kind, given_at, AreInOrder, IsIndexFrom, false}
+use Rattle.cil_violations.proofs.Common.{◌≡◌, ◌∙◌, ◌-◌, ◌+◌, ◌<◌, Contains, None, length, replicate, slice_get, refl, sym, ap, subst, arith, length-replicate, Option, ℕ, slice_get_read, is_rule_below, is_kind, given_at, AreInOrder, IsIndexFrom, false}
 use Rattle.cil_violations.specs.declared.index.ClassIndex.{ClassIndex}
 use Rattle.cil_violations.proofs.IndexLemmas.{derived-allow, empty-index, index-past, only-none}
 use Rattle.cil_violations.proofs.MeaningLemmas.{agree, classes-low, given-rising}

@@ -1,4 +1,4 @@
-use Rattle.cil_violations.proofs.Common.{◌≡◌, ◌∙◌, ◌<◌, ◌+◌, ℕ, List, length, slice_get, Some, refl, sym, ap, subst, arith, same_Some, slice_get_read, slice_get_within, links_to}
+use Rattle.cil_violations.proofs.Common.{◌∙◌, ◌<◌, ◌+◌, length, refl, sym, subst, arith, same_Some, slice_get_read, slice_get_within, links_to}
 use Rattle.cil_violations.specs.declared.index.Link.{Link}
 use Rattle.cil_violations.proofs.IndexLemmas.{IsLeft, left-all, left-more, left-there}
 use Rattle.cil_violations.proofs.index.ClassIndex.push_chain.Goals as goal

@@ -1,4 +1,4 @@
-use Rattle.cil_violations.proofs.Common.{◌≡◌, ◌∙◌, ◌<◌, ◌+◌, ℕ, List, ◌∷◌, cond, length, get_or, take, ap, refl, sym, subst, arith, get_or_default, take_all, ClassPermission, AreChains, gives_class}
+use Rattle.cil_violations.proofs.Common.{◌∙◌, ◌+◌, ◌∷◌, cond, length, get_or, take, ap, refl, sym, subst, arith, get_or_default, take_all, ClassPermission, AreChains, gives_class}
 use Rattle.cil_violations.proofs.IndexLemmas.{IsLast, apart-last, more-chains, same-chains, same-last, last-more, new-class, old-class}
 use Rattle.cil_violations.specs.declared.index.ClassIndex.{ClassIndex}
 use Rattle.cil_violations.proofs.index.ClassIndex.put_head.Goals as goal

@@ -1,4 +1,4 @@
-use Rattle.cil_violations.proofs.Common.{◌≡◌, nat_cmp, map, subst, sym, Contains, ClassPermission, IsOrdered, classes_of, shared}
+use Rattle.cil_violations.proofs.Common.{subst, sym, Contains}
 use Rattle.cil_violations.proofs.ClassLemmas.{classes-are}
 use Rattle.cil_violations.proofs.ResultLemmas.{ok-more}
 use Rattle.cil_violations.proofs.search.Search.classes.Goals as goal

@@ -1,4 +1,4 @@
-use Rattle.cil_violations.proofs.Common.{◌≡◌, ◌∙◌, ◌++◌, ◌+◌, ◌<◌, ◌≤◌, ℕ, List, Bool, length, get_or, None, Some, refl, sym, ap, subst, arith, get_or_default, Contains, ClassPermission, IsChain, names_in, permissions_at}
+use Rattle.cil_violations.proofs.Common.{◌≡◌, ◌∙◌, ◌++◌, ◌+◌, ◌<◌, ◌≤◌, length, get_or, None, Some, sym, ap, subst, arith, get_or_default, Contains, ClassPermission, IsChain, permissions_at}
 use Rattle.cil_violations.proofs.IndexLemmas.{same-last}
 use Rattle.cil_violations.proofs.MeaningLemmas.{classes-low}
 use Rattle.cil_violations.proofs.MetLemmas.{AreGathered, gathered-all, gathered-more, gathered-none, gathered-ordered, gathered-same}

@@ -1,6 +1,6 @@
-use Rattle.cil_violations.proofs.Common.{◌≡◌, ◌∙◌, ◌<◌, ◌≤◌, ℕ, List, Contains, length, get_or, refl, sym, ap, subst, filter, flat_map, get_or_default, list_any, take, take_all, AreHeadsOf, is_set_rule, permissions_at, rules_in, share, stood_for}
+use Rattle.cil_violations.proofs.Common.{◌≡◌, ◌∙◌, ℕ, Contains, get_or, sym, ap, subst, filter, flat_map, get_or_default, list_any, take, take_all, is_set_rule, permissions_at, rules_in, share, stood_for}
 use Rattle.cil_violations.proofs.MeaningLemmas.{agree}
-use Rattle.cil_violations.proofs.MetLemmas.{head-within, met-all, met-plain, sharing}
+use Rattle.cil_violations.proofs.MetLemmas.{head-within, met-all, met-plain}
 use Rattle.cil_violations.proofs.search.Search.meet.Goals as goal
 
 pub share_permission-requires-clause-allowed : goal.share_permission-requires-clause-allowed

@@ -1,4 +1,4 @@
-use Rattle.std.proofs.Common.{ℕ, ◌≡◌, ◌∙◌, ◌++◌, ◌<◌, [], flat_map, get_or, length, ap, arith, subst, sym}
+use Rattle.std.proofs.Common.{◌≡◌, ◌∙◌, ◌++◌, ◌<◌, flat_map, get_or, length, ap, arith, subst, sym}
 use Rattle.cil_violations.specs.Rows.{classes_of, names_in, rows_at, sources_of, target_rows, tests_of}
 use Rattle.cil_violations.proofs.HitLemmas.{hits-below}
 use Rattle.cil_violations.proofs.PairLemmas.{part-more}

@@ -1,4 +1,4 @@
-use Rattle.cil_violations.proofs.Common.{◌∙◌, ◌++◌, ◌<◌, flat_map, get_or, length, ap, arith, subst, sym, names_in, rules_in, source_rows, tests_of}
+use Rattle.cil_violations.proofs.Common.{◌<◌, get_or, length, arith, subst, sym, names_in, rules_in, source_rows, tests_of}
 use Rattle.cil_violations.proofs.HitLemmas.{hits-below}
 use Rattle.cil_violations.proofs.PairLemmas.{part-more}
 use Rattle.cil_violations.proofs.search.Search.push_pairs.Goals as goal

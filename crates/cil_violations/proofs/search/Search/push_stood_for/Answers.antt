@@ -1,4 +1,4 @@
-use Rattle.cil_violations.proofs.Common.{◌≡◌, ◌∙◌, ◌++◌, ◌<◌, length, get_or, None, sym, ap, subst, arith, get_or_default, is_rule_below, IsChain, names_in, rules_in, rules_of_set, stood_by, stood_by_at}
+use Rattle.cil_violations.proofs.Common.{◌∙◌, ◌++◌, ◌<◌, length, None, sym, ap, subst, arith, get_or_default, is_rule_below, IsChain, names_in, rules_in, rules_of_set, stood_by, stood_by_at}
 use Rattle.cil_violations.proofs.IndexLemmas.{set-below}
 use Rattle.cil_violations.proofs.TestLemmas.{all-at}
 use Rattle.cil_violations.proofs.search.Search.push_stood_for.Goals as goal

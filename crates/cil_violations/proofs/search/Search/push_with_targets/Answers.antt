@@ -1,4 +1,4 @@
-use Rattle.std.proofs.Common.{ℕ, ◌≡◌, ◌∙◌, ◌++◌, ◌∷◌, ◌<◌, [], append-nil, flat_map, get_or, length, ap, arith, subst, sym}
+use Rattle.std.proofs.Common.{◌≡◌, ◌∙◌, ◌++◌, ◌<◌, [], append-nil, flat_map, get_or, length, ap, arith, subst, sym}
 use Rattle.std.proofs.lemmas.Grind.{common_steps}
 use Rattle.cil_violations.specs.Rows.{classes_of, names_in, rows_at, sources_of, target_rows, tests_of}
 use Rattle.cil_violations.proofs.PairLemmas.{no-targets, part-more}
