@@ -17,6 +17,7 @@ pub use Rattle.cil_stream.specs.Device.{Gains, GainsFront}
 pub use Rattle.cil_violations.specs.Aims.{aim_of}
 pub use Rattle.cil_violations.specs.Held.{AreShort, are_both_held, both_hold, is_held_in, is_known, symbols_in}
 pub use Rattle.cil_violations.specs.Index.{AreChains, AreHeads, AreOfSet, are_of_set, DoAgree, IsChain, IsIndexFrom, IsIndexOf, if_there, is_allow, is_allow_of, is_allow_of_set, is_kind, is_of_set, is_set_rule, links_to, rules_of_set, set_at, set_of, set_of_one, stood_by, stood_by_at, stood_for}
+pub use Rattle.cil_violations.specs.Known.{AreClasses, IsOfSets, StandAt}
 pub use Rattle.cil_violations.specs.Lines.{AreLists, AreRows, IsRow, access_text, head_by, line_by, name_text, no_rule, rule_in, rule_text, shared_in, shared_text, violation_by}
 pub use Rattle.cil_violations.specs.Permissions.{AreBelow, AreOrdered, IsOrdered, given_at, gives_class, is_among, is_same, of_class, or_else, set_gives, set_gives_at, share, shared}
 pub use Rattle.cil_violations.specs.Rows.{AreHeadsOf, AreMetBySet, IsSearch, Tests, all_rows, classes_of, met_in, names_in, pair_rows, permissions_at, row_with, rows_at, rows_of, rules_in, source_rows, sources_of, takes_source, takes_target, target_rows, targets_of, tests_of}

@@ -3,6 +3,7 @@ pub mod HeldLemmas
 pub mod PermissionLemmas
 pub mod PartLemmas
 pub mod ClassLemmas
+pub mod KnownLemmas
 pub mod ResultLemmas
 pub mod MetLemmas
 pub mod ShareLemmas

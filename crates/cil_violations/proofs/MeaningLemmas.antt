@@ -184,7 +184,7 @@ same-given r a b sound_a sound_b set a_is b_is g there =
     subst (Contains (given_in b.permissions)) same here
 
 -- what is known of a rule of a set
-of-set-at : {A : Type 0} (rules : List (NumberedRule A)) (i set : ℕ) → set_at rules i ≡ Some set → (a : NumberedRule A) × (slice_get rules i ≡ Some a) × (is_of_set set a.permissions ≡ true)
+pub of-set-at : {A : Type 0} (rules : List (NumberedRule A)) (i set : ℕ) → set_at rules i ≡ Some set → (a : NumberedRule A) × (slice_get rules i ≡ Some a) × (is_of_set set a.permissions ≡ true)
 of-set-at {A} rules i set is = by (slice_get rules i) refl is
   where
     of-set : (p : ResolvedPermissions A) → set_of p ≡ Some set → is_of_set set p ≡ true

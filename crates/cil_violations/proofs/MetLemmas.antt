@@ -46,14 +46,14 @@ in-both xs ys x = (
   ],
 )
 
-alone-is : {X : Type 0} (y x : X) → Contains (y ∷ []) x → y ≡ x
+pub alone-is : {X : Type 0} (y x : X) → Contains (y ∷ []) x → y ≡ x
 alone-is y x there = by (contains_to (y ∷ []) x there)
   where
     by : (y ≡ x) ⊎ ⊥ → y ≡ x
     by (inl same) = same
     by (inr none) = absurd none
 
-alone-there : {X : Type 0} (y x : X) → y ≡ x → Contains (y ∷ []) x
+pub alone-there : {X : Type 0} (y x : X) → y ≡ x → Contains (y ∷ []) x
 alone-there y x same = contains_from (y ∷ []) x (inl same)
 
 -- ---- the heads of the classes of some permissions, gathered

@@ -7,5 +7,6 @@ pub mod Aims
 pub mod Permissions
 pub mod Index
 pub mod Rows
+pub mod Known
 pub mod Lines
 pub mod Views

@@ -1,5 +1,5 @@
 -- Violations by numbers.
-use Rattle.std.specs.Prelude.{◌≡◌, ◌↔◌, ◌&&◌, ℕ, Bool, List, [], ◌∷◌, Contains, Option, Some, length, slice_get}
+use Rattle.std.specs.Prelude.{◌≡◌, ◌↔◌, ◌&&◌, ◌<◌, ℕ, Bool, List, [], ◌∷◌, Contains, Option, Some, length, slice_get}
 use Rattle.std.specs.List.{flat_map}
 use Rattle.std.specs.List.Sorted.{IsStrictlySortedBy}
 use Rattle.std.specs.Ordering.{nat_cmp}
@@ -12,6 +12,7 @@ use Rattle.cil_violations.specs.Permissions.{AreOrdered, given_at, of_class, sha
 pub use Rattle.cil_violations.specs.Search.{hits}
 use Rattle.cil_violations.specs.Held.{is_held_in, symbols_in}
 use Rattle.cil_violations.specs.Aims.{aim_of}
+use Rattle.cil_violations.specs.declared.row.Pair.{Pair}
 use Rattle.cil_violations.specs.declared.row.RowNumbers.{RowNumbers}
 use Rattle.cil_violations.specs.declared.search.Search.{Search}
 
@@ -100,6 +101,12 @@ AreMetBySet s last met = (set i : ℕ) → last ≡ Some set → set_at (rules_i
 pub record AreHeadsOf (heads : ℕ → List ℕ) (given : List ClassPermission) (list : List ℕ) : Type 0 where
   pub rising : IsStrictlySortedBy nat_cmp list
   pub same : (h : ℕ) → Contains list h ↔ ((g : ClassPermission) × Contains given g × Contains (heads g.class) h)
+
+-- There are rules at the places of a pair, and its classes are those in which they share a permission.
+pub record IsPair {A : Type 0} (s : Search A) (pair : Pair) : Type 0 where
+  pub never : pair.never < length (rules_in s)
+  pub allowed : pair.allowed < length (rules_in s)
+  pub classes : pair.classes.now ≡ classes_of s pair.never pair.allowed
 
 -- the violations of two rules
 abbrev pub rows_of : {A : Type 0} → Search A → ℕ → ℕ → List RowNumbers

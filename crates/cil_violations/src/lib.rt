@@ -2,6 +2,7 @@
 #![tactic(auto)]
 
 mod index;
+mod known;
 mod line;
 mod members;
 mod permissions;

@@ -1,10 +1,11 @@
 //! Looks for violations: pairs of rules that share a permission first, then the types that they have in common.
 
-ghost use Rattle.std.specs.Prelude.{◌≡◌, ◌++◌, ◌∷◌, [], ◌<◌, ℕ, length, slice_get, Some, IfOk, OnOk};
-ghost use Rattle.cil_violations.specs.Common.{flat_map, is_set_rule, set_at, share, stood_for, names_in, permissions_at, rules_in, tests_of, AreHeadsOf, AreMetBySet, IsIndexOf, IsSearch, all_rows, classes_of, met_in, pair_rows, row_with, rows_at, rows_of, sources_of, targets_of};
+ghost use Rattle.std.specs.Prelude.{◌≡◌, ◌++◌, ◌∷◌, [], ◌<◌, ℕ, IsTrue, length, slice_get, All, Some, IfOk, OnOk};
+ghost use Rattle.cil_violations.specs.Common.{flat_map, is_set_rule, set_at, share, stood_for, AreClasses, IsPair, StandAt, names_in, permissions_at, rules_in, tests_of, AreHeadsOf, AreMetBySet, IsIndexOf, IsSearch, all_rows, classes_of, met_in, pair_rows, row_with, rows_at, rows_of, sources_of, targets_of};
 ghost use Rattle.cil_violations.specs.Aims.{aim_of};
 
 use crate::index::ClassIndex;
+use crate::known::{Known, SetRule, SharedClasses};
 use crate::members::Members;
 use crate::permissions::{given_at, put_in_order, share, shared_classes};
 use crate::row::{Pair, RowNumbers};
@@ -266,30 +267,52 @@ impl<A: Allocator + Copy> Search<'_, A> {
         shared(self.alloc, &self.members, first, second)
     }
 
+    /// Learns the classes in which two rules of permission sets share a permission, if they aren't known,
+    /// and gives the place where they stand.
+    fn learn(
+        &self,
+        known: &mut Known<A>,
+        never: SetRule,
+        allowed: SetRule,
+    ) -> Result<usize, AllocError>
+        requires search { IsSearch self.now }
+        requires never { never.place < length (rules_in self.now) }
+        requires allowed { allowed.place < length (rules_in self.now) }
+        requires never_set { set_at (rules_in self.now) never.place ≡ Some never.set }
+        requires allowed_set { set_at (rules_in self.now) allowed.place ≡ Some allowed.set }
+        requires known { All (AreClasses self.now) known.old.lists.items }
+        ensures known { OnOk result (All (AreClasses self.now) known.new.lists.items) }
+        ensures classes { IfOk result (StandAt known.new.lists.items
+            (classes_of self.now never.place allowed.place)) }
+    {
+        if let Some(place) = known.find(never.set, allowed.set) {
+            return Ok(place);
+        }
+        let classes = self.classes(never.place, allowed.place)?;
+        known.keep(SharedClasses {
+            never: never.set,
+            allowed: allowed.set,
+            classes,
+        })
+    }
+
     /// Appends the violations of two rules that take in the same targets for each source.
     fn push_with_targets(
         &self,
         rows: &mut Vec<RowNumbers, A>,
-        never: usize,
-        allowed: usize,
+        pair: Pair<'_>,
         targets: &[usize],
     ) -> Result<(), AllocError>
         requires search { IsSearch self.now }
-        requires never { never < length (rules_in self.now) }
-        requires allowed { allowed < length (rules_in self.now) }
-        requires targets { (source : ℕ) → targets.now ≡ targets_of self.now never allowed source }
-        ensures { OnOk result (rows.new.items ≡ rows.old.items ++ rows_of self.now never allowed) }
+        requires pair { IsPair self.now pair }
+        requires targets { (source : ℕ) → targets.now ≡ targets_of self.now pair.never pair.allowed source }
+        ensures { OnOk result (rows.new.items ≡ rows.old.items
+            ++ rows_of self.now pair.entry.never pair.entry.allowed) }
     {
         if targets.is_empty() {
             return Ok(());
         }
-        let classes = self.classes(never, allowed)?;
-        let pair = Pair {
-            never,
-            allowed,
-            classes: &classes,
-        };
-        for source in &self.sources(never, allowed)? {
+        for source in &self.sources(pair.never, pair.allowed)? {
             push_rows(rows, pair, *source, targets)?;
         }
         Ok(())
@@ -299,39 +322,117 @@ impl<A: Allocator + Copy> Search<'_, A> {
     fn push_by_source(
         &self,
         rows: &mut Vec<RowNumbers, A>,
-        never: usize,
-        allowed: usize,
+        pair: Pair<'_>,
     ) -> Result<(), AllocError>
         requires search { IsSearch self.now }
-        requires never { never < length (rules_in self.now) }
-        requires allowed { allowed < length (rules_in self.now) }
-        ensures { OnOk result (rows.new.items ≡ rows.old.items ++ rows_of self.now never allowed) }
+        requires pair { IsPair self.now pair }
+        ensures { OnOk result (rows.new.items ≡ rows.old.items
+            ++ rows_of self.now pair.entry.never pair.entry.allowed) }
     {
-        let classes = self.classes(never, allowed)?;
-        let pair = Pair {
-            never,
-            allowed,
-            classes: &classes,
-        };
-        for source in &self.sources(never, allowed)? {
-            let targets = self.targets(never, allowed, *source)?;
+        for source in &self.sources(pair.never, pair.allowed)? {
+            let targets = self.targets(pair.never, pair.allowed, *source)?;
             push_rows(rows, pair, *source, &targets)?;
         }
         Ok(())
     }
 
-    /// Appends the violations of two rules. Most have no source in common, or no target: then it takes no
-    /// memory, where neither target is the source itself.
-    fn push_sources(
+    /// Appends the violations of two rules.
+    fn push_pair(&self, rows: &mut Vec<RowNumbers, A>, pair: Pair<'_>) -> Result<(), AllocError>
+        requires search { IsSearch self.now }
+        requires pair { IsPair self.now pair }
+        ensures { OnOk result (rows.new.items ≡ rows.old.items
+            ++ rows_of self.now pair.entry.never pair.entry.allowed) }
+    {
+        let first = self.rule(pair.never);
+        let second = self.rule(pair.allowed);
+        match (first.target, second.target) {
+            (ResolvedTarget::Element(first), ResolvedTarget::Element(second)) => {
+                let targets = shared(self.alloc, &self.members, first, second)?;
+                self.push_with_targets(rows, pair, &targets)
+            }
+            _ => self.push_by_source(rows, pair),
+        }
+    }
+
+    /// Appends the violations of two rules that share permissions of one class alone.
+    fn push_of_class(
         &self,
         rows: &mut Vec<RowNumbers, A>,
+        class: usize,
         never: usize,
         allowed: usize,
     ) -> Result<(), AllocError>
         requires search { IsSearch self.now }
         requires never { never < length (rules_in self.now) }
         requires allowed { allowed < length (rules_in self.now) }
+        requires class { classes_of self.now never allowed ≡ class ∷ [] }
         ensures { OnOk result (rows.new.items ≡ rows.old.items ++ rows_of self.now never allowed) }
+    {
+        let classes = [class];
+        let pair = Pair {
+            never,
+            allowed,
+            classes: &classes,
+        };
+        self.push_pair(rows, pair)
+    }
+
+    /// Appends the violations of a rule of a permission set with an allow rule that shares a permission
+    /// with it.
+    fn push_of_set(
+        &self,
+        rows: &mut Vec<RowNumbers, A>,
+        known: &mut Known<A>,
+        never: SetRule,
+        allowed: usize,
+    ) -> Result<(), AllocError>
+        requires search { IsSearch self.now }
+        requires never { never.place < length (rules_in self.now) }
+        requires allowed { allowed < length (rules_in self.now) }
+        requires set { set_at (rules_in self.now) never.place ≡ Some never.set }
+        requires shares { IsTrue (share (permissions_at self.now never.place) (permissions_at self.now allowed)) }
+        requires known { All (AreClasses self.now) known.old.lists.items }
+        ensures rows { OnOk result (rows.new.items ≡ rows.old.items
+            ++ rows_of self.now never.place allowed) }
+        ensures known { OnOk result (All (AreClasses self.now) known.new.lists.items) }
+    {
+        match &self.rule(allowed).permissions {
+            ResolvedPermissions::OfClass(given) => {
+                self.push_of_class(rows, given.class, never.place, allowed)
+            }
+            ResolvedPermissions::OfSet(set) => {
+                let other = SetRule {
+                    place: allowed,
+                    set: set.set,
+                };
+                let place = self.learn(known, never, other)?;
+                let pair = Pair {
+                    never: never.place,
+                    allowed,
+                    classes: &known.lists[place].classes,
+                };
+                self.push_pair(rows, pair)
+            }
+        }
+    }
+
+    /// Appends the violations of two rules that share a permission. Most have no source in common, or no
+    /// target: then it takes no memory, where neither target is the source itself and one of them is a
+    /// rule of a class.
+    fn push_sources(
+        &self,
+        rows: &mut Vec<RowNumbers, A>,
+        known: &mut Known<A>,
+        never: usize,
+        allowed: usize,
+    ) -> Result<(), AllocError>
+        requires search { IsSearch self.now }
+        requires never { never < length (rules_in self.now) }
+        requires allowed { allowed < length (rules_in self.now) }
+        requires shares { IsTrue (share (permissions_at self.now never) (permissions_at self.now allowed)) }
+        requires known { All (AreClasses self.now) known.old.lists.items }
+        ensures rows { OnOk result (rows.new.items ≡ rows.old.items ++ rows_of self.now never allowed) }
+        ensures known { OnOk result (All (AreClasses self.now) known.new.lists.items) }
     {
         let first = self.rule(never);
         let second = self.rule(allowed);
@@ -341,12 +442,17 @@ impl<A: Allocator + Copy> Search<'_, A> {
         if word.is_none() {
             return Ok(());
         }
-        match (first.target, second.target) {
-            (ResolvedTarget::Element(first), ResolvedTarget::Element(second)) => {
-                let targets = shared(self.alloc, &self.members, first, second)?;
-                self.push_with_targets(rows, never, allowed, &targets)
+        match &first.permissions {
+            ResolvedPermissions::OfClass(given) => {
+                self.push_of_class(rows, given.class, never, allowed)
             }
-            _ => self.push_by_source(rows, never, allowed),
+            ResolvedPermissions::OfSet(set) => {
+                let rule = SetRule {
+                    place: never,
+                    set: set.set,
+                };
+                self.push_of_set(rows, known, rule, allowed)
+            }
         }
     }
 
@@ -354,17 +460,20 @@ impl<A: Allocator + Copy> Search<'_, A> {
     fn push_pairs(
         &self,
         rows: &mut Vec<RowNumbers, A>,
+        known: &mut Known<A>,
         never: usize,
         met: &[usize],
     ) -> Result<(), AllocError>
         requires search { IsSearch self.now }
         requires never { never < length (rules_in self.now) }
         requires met { met.now ≡ met_in self.now never }
-        ensures { OnOk result (rows.new.items ≡ rows.old.items
+        requires known { All (AreClasses self.now) known.old.lists.items }
+        ensures rows { OnOk result (rows.new.items ≡ rows.old.items
             ++ pair_rows (tests_of self.now) (length (rules_in self.now)) (names_in self.now) never) }
+        ensures known { OnOk result (All (AreClasses self.now) known.new.lists.items) }
     {
         for allowed in met {
-            self.push_sources(rows, never, *allowed)?;
+            self.push_sources(rows, known, never, *allowed)?;
         }
         Ok(())
     }
@@ -380,10 +489,11 @@ impl<A: Allocator + Copy> Search<'_, A> {
             rules: Vec::new(self.alloc),
             set: None,
         };
+        let mut known = Known::none(self.alloc, self.resolved.names_len())?;
         for never in 0..self.resolved.rules_len() {
             if self.is_never(never) {
                 self.bring(&mut met, never)?;
-                self.push_pairs(rows, never, &met.rules)?;
+                self.push_pairs(rows, &mut known, never, &met.rules)?;
             }
         }
         Ok(())

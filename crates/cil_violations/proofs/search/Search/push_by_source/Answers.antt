@@ -1,5 +1,5 @@
-use Rattle.std.proofs.Common.{◌≡◌, ◌∙◌, ◌++◌, ◌<◌, flat_map, get_or, length, ap, arith, subst, sym}
-use Rattle.cil_violations.specs.Rows.{classes_of, names_in, rows_at, sources_of, target_rows, tests_of}
+use Rattle.std.proofs.Common.{◌∙◌, ◌++◌, ◌<◌, flat_map, get_or, length, ap, arith, subst, sym}
+use Rattle.cil_violations.specs.Rows.{names_in, rows_at, sources_of, target_rows, tests_of}
 use Rattle.cil_violations.proofs.HitLemmas.{hits-below}
 use Rattle.cil_violations.proofs.PairLemmas.{part-more}
 use Rattle.cil_violations.proofs.search.Search.push_by_source.Goals as goal
@@ -8,7 +8,7 @@ pub targets-requires-clause-source : goal.targets-requires-clause-source
 targets-requires-clause-source g c =
     let s = c.args.self.now in
     let is = c.deref-source-items.ensures.value ∙ c.in_ok-sources.ensures in
-    let test = (tests_of s).source c.args.never c.args.allowed in
+    let test = (tests_of s).source c.args.pair.never c.args.pair.allowed in
     let low = hits-below test (names_in s) 0 c.loop-source.source-index
     (subst (λ l. c.loop-source.source-index < length l) is c.loop-source-test.true) in
     subst (λ l. get_or l c.loop-source.source-index 0 < names_in s) (sym is) (omega (arith, low))
@@ -17,14 +17,14 @@ pub loop-source-preserved : goal.loop-source-preserved
 loop-source-preserved g c =
     let s = c.args.self.now in
     let is = c.deref-source-items.ensures.value ∙ c.in_ok-sources.ensures in
-    let rows = target_rows (tests_of s) (names_in s) c.args.never c.args.allowed in
+    let rows = target_rows (tests_of s) (names_in s) c.args.pair.never c.args.pair.allowed in
     let source = get_or c.deref-source-items.result.now c.loop-source.source-index 0 in
-    let classes_is : c.deref.result.now ≡ classes_of s c.args.never c.args.allowed = c.deref.ensures.value ∙ c.in_ok-classes.ensures in
-    let targets_is = (c.deref-in-loop-source.ensures.value ∙ c.in_ok-targets.ensures) in
+    let classes_is = c.requires.pair.classes in
+    let targets_is = (c.deref.ensures.value ∙ c.in_ok-targets.ensures) in
     let old = c.loop-source.rows.items in
     part-more rows c.args.rows.now.items old c.push_rows.new.rows.items
-    (sources_of s c.args.never c.args.allowed) c.loop-source.source-index
+    (sources_of s c.args.pair.never c.args.pair.allowed) c.loop-source.source-index
     (subst (λ l. c.loop-source.source-index < length l) is c.loop-source-test.true) c.loop-source.invariant
     (c.in_ok-push_rows.ensures
-    ∙ (λ i. old ++ flat_map (rows_at c.args.never c.args.allowed (classes_is i) source) (targets_is i))
+    ∙ (λ i. old ++ flat_map (rows_at c.args.pair.never c.args.pair.allowed (classes_is i) source) (targets_is i))
     ∙ ap (λ l. old ++ rows (get_or l c.loop-source.source-index 0)) is)

@@ -1,6 +1,8 @@
 use Rattle.std.proofs.Common.{◌∙◌, ◌++◌, append-nil, ap, sym}
+use Rattle.cil_violations.specs.Index.{set_of, set_of_one}
+use Rattle.cil_violations.proofs.ClassLemmas.{alone-first}
 use Rattle.cil_violations.proofs.HeldLemmas.{short}
-use Rattle.cil_violations.proofs.PairLemmas.{element-known, no-sources, same-targets, source-known}
+use Rattle.cil_violations.proofs.PairLemmas.{no-sources, source-known}
 use Rattle.cil_violations.proofs.search.Search.push_sources.Goals as goal
 
 pub next_shared_word-word-requires-clause-short : goal.next_shared_word-word-requires-clause-short
@@ -15,29 +17,17 @@ pub next_shared_word-word-requires-clause-second : goal.next_shared_word-word-re
 next_shared_word-word-requires-clause-second g c = source-known c.args.self.now c.requires.search c.args.allowed
     c.rule-second.result.now c.rule-second.ensures
 
-pub returns-then-is_none : goal.returns-then-is_none
-returns-then-is_none g c =
+pub returns-then-is_none-clause-rows : goal.returns-then-is_none-clause-rows
+returns-then-is_none-clause-rows g c =
     sym (ap (λ l. c.args.rows.now.items ++ l) (no-sources c.args.self.now c.requires.search c.args.never
     c.args.allowed c.rule-first.result.now c.rule-second.result.now c.rule-first.ensures c.rule-second.ensures
     c.next_shared_word-word.result c.if-is_none.ensures c.next_shared_word-word.ensures)
     ∙ append-nil c.args.rows.now.items)
 
-pub shared-requires-clause-short : goal.shared-requires-clause-short
-shared-requires-clause-short g c = short c.args.self.now.resolved.now c.args.self.now.members c.requires.search.members
+pub push_of_class-requires-clause-class : goal.push_of_class-requires-clause-class
+push_of_class-requires-clause-class g c =
+    alone-first c.args.self.now c.requires.search c.args.never c.args.allowed c.requires.never c.requires.shares
+    c.rule-first.result.now c.in-OfClass.given c.in-OfClass.is c.rule-first.ensures
 
-pub shared-requires-clause-first : goal.shared-requires-clause-first
-shared-requires-clause-first g c = element-known c.args.self.now c.requires.search c.args.never
-    c.rule-first.result.now c.rule-first.ensures c.in-Element-Element.first c.in-Element-Element.is-0
-
-pub shared-requires-clause-second : goal.shared-requires-clause-second
-shared-requires-clause-second g c = element-known c.args.self.now c.requires.search c.args.allowed
-    c.rule-second.result.now c.rule-second.ensures c.in-Element-Element.second c.in-Element-Element.is-1
-
-pub push_with_targets-requires-clause-targets : goal.push_with_targets-requires-clause-targets
-push_with_targets-requires-clause-targets g c =
-    λ source.
-    c.deref.ensures.value ∙ c.in_ok-targets-in-Element-Element.ensures
-    ∙ same-targets c.args.self.now c.requires.search c.args.never c.args.allowed c.rule-first.result.now
-    c.rule-second.result.now c.rule-first.ensures c.rule-second.ensures c.in-Element-Element.first
-    c.in-Element-Element.second
-    c.in-Element-Element.is-0 c.in-Element-Element.is-1 source
+pub push_of_set-requires-clause-set : goal.push_of_set-requires-clause-set
+push_of_set-requires-clause-set g c = ap set_of_one c.rule-first.ensures ∙ ap set_of c.in-OfSet.is
