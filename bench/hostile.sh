@@ -1,6 +1,7 @@
 #!/bin/sh
 # Prints time and peak memory of one install of texts that could make a compiler multiply two of their counts, each at two sizes.
-# Where both grow as the text does, nothing is multiplied. Build the program first: `make run`; GNU time is needed.
+# Two shapes are asked for violations too. Where both grow as the text does, nothing is multiplied. Build the program
+# first: `make run`; GNU time is needed.
 set -eu
 cd "$(dirname "$0")/.."
 . bench/session.sh
@@ -130,13 +131,40 @@ idle() {
     }'
 }
 
-for shape in common commons blocks sets repeats brackets dotted chain statements nots named many idle; do
+# two permission sets that share one permission of many: 100 neverallow rules of the first and of another one like it, in
+# turn, and many allow rules of the second
+large_sets() {
+    awk -v k="$1" -v other="$2" 'BEGIN {
+        print "(type t)(type o)(classpermission s)(classpermission v)(classpermission u)"
+        print "(classpermissionset u (c0 (p0)))"
+        for (j = 0; j < 16; j++) { low = low "p" j " "; high = high "p" (j + 16) " " }
+        for (i = 0; i < 100 * k; i++) {
+            printf "(class c%d (%s%s))(classpermissionset u (c%d (%s)))\n", i, low, high, i, high
+            printf "(classpermissionset s (c%d (%s)))(classpermissionset v (c%d (%s)))\n", i, low, i, low
+        }
+        for (i = 0; i < 50; i++) printf "(neverallow t o s)(neverallow t o %s)\n", other
+        for (i = 0; i < 250 * k; i++) print "(allow t o u)"
+    }'
+}
+
+# the same with neverallow rules of one set alone
+shared() {
+    large_sets "$1" s
+}
+
+turns() {
+    large_sets "$1" v
+}
+
+for shape in common commons blocks sets repeats brackets dotted chain statements nots named many idle shared turns; do
     for k in 1 4; do
         "$shape" "$k" > "$folder/text"
         script_of_text
+        case "$shape" in shared | turns) echo violations >> "$folder/script" ;; esac
         best=$(best_time)
         peak=$(peak_memory)
-        awk -v shape="$shape" -v size="$size" -v ns="$best" -v peak="$peak" -v answer="$(cut -c1-40 "$folder/answer")" 'BEGIN {
+        answer=$(tail -n 1 "$folder/answer" | cut -c1-40)
+        awk -v shape="$shape" -v size="$size" -v ns="$best" -v peak="$peak" -v answer="$answer" 'BEGIN {
             printf "%-10s %9d bytes %8.3f s %8.1f MiB   %s\n", shape, size, ns / 1e9, peak / 1024, answer
         }'
     done
