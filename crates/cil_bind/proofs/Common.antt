@@ -1,16 +1,15 @@
 -- The names from elsewhere that this crate's proofs cite most, passed on from one place.
 pub use Rattle.cil_bind.specs.Binding.{AreBound, AreLeads, AreMoved, Binds, has_place, kinds_of, most_references, moved_to, places_from}
-pub use Rattle.cil_bind.specs.Lookup.{AreOpened, AreWithin, HaveDeclared, IsFirstOf, IsLead, Knows, is_key, named, namespace_at, path_of, table_index, table_of, word_at}
-pub use Rattle.cil_bind.specs.Namespaces.{AreInside, AreSpaces, Opens, spaces_of, with_block}
 pub use Rattle.cil_bind.specs.Ordered.{AreOrdered, IsBefore, IsLeast, IsRising, offsets_in, offsets_of}
 pub use Rattle.cil_bind.specs.Policy.{AreMarked, IsFirstAgain, IsTold, fault_of}
 pub use Rattle.cil_bind.specs.Rows.{AreNumbered, AreRows, DeclareThat, IsDeclared, IsOnce, IsRow, IsTaken, is_optional_row}
 pub use Rattle.cil_bind.specs.Scope.{AreAround, AreFrom, AreSpelt, HaveModule, IsAround, IsFrom, IsOpenedIn, Stands, StandsFor, block_word, is_optional_kind, optional_number}
 pub use Rattle.cil_bind.specs.Words.{AreWorded, LeadsTo, Remembers, RemembersNothing, RemembersOf}
 pub use Rattle.cil_bind.specs.declared.joined.NamedModule.{NamedModule}
-pub use Rattle.cil_bind.specs.declared.lookup.Key.{Key}
-pub use Rattle.cil_bind.specs.declared.namespaces.Block.{Block}
 pub use Rattle.cil_bind.specs.declared.rows.Row.{Row}
+pub use Rattle.cil_lookup.specs.Lookup.{AreOpened, AreWithin, HaveDeclared, IsLead, Knows, is_key, named, namespace_at, path_of, table_index, table_of, word_at}
+pub use Rattle.cil_lookup.specs.Namespaces.{Opens}
+pub use Rattle.cil_lookup.specs.declared.lookup.Key.{Key}
 pub use Rattle.cil_parse.proofs.AroundLemmas.{placed-flat}
 pub use Rattle.cil_parse.specs.Around.{ArePlacedAs, IsBlockOf, IsOptionalOf, IsPlacedAs}
 pub use Rattle.cil_parse.specs.Builder.{read, row_for, row_of}
@@ -33,11 +32,11 @@ pub use Rattle.cil_specs.specs.Lookup.{Table, block_name, classes, commons, perm
 pub use Rattle.cil_specs.specs.Names.{Word, components, declared, is_name, is_reserved}
 pub use Rattle.cil_specs.specs.Report.{name_cmp, names_rise}
 pub use Rattle.cil_specs.specs.Statements.{ClassPermissions, anonymous, by_name, class_permission, class_permission_set, Form, Statements, alias_actual, are_apart, as_declared, as_referred, attribute_set, block, class, class_common, class_order, common, is_optional, itself, no_more, optional, rise_from, rule, stands_apart, statement, statement_offsets, target_words, the_named, type_alias, type_attribute, type_name, words_of}
-pub use Rattle.std.proofs.Common.{All, Bool, Contains, IfNone, IsTrue, List, None, Option, Some, Vec, [], add-one, ap, append-nil, append_assoc, arith, bytes_eq, cond, drop, drop-cons, false, filter, fold, get_or, if◌then◌else◌, inl, inr, is_some, length, length-append, map, nat_eq, nat_lt, not, of_calls, position, refl, rules, slice_index_or, slice_set, subst, suc, sym, take, true, true≢false, zero, ℕ, ◌&&◌, ◌++◌, ◌+◌, ◌-◌, ◌<◌, ◌==◌, ◌^◌, ◌||◌, ◌∙◌, ◌∷◌, ◌≡◌, ◌≤◌, ◌⊎◌}
+pub use Rattle.std.proofs.Common.{All, Bool, Contains, IfNone, IsTrue, List, None, Option, Some, Vec, [], add-one, ap, append-nil, append_assoc, arith, bytes_eq, cond, drop, drop-cons, false, filter, get_or, if◌then◌else◌, inl, inr, is_some, length, length-append, map, nat_lt, not, of_calls, position, refl, rules, slice_index_or, slice_set, subst, suc, sym, take, true, true≢false, zero, ℕ, ◌&&◌, ◌++◌, ◌+◌, ◌<◌, ◌==◌, ◌^◌, ◌||◌, ◌∙◌, ◌∷◌, ◌≡◌, ◌≤◌, ◌⊎◌}
 pub use Rattle.std.proofs.lemmas.Bool.{cases_lt, cases_order, eq-eqb, eqb-true, le-ltb, lt-ltb}
 pub use Rattle.std.proofs.lemmas.Cmp.{nat_list_cmp_total, nat_list_eq_equiv}
-pub use Rattle.std.proofs.lemmas.List.{get_or_append_left, get_or_default, get_or_push, length-map, length_push, map-append, take-append-drop, take_all}
-pub use Rattle.std.proofs.lemmas.List.Elements.{Contains-get_or, Contains-push_cases, filter-append}
+pub use Rattle.std.proofs.lemmas.List.{get_or_append_left, length-map, map-append, take-append-drop, take_all}
+pub use Rattle.std.proofs.lemmas.List.Elements.{Contains-get_or, filter-append}
 pub use Rattle.std.proofs.lemmas.List.Folds.{Any-from_list_any, find_at, list_any-append, list_any_at}
 pub use Rattle.std.proofs.lemmas.List.Quantifiers.{position-Some}
 pub use Rattle.std.proofs.lemmas.Option.{get_or_from_slice_get, none-some, same_Some, slice_get-get_or, slice_get_past, slice_get_within}

@@ -5,7 +5,7 @@ use Rattle.indexmap.specs.IndexMap.{insert_entry}
 use Rattle.cil_specs.specs.PolicyFault.{twice, is_again, twice_words}
 use Rattle.cil_parse.specs.declared.table.Table as code
 use Rattle.cil_parse.specs.declared.table.Table.TheVariants.{Types, Classes, Commons, PermissionSets, Scopes}
-use Rattle.cil_bind.proofs.NamespaceLemmas.{bytes_eq-refl, bytes_eq-true, distinct-place}
+use Rattle.cil_lookup.proofs.NamespaceLemmas.{bytes_eq-refl, bytes_eq-true, distinct-place}
 use Rattle.cil_bind.proofs.PositionLemmas.{at_if, is_before, any-before, any-position, position-append, around-at, take-length, take-next}
 
 pub same-bool : (a b : Bool) → (a ≡ true → b ≡ true) → (b ≡ true → a ≡ true) → a ≡ b

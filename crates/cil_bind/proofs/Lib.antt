@@ -1,6 +1,6 @@
 pub mod Common
-pub mod NamespaceLemmas
-pub mod LookupLemmas
+pub use Rattle.cil_lookup.proofs.NamespaceLemmas
+pub use Rattle.cil_lookup.proofs.LookupLemmas
 pub mod PositionLemmas
 pub mod DeclareLemmas
 pub mod ScopeLemmas

@@ -3,7 +3,7 @@ use Rattle.cil_bind.proofs.Common.{◌≡◌, ℕ, zero, suc, ◌+◌, ◌<◌, 
 use Rattle.std.proofs.Common.{slice_get, option_map}
 use Rattle.cil_specs.proofs.RestrictedLemmas.{filter-yes, filter-no}
 use Rattle.cil_bind.proofs.BindingLemmas.{bound-next, kinds-push, kind-at}
-use Rattle.cil_bind.proofs.LookupLemmas.{no-lead}
+use Rattle.cil_lookup.proofs.LookupLemmas.{no-lead}
 use Rattle.cil_bind.proofs.PlaceLemmas.{get-there}
 use Rattle.cil_bind.proofs.PositionLemmas.{position-cons, at_if, take-next}
 use Rattle.cil_bind.proofs.StayLemmas.{Stays, leads-stays}

@@ -7,7 +7,7 @@ use Rattle.cil_specs.specs.Lookup.{Table, leads, references}
 use Rattle.cil_parse.specs.Forms.{kind_of}
 use Rattle.cil_parse.specs.declared.row.StatementKind.{StatementKind}
 use Rattle.cil_parse.specs.declared.row.StatementKind.TheVariants as kinds
-use Rattle.cil_bind.specs.Lookup.{IsLead}
+use Rattle.cil_lookup.specs.Lookup.{IsLead}
 use Rattle.cil_bind.specs.declared.rows.Row.{Row}
 
 -- each of some references from a namespace is bound to what it leads to

@@ -1,6 +1,5 @@
 pub mod Common
-pub mod Namespaces
-pub mod Lookup
+pub use Rattle.cil_lookup.specs.Lookup
 pub mod Rows
 pub mod Scope
 pub mod Words

@@ -6,7 +6,7 @@ use Rattle.cil_specs.specs.PolicyFault.{PolicyFault, twice, twice_words}
 use Rattle.cil_text.specs.Image.{place_of}
 use Rattle.cil_specs.specs.Kept.{Optionals, is_within}
 use Rattle.cil_bind.specs.declared.rows.Row.{Row}
-use Rattle.cil_bind.specs.Lookup.{Knows}
+use Rattle.cil_lookup.specs.Lookup.{Knows}
 use Rattle.cil_bind.specs.Rows.{IsOnce}
 use Rattle.cil_bind.specs.Scope.{Stands, AreFrom, AreAround}
 use Rattle.cil_bind.specs.Words.{AreWorded}

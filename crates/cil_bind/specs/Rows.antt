@@ -6,9 +6,9 @@ use Rattle.cil_specs.specs.Statements.{Form, block, is_optional}
 use Rattle.cil_specs.specs.Joined.{Placed}
 use Rattle.cil_specs.specs.Lookup.{Table, declared_in}
 use Rattle.cil_specs.specs.PolicyFault.{PolicyFault, twice, twice_words, IsFaultOf}
-use Rattle.cil_bind.specs.Lookup.{word_at, namespace_at, table_of, HaveDeclared}
+use Rattle.cil_lookup.specs.Lookup.{word_at, namespace_at, table_of, HaveDeclared}
 use Rattle.cil_parse.specs.declared.table.Table as code
-use Rattle.cil_bind.specs.declared.lookup.Key.{Key}
+use Rattle.cil_lookup.specs.declared.lookup.Key.{Key}
 use Rattle.cil_bind.specs.declared.rows.Row.{Row}
 use Rattle.cil_bind.specs.declared.declarations.Declared.{Declared}
 use Rattle.cil_bind.specs.declared.declarations.Declared.TheVariants.{Once, Twice}

@@ -4,7 +4,7 @@ use Rattle.std.specs.List.{IsDistinct}
 use Rattle.cil_specs.specs.Names.{Word}
 use Rattle.cil_specs.specs.Statements.{Statements, Form, block, optional}
 use Rattle.cil_specs.specs.Joined.{Placed, Module}
-use Rattle.cil_bind.specs.Lookup.{named}
+use Rattle.cil_lookup.specs.Lookup.{named}
 use Rattle.cil_bind.specs.Rows.{IsDeclared, AreRows, AreNumbered}
 use Rattle.cil_parse.specs.Flat.{FlatStatement, flat}
 use Rattle.cil_parse.specs.Parsed.{Spells, statement_count}

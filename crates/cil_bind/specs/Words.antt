@@ -5,9 +5,9 @@ use Rattle.cil_specs.specs.Lookup.{leads}
 use Rattle.cil_parse.specs.Lexicon.{AreNumbersOf}
 use Rattle.cil_parse.specs.Parsed.{names_of, texts_of}
 use Rattle.cil_parse.specs.declared.table.Table as code
-use Rattle.cil_bind.specs.Lookup.{namespace_at, table_of, Knows, IsLead}
+use Rattle.cil_lookup.specs.Lookup.{namespace_at, table_of, Knows, IsLead}
 use Rattle.cil_parse.specs.declared.parsed.ParsedModule.{ParsedModule}
-use Rattle.cil_bind.specs.declared.lookup.Lookup.{Lookup}
+use Rattle.cil_lookup.specs.declared.lookup.Lookup.{Lookup}
 use Rattle.cil_bind.specs.declared.memo.Remembered.{Remembered}
 use Rattle.cil_bind.specs.declared.memo.Memo.{Memo}
 use Rattle.cil_bind.specs.declared.joined.NamedModule.{NamedModule}

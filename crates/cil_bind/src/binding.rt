@@ -2,12 +2,12 @@
 
 ghost use Rattle.std.specs.Prelude.{◌≡◌, ◌<◌, ℕ, List, [], length, OnOk, IfOk};
 ghost use Rattle.cil_bind.specs.Common.{Placed, FlatStatement, kind_of, AreNumbersOf, names_of, texts_of, IsShown, Binds, AreBound, kinds_of, most_references, IsRow, AreRows, IsFrom, AreFrom, AreWorded, AsKnown, Remembers, RemembersOf};
-ghost use Rattle.cil_bind.specs.Lookup.{namespace_at as namespace_of, Knows};
+ghost use Rattle.cil_lookup.specs.Lookup.{namespace_at as namespace_of, Knows};
 
 use crate::joined::Joined;
-use crate::lookup::Lookup;
 use crate::memo::Memo;
 use crate::rows::Row;
+use cil_lookup::Lookup;
 use cil_parse::{Lists, ParsedModule, StatementKind, StatementView};
 use std::alloc::{AllocError, Allocator, Global};
 

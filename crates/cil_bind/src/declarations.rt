@@ -3,8 +3,8 @@
 ghost use Rattle.std.specs.Prelude.{◌≡◌, ◌<◌, ◌∷◌, ◌^◌, ℕ, List, [], true, false, not, ◌&&◌, length, take, slice_get, IfOk, Some};
 ghost use Rattle.cil_bind.specs.Common.{Placed, Word, twice_words, HaveDeclared, AreRows, AreNumbered, IsOnce, IsTaken, DeclareThat, is_optional_row};
 
-use crate::lookup::Key;
 use crate::rows::Row;
+use cil_lookup::Key;
 use indexmap::IndexMap;
 use std::alloc::{AllocError, Allocator, Global};
 use std::hash::{BuildHasherDefault, FoldHasher};

@@ -6,16 +6,15 @@ mod declarations;
 mod joined;
 mod known_lists;
 mod laws;
-mod lookup;
 mod memo;
 mod moving;
-mod namespaces;
 mod policy;
 mod redeclaration;
 mod rows;
 mod scope;
 mod words;
 
+pub use cil_lookup::{Key, Lookup};
 pub use joined::{Joined, NamedModule, join};
 pub use known_lists::{KnownLists, PermissionList};
 pub use laws::{
@@ -23,7 +22,6 @@ pub use laws::{
     kept_permissions_are_names, names_are_in_order, permissions_are_names, policies_are_apart,
     policies_are_ordered, rows_are_nested, texts_are_written,
 };
-pub use lookup::{Key, Lookup};
 pub use policy::{Joining, Policy};
 pub use redeclaration::Redeclaration;
 pub use rows::Row;

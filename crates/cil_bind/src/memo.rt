@@ -3,8 +3,8 @@
 ghost use Rattle.std.specs.Prelude.{◌≡◌, ◌<◌, ◌⊎◌, ℕ, List, [], None, Some, length, IfSome, OnOk};
 ghost use Rattle.cil_bind.specs.Common.{Placed, names_of, texts_of, AsKnown, LeadsTo, Remembers, RemembersNothing};
 
-use crate::lookup::Lookup;
 use crate::words::lead;
+use cil_lookup::Lookup;
 use cil_parse::{ParsedModule, Table};
 use std::alloc::{AllocError, Allocator, Global};
 

@@ -6,9 +6,9 @@ ghost use Rattle.cil_bind.specs.Binding.{AreLeads, AreBound, AreMoved, Binds, ki
 
 use crate::binding::{bind_row, room};
 use crate::joined::Joined;
-use crate::lookup::Lookup;
 use crate::memo::Memo;
 use crate::rows::{Row, is_kept};
+use cil_lookup::Lookup;
 use cil_parse::{Lists, StatementKind};
 use std::alloc::{AllocError, Allocator};
 

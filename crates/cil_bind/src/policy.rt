@@ -7,12 +7,12 @@ ghost use Rattle.cil_specs.specs.Joined.{Placed, Module, joined as joined_policy
 use crate::binding::bind;
 use crate::declarations::{Declarations, Declared};
 use crate::joined::Joined;
-use crate::lookup::Lookup;
 use crate::moving::{kept_kinds, places_of, rebind};
 use crate::redeclaration::Redeclaration;
 use crate::rows::{Row, is_kept};
 use crate::scope::Scope;
 use crate::words::number_modules;
+use cil_lookup::Lookup;
 use cil_names::{Names, counted_in_32_bits};
 use cil_parse::{Lists, StatementKind};
 use std::alloc::{AllocError, Allocator, Global};

@@ -8,9 +8,9 @@ ghost use Rattle.cil_bind.specs.Scope.{StandsFor, AreSpelt, AreFrom, AreAround, 
 ghost use Rattle.cil_bind.specs.declared.joined.NamedModule.{NamedModule};
 
 use crate::joined::Joined;
-use crate::namespaces::Namespaces;
 use crate::rows::Row;
 use crate::words::number_word;
+use cil_lookup::Namespaces;
 use cil_names::{Names, in_32_bits};
 use cil_parse::{ParsedModule, StatementKind, StatementView, Table};
 use std::alloc::{AllocError, Allocator, Global};

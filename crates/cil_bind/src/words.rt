@@ -5,7 +5,7 @@ ghost use Rattle.cil_bind.specs.Common.{IsDistinct, AreNumbersOf, names_of, text
 ghost use Rattle.cil_specs.specs.Lookup.{is_global as is_global_text};
 
 use crate::joined::Joined;
-use crate::lookup::Lookup;
+use cil_lookup::Lookup;
 use cil_names::{Names, in_32_bits};
 use cil_parse::{ParsedModule, Table};
 use std::alloc::{AllocError, Allocator};

@@ -3,7 +3,7 @@ use Rattle.cil_resolve.proofs.Common.{◌≡◌, ℕ, ◌<◌, ◌≤◌, zero, 
 use Rattle.std.proofs.Common.{slice_get}
 use Rattle.cil_bind.specs.Lookup.{named}
 use Rattle.cil_bind.specs.Rows.{IsRow, AreNumbered}
-use Rattle.cil_bind.specs.declared.namespaces.Block.{Block}
+use Rattle.cil_lookup.specs.declared.namespaces.Block.{Block}
 use Rattle.std.specs.Borrow.{Bor}
 use Rattle.cil_check.specs.declared.bound.Seen.{Seen}
 

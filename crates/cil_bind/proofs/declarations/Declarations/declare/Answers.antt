@@ -1,5 +1,5 @@
 use Rattle.cil_bind.proofs.Common.{false, None, get_or, refl, sym, ap, ◌∙◌, subst, lookup, IsDeclared, Key, Row}
-use Rattle.cil_bind.proofs.LookupLemmas.{derived-key}
+use Rattle.cil_lookup.proofs.LookupLemmas.{derived-key}
 use Rattle.cil_bind.proofs.DeclareLemmas.{row-here, row-at, taken-nothing, taken-found, taken-new, put-new}
 use Rattle.cil_bind.proofs.declarations.Declarations.declare.Goals as goal
 

@@ -1,5 +1,5 @@
 use Rattle.std.proofs.Common.{subst, arith}
-use Rattle.cil_bind.specs.Lookup.{HaveDeclared}
+use Rattle.cil_lookup.specs.Lookup.{HaveDeclared}
 use Rattle.cil_bind.proofs.DeclareLemmas.{once-front, taken-once, none-taken, all-taken}
 use Rattle.cil_bind.proofs.declarations.Declarations.of_once.Goals as goal
 

@@ -1,6 +1,6 @@
 use Rattle.std.proofs.Common.{◌≡◌, Some, slice_get, length, refl, sym, ap, ◌∙◌}
 use Rattle.std.proofs.lemmas.Option.{slice_get_read}
-use Rattle.cil_bind.proofs.LookupLemmas.{derived-table}
+use Rattle.cil_lookup.proofs.LookupLemmas.{derived-table}
 use Rattle.cil_bind.proofs.MemoLemmas.{recalled}
 use Rattle.cil_bind.proofs.memo.Memo.recall.Goals as goal
 
