@@ -3,7 +3,7 @@ use Rattle.cil_parse.proofs.Common.{◌≡◌, ℕ, suc, ◌+◌, ◌<◌, List,
 use Rattle.std.proofs.Math.Seq.{drop-cons}
 use Rattle.cil_text.specs.Expr.{exprs_of}
 use Rattle.cil_text.specs.declared.statement.Expr as code
-use Rattle.cil_text.specs.declared.word.Word as code_words
+use Rattle.cil_reader.specs.declared.word.Word as code_words
 use Rattle.cil_parse.specs.declared.row.SetNode.{SetNode}
 use Rattle.cil_parse.specs.declared.row.SetNode.TheVariants as nodes
 use Rattle.cil_parse.proofs.LexiconLemmas.{each-keeps, each-append, lists-keep, with_name-keeps}

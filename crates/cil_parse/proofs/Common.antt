@@ -17,7 +17,7 @@ pub use Rattle.cil_specs.specs.Names.{Word, components}
 pub use Rattle.cil_specs.specs.Shape.{IsFirstShapeFault, Shapes}
 pub use Rattle.cil_specs.specs.Statements.{ClassPermissions, Form, Statements, alias_actual, anonymous, attribute_set, block, by_name, class, class_common, class_order, class_permission, class_permission_set, common, itself, no_more, optional, rule, statement, target_words, the_named, type_alias, type_attribute, type_name}
 pub use Rattle.cil_text.proofs.FirstBad.{fault_weaker, handed_on}
-pub use Rattle.cil_text.specs.Forest.{forest_of}
+pub use Rattle.cil_reader.specs.Forest.{forest_of}
 pub use Rattle.cil_text.specs.Form.{at_of, form_of, has_body}
 pub use Rattle.cil_text.specs.Image.{FaultIs, expr_of, permissions_of, place_of, row_statements, statement_then, statements_of, target_of, trees_of, word_of}
 pub use Rattle.cil_text.specs.Walk.{IsFirstAmong, IsInFront, IsNext}

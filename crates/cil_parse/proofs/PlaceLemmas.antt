@@ -1,7 +1,7 @@
 -- Statements that come to what was gone over.
 use Rattle.cil_parse.proofs.Common.{◌≡◌, ℕ, ◌+◌, ◌<◌, List, [], ◌∷◌, ◌++◌, Vec, length, get_or, take, refl, sym, ap, subst, ◌∙◌, append_assoc, append-nil, length-append, false, length-map, no_more, statement_then, statements_of, form_of, has_body, Statement, FlatStatement, flat, IsAt, Closes, Puts, Places, top, row_of, row_for, AddsForm, Builder, Around, Row}
-use Rattle.cil_text.specs.declared.place.Place as code
-use Rattle.cil_text.specs.declared.word.Word as words
+use Rattle.cil_reader.specs.declared.place.Place as code
+use Rattle.cil_reader.specs.declared.word.Word as words
 use Rattle.cil_text.specs.declared.statement.Statement.TheVariants.{Block, Optional}
 use Rattle.cil_parse.proofs.FlatLemmas.{head_of, flat-next, flat-leaf, flat-block, flat-optional}
 

@@ -6,7 +6,7 @@ use Rattle.cil_text.specs.Expr.{exprs_of}
 use Rattle.cil_text.specs.declared.statement.Expr.{Expr, Expr-F, out-Expr, roll-Expr, roll-out-Expr}
 use Rattle.cil_text.specs.declared.statement.Expr.TheOpen as opened
 use Rattle.cil_text.specs.declared.statement.Expr.TheVariants.{Name, Union, rolls-All, rolls-Name, rolls-Not, rolls-And, rolls-Or, rolls-Xor, rolls-Union}
-use Rattle.cil_text.specs.declared.word.Word as code
+use Rattle.cil_reader.specs.declared.word.Word as code
 use Rattle.cil_text.proofs.Rows.{union_of}
 use Rattle.cil_parse.specs.declared.row.SetNode.TheVariants as nodes
 use Rattle.cil_parse.proofs.BuilderLemmas.{adds-none, adds-then}

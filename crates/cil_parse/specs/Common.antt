@@ -7,5 +7,5 @@ pub use Rattle.cil_parse.specs.PermissionLists.{AreListed, permission_texts, per
 pub use Rattle.cil_specs.specs.Lookup.{declared_in, references, with_name}
 pub use Rattle.cil_specs.specs.Shape.{IsFirstShapeFault}
 pub use Rattle.cil_specs.specs.Statements.{Statements, rule, target_words}
-pub use Rattle.cil_text.specs.Forest.{forest_of}
+pub use Rattle.cil_reader.specs.Forest.{forest_of}
 pub use Rattle.cil_text.specs.Image.{FaultIs, expr_of, permissions_of, place_of, rule_kind_of, statements_of, target_of, trees_of, word_of}

@@ -6,7 +6,7 @@ ghost use Rattle.cil_specs.specs.Names.{components as components_of};
 ghost use Rattle.cil_specs.specs.Shape.{IsFirstShapeFault};
 ghost use Rattle.cil_specs.specs.Statements.{Statements};
 ghost use Rattle.cil_text.specs.Image.{FaultIs};
-ghost use Rattle.cil_text.specs.Forest.{forest_of};
+ghost use Rattle.cil_reader.specs.Forest.{forest_of};
 ghost use Rattle.cil_parse.specs.Lexicon.{texts_in, names_in, AreNumbersOf, AreSplit};
 ghost use Rattle.cil_parse.specs.Flat.{FlatStatement, flat, count};
 ghost use Rattle.cil_parse.specs.Forms.{kind_of, permissions_in};

@@ -10,8 +10,8 @@ use Rattle.cil_projection.specs.Conditions.{Settings}
 use Rattle.cil_projection.specs.Statements.{Projects}
 use Rattle.cil_specs.specs.TextFault.{TextFault}
 use Rattle.cil_text.specs.Image.{FaultIs, kind_of, place_of, shown}
-use Rattle.cil_text.specs.declared.fault.TextFault.{TextFault as CodeFault}
-use Rattle.cil_text.specs.declared.fault.TextFault.TheVariants as text_faults
+use Rattle.cil_reader.specs.declared.fault.TextFault.{TextFault as CodeFault}
+use Rattle.cil_reader.specs.declared.fault.TextFault.TheVariants as text_faults
 use Rattle.cil_program.specs.ByNames.{AnswersByNames, AreEntriesFor, AreHindered, AreProjections, InTurn, IsRefusalBy, hint_by, is_at_fault, is_longer, none_held, one_not_projected}
 use Rattle.cil_program.specs.CommandLine.{Content, IsEntryFor, IsReadOf}
 use Rattle.cil_program.specs.Conditionals.{Conditionals}

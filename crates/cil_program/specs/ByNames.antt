@@ -6,7 +6,7 @@ use Rattle.cil_specs.specs.TextFault as text_fault
 use Rattle.cil_store_specs.specs.Next.{Refusal, at_place, by_store, for_memory}
 use Rattle.cil_store_specs.specs.Store.{Entry}
 use Rattle.cil_text.specs.Image.{FaultIs, kind_of, place_of, shown}
-use Rattle.cil_text.specs.declared.fault.TextFault.TheVariants as text_faults
+use Rattle.cil_reader.specs.declared.fault.TextFault.TheVariants as text_faults
 use Rattle.cil_projection.specs.Conditions.{Settings, Known, Collects, settings_of, with_value}
 use Rattle.cil_projection.specs.Statements.{Counts, IsProjectionFault, Projects, Tallies, no_counts}
 use Rattle.cil_projection.specs.declared.projecting.TheConstants.{DECLARATIONS}

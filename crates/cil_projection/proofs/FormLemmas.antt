@@ -11,11 +11,11 @@ use Rattle.cil_projection.specs.declared.piece.Piece as code
 use Rattle.cil_projection.specs.Pieces.{Piece, piece_of, pieces_of}
 use Rattle.cil_projection.specs.declared.part.Part.{Part}
 use Rattle.cil_projection.specs.Forms.{joined, constraint, constraints, fit, of_first, Adds}
-use Rattle.cil_text.specs.declared.word.Word as code_word
-use Rattle.cil_text.specs.declared.place.Place as code_place
-use Rattle.cil_text.specs.declared.tree.TreeSlice.{TreeSlice}
-use Rattle.cil_text.specs.declared.tree.Tree.{Tree}
-use Rattle.cil_text.specs.declared.tree.Tree.TheVariants as trees
+use Rattle.cil_reader.specs.declared.word.Word as code_word
+use Rattle.cil_reader.specs.declared.place.Place as code_place
+use Rattle.cil_reader.specs.declared.tree.TreeSlice.{TreeSlice}
+use Rattle.cil_reader.specs.declared.tree.Tree.{Tree}
+use Rattle.cil_reader.specs.declared.tree.Tree.TheVariants as trees
 use Rattle.cil_text.specs.Common.{place_of, tree_then, trees_of}
 
 -- what is one thing for all trees but those with a word in front is it where none is there

@@ -5,10 +5,10 @@ use Rattle.cil_specs.specs.Place.{Place}
 use Rattle.cil_specs.specs.Names.{Word}
 use Rattle.cil_specs.specs.Shape.{put_word}
 use Rattle.cil_specs.specs.Trees.{Trees, none, a_word, a_string, a_list}
-use Rattle.cil_text.specs.declared.place.Place as code_place
-use Rattle.cil_text.specs.declared.tree.TreeSlice.{TreeSlice}
-use Rattle.cil_text.specs.declared.tree.Tree.{Tree}
-use Rattle.cil_text.specs.declared.tree.Tree.TheVariants as trees
+use Rattle.cil_reader.specs.declared.place.Place as code_place
+use Rattle.cil_reader.specs.declared.tree.TreeSlice.{TreeSlice}
+use Rattle.cil_reader.specs.declared.tree.Tree.{Tree}
+use Rattle.cil_reader.specs.declared.tree.Tree.TheVariants as trees
 use Rattle.cil_text.specs.Common.{place_of, tree_then, trees_of}
 use Rattle.cil_projection.specs.Pieces.{Piece}
 use Rattle.cil_projection.specs.Forms.{joined}

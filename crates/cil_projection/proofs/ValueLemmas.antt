@@ -2,8 +2,8 @@
 use Rattle.std.specs.Prelude.{◌≡◌, ℕ, ◌++◌, Bool, true, false, List, [], ◌∷◌, Option, Some, None, option_map, refl}
 use Rattle.std.proofs.Common.{◌∙◌, sym, ap, subst, append_assoc, append-nil}
 use Rattle.cil_specs.specs.Trees.{Trees}
-use Rattle.cil_text.specs.declared.tree.Tree.{Tree}
-use Rattle.cil_text.specs.declared.tree.Tree.TheVariants as trees
+use Rattle.cil_reader.specs.declared.tree.Tree.{Tree}
+use Rattle.cil_reader.specs.declared.tree.Tree.TheVariants as trees
 use Rattle.cil_text.specs.Common.{tree_then}
 use Rattle.cil_projection.specs.Conditions.{in_front, values, first_value, AddsValues}
 

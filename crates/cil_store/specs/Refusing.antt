@@ -5,8 +5,8 @@ use Rattle.cil_store_specs.specs.Store.{Store}
 use Rattle.cil_specs.specs.TextFault as text_fault
 use Rattle.cil_specs.specs.PolicyFault as policy_fault
 use Rattle.cil_text.specs.Image.{place_of, kind_of, shown}
-use Rattle.cil_text.specs.declared.fault.TextFault.{TextFault}
-use Rattle.cil_text.specs.declared.fault.TextFault.TheVariants as texts
+use Rattle.cil_reader.specs.declared.fault.TextFault.{TextFault}
+use Rattle.cil_reader.specs.declared.fault.TextFault.TheVariants as texts
 use Rattle.cil_check.specs.Image.{policy_kind_of}
 use Rattle.cil_check.specs.declared.fault.PolicyFault.{PolicyFault}
 use Rattle.cil_check.specs.declared.fault.PolicyFault.TheVariants as policies

@@ -1,7 +1,7 @@
 -- The statements inside a statement.
 use Rattle.cil_text.proofs.Common.{◌≡◌, false, Vec, refl, sym, ap, ◌∙◌, Trees, Statements, statement, tree_then, statement_then, form_of, at_of, has_body, behind, body_of, Place, Tree, Statement, Statement-F, out-Statement, roll-Statement, roll-out-Statement, Block', Optional', TypeName, TypeAlias, TypeAliasActual, TypeAttribute, TypeAttributeSet, Common, Class, ClassCommon, ClassOrder, ClassPermission, ClassPermissionSet, Rule}
-use Rattle.cil_text.specs.declared.word.Word as words
-use Rattle.cil_text.specs.declared.tree.Tree.TheVariants.{Word, String, List as Listed}
+use Rattle.cil_reader.specs.declared.word.Word as words
+use Rattle.cil_reader.specs.declared.tree.Tree.TheVariants.{Word, String, List as Listed}
 use Rattle.cil_text.specs.declared.statement.Statement.TheOpen as opened
 use Rattle.cil_text.specs.declared.statement.Statement.TheVariants.{Block, Optional, rolls-Block, rolls-Optional, rolls-TypeName, rolls-TypeAlias, rolls-TypeAliasActual, rolls-TypeAttribute, rolls-TypeAttributeSet, rolls-Common, rolls-Class, rolls-ClassCommon, rolls-ClassOrder, rolls-ClassPermission, rolls-ClassPermissionSet, rolls-Rule}
 

@@ -2,7 +2,7 @@
 use Rattle.cil_text.proofs.Common.{◌≡◌, true, List, [], ◌∷◌, ◌++◌, Some, None, refl, sym, ap, subst, Trees, none, a_word, a_string, a_list, nothing, elements, Expresses, Lists, string_spells, place_of, tree_then, trees_of, expr_of, is_nothing, is_one, exprs_of, SpellsExpr, Tree, Expr}
 use Rattle.cil_specs.specs.Expr as spec
 use Rattle.cil_specs.proofs.ExprSame.{expresses_same, word_is, list_rest, none_expresses}
-use Rattle.cil_text.specs.declared.tree.Tree.TheVariants.{Word, String, List as Listed}
+use Rattle.cil_reader.specs.declared.tree.Tree.TheVariants.{Word, String, List as Listed}
 
 -- a tree is something
 pub tree_some : (t : Tree) (rest : Trees) → tree_then t rest ≡ none → ⊥

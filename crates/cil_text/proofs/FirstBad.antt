@@ -1,8 +1,8 @@
 -- The first word of a statement that is not good.
 use Rattle.cil_text.proofs.Common.{◌≡◌, ℕ, ◌+◌, List, [], ◌∷◌, ◌++◌, get_or, map, zero, suc, Option, Some, None, MatchOption, Result, Ok, Err, IsErrAnd, IfErr, inl, sym, ◌∙◌, ap, subst, refl, Contains, arith, TextFaultKind, code_of, TextFault, IsNoLater, Role, name_fault, IsAtWord, RiseTo, role_offset, at-offset, word_within, no_later-here, place_of, kind_of, shown, FaultIs, AreGood, IsFirstBad, IsFoundAs, Checks}
 use Rattle.cil_specs.specs.Names.{Word}
-use Rattle.cil_text.specs.declared.fault.TextFault as code
-use Rattle.cil_text.specs.declared.fault.TextFault.TheVariants.{Memory, Found}
+use Rattle.cil_reader.specs.declared.fault.TextFault as code
+use Rattle.cil_reader.specs.declared.fault.TextFault.TheVariants.{Memory, Found}
 
 -- a word that is not good, and its fault
 pub record IsBad (words : List (Role × Word)) (fault : TextFault) : Type 0 where

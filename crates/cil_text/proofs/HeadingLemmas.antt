@@ -4,8 +4,8 @@ use Rattle.cil_specs.specs.Place.{Place}
 use Rattle.cil_specs.specs.Names.{Word}
 use Rattle.cil_specs.proofs.FaultOrder.{word_at}
 use Rattle.cil_text.specs.Keyword.{spelling}
-use Rattle.cil_text.specs.declared.word.Word as code
-use Rattle.cil_text.specs.declared.fault.TextFault as fault_type
+use Rattle.cil_reader.specs.declared.word.Word as code
+use Rattle.cil_reader.specs.declared.fault.TextFault as fault_type
 use Rattle.cil_text.specs.declared.statement.RuleKind.TheVariants.{Allow, AuditAllow, DontAudit, NeverAllow}
 use Rattle.cil_text.specs.declared.keyword.Keyword.{Keyword}
 use Rattle.cil_text.specs.declared.keyword.Keyword.TheVariants.{Rule}

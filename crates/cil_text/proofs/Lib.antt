@@ -1,10 +1,4 @@
 pub mod Common
-pub mod Nodes
-pub mod Marks
-pub mod ByteClasses
-pub mod Reading
-pub mod Going
-pub mod Ends
 pub mod NameLemmas
 pub mod Tables
 pub mod Rows

@@ -2,10 +2,10 @@
 use Rattle.cil_text.proofs.Common.{◌≡◌, ℕ, ◌+◌, ◌-◌, ◌≤◌, inl, inr, Bool, ◌||◌, List, [], ◌∷◌, ◌++◌, refl, sym, ◌∙◌, ap, subst, IsTrue, arith, true≢false, TextFault, IsNoLater, Trees, none, a_list, are_lists, in_order, Form, is_optional, Statements, no_more, Fits, Shapes, IsShapeFault, IsInnerFault, first_word, OperandsFit, fits_begin, order_list, inner_fault_is, list_no_fault, inner_of_list, shapes_no_fault, fits_rise, fault_within, list_within, tree_then, statement_then, statements_of, form_of, body_of, HasBody, IsHeading, IsStatement, IsFaultOf, IsFirstOf, IsFirstAmong, Tree, Statement}
 use Rattle.cil_specs.specs.Place.{Place}
 use Rattle.cil_specs.specs.Statements as spec
-use Rattle.cil_text.specs.declared.place.Place as code_place
-use Rattle.cil_text.specs.declared.tree.Tree.TheVariants.{Word, String, List as Listed}
-use Rattle.cil_text.specs.declared.tree.TreeSlice.{TreeSlice}
-use Rattle.cil_text.proofs.Nodes.{tree_size}
+use Rattle.cil_reader.specs.declared.place.Place as code_place
+use Rattle.cil_reader.specs.declared.tree.Tree.TheVariants.{Word, String, List as Listed}
+use Rattle.cil_reader.specs.declared.tree.TreeSlice.{TreeSlice}
+use Rattle.cil_reader.proofs.Nodes.{tree_size}
 
 -- only blocks and optionals have inner statements
 body-is : (form : Form) (operands inner : Trees) (inside : Bool) (body : Statements) → OperandsFit operands form inner → Shapes inside inner body → body_of form body ≡ body

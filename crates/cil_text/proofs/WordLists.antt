@@ -1,7 +1,7 @@
 -- Words one after the other.
 use Rattle.cil_text.proofs.Common.{◌≡◌, ◌≢◌, List, [], ◌∷◌, ◌++◌, map, refl, sym, ◌∙◌, ap, map-append, Trees, none, put_word, all_words, word_of, tree_then, Word, Tree}
 use Rattle.cil_specs.specs.Names as spec
-use Rattle.cil_text.specs.declared.tree.Tree.TheVariants as trees
+use Rattle.cil_reader.specs.declared.tree.Tree.TheVariants as trees
 
 -- the words, and then the rest
 abbrev pub words_then : List spec.Word → Trees → Trees

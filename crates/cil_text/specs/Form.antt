@@ -10,7 +10,7 @@ use Rattle.cil_specs.specs.Shape.{put_word, IsClassList, IsClassAndPermissions, 
 use Rattle.cil_text.specs.Image.{place_of, word_of, expr_of, rule_kind_of, target_of, permissions_of, statement_then, statements_of}
 use Rattle.cil_text.specs.Keyword.{spelling}
 use Rattle.cil_text.specs.declared.keyword.Keyword.{Keyword}
-use Rattle.cil_text.specs.declared.word.Word.{Word}
+use Rattle.cil_reader.specs.declared.word.Word.{Word}
 use Rattle.cil_text.specs.declared.statement.Expr.{Expr}
 use Rattle.cil_text.specs.declared.statement.ClassPermissions as code
 use Rattle.cil_text.specs.declared.statement.Statement.{Statement, Block', Optional', TypeName, TypeAlias, TypeAliasActual, TypeAttribute, TypeAttributeSet, Common, Class, ClassCommon, ClassOrder, ClassPermission, ClassPermissionSet, Rule}

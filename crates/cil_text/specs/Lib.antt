@@ -1,8 +1,5 @@
 pub mod Common
 pub mod Image
-pub mod Tree
-pub mod Forest
-pub mod Reader
 pub mod Name
 pub mod Keyword
 pub mod Words

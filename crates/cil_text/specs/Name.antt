@@ -6,7 +6,7 @@ use Rattle.cil_specs.specs.TextFault as spec_faults
 use Rattle.cil_text.specs.Image.{kind_of}
 use Rattle.cil_text.specs.declared.name.Role.{Role}
 use Rattle.cil_text.specs.declared.name.Role.TheVariants.{Declared, Referred}
-use Rattle.cil_text.specs.declared.fault.TextFaultKind.{TextFaultKind}
+use Rattle.cil_reader.specs.declared.fault.TextFaultKind.{TextFaultKind}
 
 abbrev pub role_of : Role → spec_names.Role
 role_of Declared = declared

@@ -4,7 +4,7 @@ use Rattle.cil_specs.specs.Names as spec
 use Rattle.cil_specs.specs.Trees.{Trees}
 use Rattle.cil_specs.specs.Shape.{put_word, all_words, IsWordList}
 use Rattle.cil_text.specs.Image.{word_of}
-use Rattle.cil_text.specs.declared.word.Word.{Word}
+use Rattle.cil_reader.specs.declared.word.Word.{Word}
 
 -- the trees are these words, or not words alone
 abbrev pub AreWords : {A : Type 0} → Trees → Option (Vec Word A) → Type 0

@@ -13,13 +13,13 @@ use Rattle.cil_text.specs.Image.{place_of, kind_of, shown, trees_of, statement_t
 use Rattle.cil_text.specs.Form.{form_of, at_of}
 use Rattle.cil_text.specs.Keyword.{spelling}
 use Rattle.cil_text.specs.declared.keyword.Keyword.{Keyword}
-use Rattle.cil_text.specs.declared.word.Word as code
-use Rattle.cil_text.specs.declared.fault.TextFaultKind.TheVariants.{NotInOptional}
-use Rattle.cil_text.specs.declared.fault.ShownWord.TheVariants.{Text}
-use Rattle.cil_text.specs.declared.fault.TextFault.{TextFault}
-use Rattle.cil_text.specs.declared.fault.TextFault.TheVariants.{Memory, Found}
+use Rattle.cil_reader.specs.declared.word.Word as code
+use Rattle.cil_reader.specs.declared.fault.TextFaultKind.TheVariants.{NotInOptional}
+use Rattle.cil_reader.specs.declared.fault.ShownWord.TheVariants.{Text}
+use Rattle.cil_reader.specs.declared.fault.TextFault.{TextFault}
+use Rattle.cil_reader.specs.declared.fault.TextFault.TheVariants.{Memory, Found}
 use Rattle.cil_text.specs.declared.statement.Statement.{Statement}
-use Rattle.cil_text.specs.declared.tree.TreeSlice.{TreeSlice}
+use Rattle.cil_reader.specs.declared.tree.TreeSlice.{TreeSlice}
 
 -- words that stand in places of one role
 abbrev pub in_role : Role → List Word → List (Role × Word)

@@ -8,7 +8,7 @@ use crate::statement::Statement;
 use std::alloc::{Allocator, Global};
 
 /// The statements that a text spells, in its order. `shape` makes it. It borrows the text and copies no word.
-#[derive(Debug, Drop)]
+#[derive(Drop)]
 pub struct Module<'a, A: Allocator = Global> {
     pub statements: Vec<Statement<'a, A>, A>,
     /// The statements and their words stand one behind the other.

@@ -6,8 +6,7 @@ ghost use Rattle.cil_text.specs.Common.{slice_split, list_all, list_any, without
 ghost use Rattle.cil_specs.specs.Names.{begins_name, is_name_byte, is_name, is_reserved, is_reference, components, is_spelt, name_fault};
 ghost use Rattle.cil_specs.specs.TextFault as spec_faults;
 
-use crate::fault::TextFaultKind;
-use crate::reader::has_one;
+use cil_reader::{TextFaultKind, has_one};
 
 /// The most bytes of a name.
 const NAME_MAX: usize = 2048;

@@ -5,8 +5,7 @@ ghost use Rattle.cil_text.specs.Common.{Trees, none, are_lists, IsListThen, put_
 ghost use Rattle.cil_specs.specs.Names.{Word as SpecWord};
 ghost use Rattle.cil_text.specs.Split.{AreWords, AreWordList, AreWordAndList};
 
-use crate::tree::{Tree, TreeSlice};
-use crate::word::Word;
+use cil_reader::{Tree, TreeSlice, Word};
 use std::alloc::{AllocError, Allocator};
 
 /// The word in front, and the trees behind it.

@@ -1,7 +1,6 @@
 //! The statements of CIL that cilsem knows.
 
-use crate::place::Place;
-use crate::word::Word;
+use cil_reader::{Place, Word};
 use std::alloc::{Allocator, Global};
 
 /// The kinds of access vector rules (CIL Reference Guide, "Access Vector Rules").
@@ -22,7 +21,7 @@ pub enum Target<'a> {
 
 /// An expression of types (CIL Reference Guide, "typeattributeset") or of permissions ("Access
 /// Vector Rules", "Expressions").
-#[derive(Debug, Drop)]
+#[derive(Drop)]
 pub enum Expr<'a, A: Allocator = Global> {
     /// Every type, or every permission of the class.
     All,
@@ -37,7 +36,7 @@ pub enum Expr<'a, A: Allocator = Global> {
 
 /// The permissions of a rule: an expression of those of a class, or a permission set by its name (CIL
 /// Reference Guide, "classpermission").
-#[derive(Debug, Drop)]
+#[derive(Drop)]
 pub enum ClassPermissions<'a, A: Allocator = Global> {
     Anonymous {
         class: Word<'a>,
@@ -47,7 +46,7 @@ pub enum ClassPermissions<'a, A: Allocator = Global> {
 }
 
 /// A statement, with the place of its `(`. Blocks and optionals hold the statements inside them.
-#[derive(Debug, Drop)]
+#[derive(Drop)]
 pub enum Statement<'a, A: Allocator = Global> {
     Block {
         at: Place,

@@ -1,6 +1,6 @@
 use Rattle.std.proofs.Common.{◌≤◌, ◌+◌, ◌*◌}
 use Rattle.cil_text.specs.Common.{trees_of}
-use Rattle.cil_text.proofs.Nodes.{tree_size}
+use Rattle.cil_reader.proofs.Nodes.{tree_size}
 use Rattle.cil_projection.specs.Forms.{constraints}
 use Rattle.cil_projection.proofs.FormLemmas.{Completes}
 use Rattle.cil_projection.proofs.constraint.+constraint.Given as goal

@@ -1,7 +1,7 @@
 use Rattle.std.proofs.Common.{◌+◌, ◌*◌}
 use Rattle.cil_specs.specs.Trees.{none}
 use Rattle.cil_text.specs.Common.{tree_then, trees_of}
-use Rattle.cil_text.proofs.Nodes.{tree_size}
+use Rattle.cil_reader.proofs.Nodes.{tree_size}
 use Rattle.cil_projection.proofs.fit.+fit.Given as goal
 
 abbrev pub decreases-add_list : goal.decreases-add_list

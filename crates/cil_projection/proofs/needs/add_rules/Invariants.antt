@@ -1,5 +1,5 @@
 use Rattle.cil_text.specs.Common.{trees_of}
-use Rattle.cil_text.proofs.Nodes.{tree_size}
+use Rattle.cil_reader.proofs.Nodes.{tree_size}
 use Rattle.cil_projection.specs.Statements.{rules_need}
 use Rattle.cil_projection.proofs.FormLemmas.{Completes}
 use Rattle.cil_projection.proofs.needs.add_rules.Given as goal

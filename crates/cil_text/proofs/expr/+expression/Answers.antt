@@ -4,7 +4,7 @@ use Rattle.std.proofs.lemmas.Slice.Eq.{bytes_eq-Decides}
 use Rattle.cil_specs.proofs.ExprSame.{none_expresses}
 use Rattle.cil_text.specs.declared.expr.Operator.TheVariants.{And, Or, Xor, Not}
 use Rattle.cil_text.proofs.Rows.{union_of}
-use Rattle.cil_text.proofs.Nodes.{tree_size, size_first, size_behind}
+use Rattle.cil_reader.proofs.Nodes.{tree_size, size_first, size_behind}
 use Rattle.cil_text.proofs.Elements.{rest_is, one_tree, HasFound, found_first, found_next, found_none, found_all}
 use Rattle.cil_text.proofs.Spells.{operation_found, operation_misfit, all_found}
 use Rattle.cil_text.proofs.expr.+expression.Goals as goal

@@ -1,5 +1,5 @@
 use Rattle.cil_text.proofs.Common.{◌+◌, ◌*◌, ◌≤◌, none, trees_of, tree_then}
-use Rattle.cil_text.proofs.Nodes.{tree_size}
+use Rattle.cil_reader.proofs.Nodes.{tree_size}
 use Rattle.cil_text.proofs.Elements.{HasFound}
 use Rattle.cil_text.proofs.expr.+expression.Given as goal
 

@@ -1,6 +1,6 @@
 use Rattle.std.proofs.Common.{refl}
 use Rattle.cil_specs.specs.Names.{is_name_byte}
-use Rattle.cil_text.proofs.ByteClasses.{byte-at}
+use Rattle.cil_reader.proofs.ByteClasses.{byte-at}
 use Rattle.cil_text.proofs.name.is_name_byte.Goals as goal
 
 pub returns : goal.returns

@@ -1,5 +1,5 @@
 use Rattle.cil_text.proofs.Common.{◌≡◌, are_lists, trees_of}
-use Rattle.cil_text.proofs.Nodes.{tree_size}
+use Rattle.cil_reader.proofs.Nodes.{tree_size}
 use Rattle.cil_text.proofs.split.are_lists.Given as goal
 
 abbrev pub invariant-loop-tree : goal.invariant-loop-tree

@@ -1,5 +1,5 @@
 use Rattle.cil_text.specs.Image.{trees_of}
-use Rattle.cil_text.proofs.Nodes.{tree_size}
+use Rattle.cil_reader.proofs.Nodes.{tree_size}
 use Rattle.cil_text.proofs.WordLists.{AreSoFar}
 use Rattle.cil_text.proofs.split.words.Given as goal
 

@@ -1,6 +1,6 @@
 use Rattle.cil_text.proofs.Common.{◌≡◌, ◌∙◌, ◌+◌, ◌||◌, IsTrue, sym, ap, subst, arith, none, are_lists, is_optional, Shapes, fits_lists, place_of, trees_of, tree_then, statements_of, FaultIs, form_of, IsFirstOf, IsFirstAmong}
 use Rattle.cil_text.proofs.FirstBad.{handed_on, fault_weaker}
-use Rattle.cil_text.proofs.Nodes.{tree_size, size_first, size_behind}
+use Rattle.cil_reader.proofs.Nodes.{tree_size, size_first, size_behind}
 use Rattle.cil_text.proofs.WalkLemmas.{AreFound, found_start, found_more, found_end, found_fault, statement_is, inner_first, no_other, fits_size}
 use Rattle.cil_text.proofs.walk.+walk.Goals as goal
 

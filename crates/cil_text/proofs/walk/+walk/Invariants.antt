@@ -1,6 +1,6 @@
 use Rattle.std.proofs.Common.{◌+◌, ◌*◌, ◌≤◌}
 use Rattle.cil_text.specs.Image.{trees_of}
-use Rattle.cil_text.proofs.Nodes.{tree_size}
+use Rattle.cil_reader.proofs.Nodes.{tree_size}
 use Rattle.cil_text.proofs.WalkLemmas.{AreFound}
 use Rattle.cil_text.proofs.walk.+walk.Given as goal
 

@@ -1,5 +1,5 @@
 use Rattle.cil_text.proofs.Common.{subst, false, statement_offsets, Shapes, IsFirstShapeFault, rise_from_is, shapes_rise, shapes_apart, statements_of, FaultIs, IsFirstAmong}
-use Rattle.cil_text.specs.Forest.{forest_of}
+use Rattle.cil_reader.specs.Forest.{forest_of}
 use Rattle.cil_text.proofs.FirstBad.{handed_on, fault_weaker}
 use Rattle.cil_text.proofs.walk.shape.Goals as goal
 

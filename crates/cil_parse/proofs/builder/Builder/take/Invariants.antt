@@ -1,5 +1,5 @@
 use Rattle.cil_text.specs.Image.{trees_of}
-use Rattle.cil_text.proofs.Nodes.{tree_size}
+use Rattle.cil_reader.proofs.Nodes.{tree_size}
 use Rattle.cil_parse.proofs.TreeLemmas.{IsUnderWay}
 use Rattle.cil_parse.proofs.builder.Builder.take.Given as goal
 

@@ -1,5 +1,5 @@
 use Rattle.cil_parse.proofs.Common.{[], ◌∷◌, map, get_or, take, subst, take_all, word_of, Adds}
-use Rattle.cil_text.specs.declared.word.Word.{Word}
+use Rattle.cil_reader.specs.declared.word.Word.{Word}
 use Rattle.cil_parse.proofs.BuilderLemmas.{adds-none, adds-then, next-word}
 use Rattle.cil_parse.proofs.builder.Builder.words.Goals as goal
 

@@ -1,5 +1,5 @@
 use Rattle.cil_text.specs.Common.{trees_of}
-use Rattle.cil_text.proofs.Nodes.{tree_size}
+use Rattle.cil_reader.proofs.Nodes.{tree_size}
 use Rattle.cil_projection.specs.Statements.{branches_need}
 use Rattle.cil_projection.specs.Conditions.{settings_of}
 use Rattle.cil_projection.proofs.FormLemmas.{Completes}

@@ -1,6 +1,6 @@
 use Rattle.std.proofs.Common.{◌≡◌, ◌++◌, ◌≤◌}
 use Rattle.cil_text.specs.Common.{trees_of}
-use Rattle.cil_text.proofs.Nodes.{tree_size}
+use Rattle.cil_reader.proofs.Nodes.{tree_size}
 use Rattle.cil_projection.specs.Pieces.{pieces_of}
 use Rattle.cil_projection.specs.Conditions.{settings_of}
 use Rattle.cil_projection.specs.Statements.{projected}

@@ -1,0 +1,5 @@
+use Rattle.cil_reader.proofs.Common.{◌≡◌, ◌+◌, drop, prefix_len, is_word_byte}
+use Rattle.cil_reader.proofs.reader.word_len.Given as goal
+
+abbrev pub invariant-loop-i : goal.invariant-loop-i
+invariant-loop-i l = prefix_len is_word_byte l.text ≡ l.i + prefix_len is_word_byte (drop l.i l.text)

@@ -1,7 +1,0 @@
-use Rattle.std.proofs.Common.{refl}
-use Rattle.cil_specs.specs.Bytes.{is_word_byte}
-use Rattle.cil_text.proofs.ByteClasses.{byte-at}
-use Rattle.cil_text.proofs.reader.is_word_byte.Goals as goal
-
-pub returns : goal.returns
-returns c = byte-at is_word_byte c.has_one.ensures refl c.ranges.b.fits

@@ -1,5 +1,0 @@
-use Rattle.cil_text.proofs.Common.{◌≡◌, ◌+◌, drop, prefix_len, is_string_byte}
-use Rattle.cil_text.proofs.reader.string_len.Given as goal
-
-abbrev pub invariant-loop-i : goal.invariant-loop-i
-invariant-loop-i l = prefix_len is_string_byte l.text ≡ l.i + prefix_len is_string_byte (drop l.i l.text)
