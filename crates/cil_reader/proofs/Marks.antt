@@ -1,5 +1,5 @@
 -- The marks of nodes, where some lists among them are open.
-use Rattle.cil_reader.proofs.Common.{◌≡◌, ℕ, ◌+◌, ◌-◌, List, [], ◌∷◌, ◌++◌, length, map, reverse, refl, ap, sym, ◌∙◌, subst, append_assoc, append-nil, length-append, arith, map-append, reverse-append, take-append_seam, drop-append_seam, set-append_seam, Mark, opening_at, closing_before, marks, place_of, trees_in, AreWhole, HaveMarks, Place, Node, Open}
+use Rattle.cil_reader.proofs.Common.{◌≡◌, ℕ, ◌-◌, List, [], ◌∷◌, ◌++◌, length, map, reverse, refl, ap, sym, ◌∙◌, subst, append_assoc, append-nil, length-append, arith, map-append, reverse-append, take-append_seam, drop-append_seam, set-append_seam, Mark, opening_at, closing_before, marks, place_of, trees_in, AreWhole, HaveMarks, Place, Node, Open}
 use Rattle.std.proofs.Math.ListN.{set}
 use Rattle.cil_reader.specs.declared.node.Node.TheVariants.{Word, String, List as Listed}
 use Rattle.cil_reader.proofs.Nodes.{list_in}

@@ -3,9 +3,9 @@
 ghost use Rattle.std.specs.Prelude.{◌≡◌, [], ◌∷◌, ◌++◌, map};
 ghost use Rattle.cil_text.specs.Common.{leaves, as_declared, as_referred, target_words, permission_words, words_of, word_of, expr_of, target_of, permissions_of, role_of, exprs_of, form_of, in_role, Checks};
 
-use cil_reader::{ShownWord, TextFault, TextFaultKind, Word};
 use crate::name::{Role, name_fault};
 use crate::statement::{ClassPermissions, Expr, Statement, Target};
+use cil_reader::{ShownWord, TextFault, TextFaultKind, Word};
 use std::alloc::Allocator;
 
 /// The fault of this kind at a word.

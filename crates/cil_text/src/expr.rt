@@ -4,10 +4,10 @@ ghost use Rattle.std.specs.Prelude.{◌≡◌, ℕ, IfOk, MatchOption};
 ghost use Rattle.cil_text.specs.Common.{a_list, HasNoOperator, trees_of, tree_then, operator_word, AreExpressionList, SpellsExpr, SpellsElements, SpellsOperation, SpellsOne, SpellsTwo, BeginsOperation};
 ghost use Rattle.cil_specs.specs.Place.{Place as SpecPlace};
 
-use cil_reader::{Tree, TreeSlice};
 use crate::split::{only_list, only_tree, split_word};
 use crate::statement::Expr;
 use crate::words::look_up;
+use cil_reader::{Tree, TreeSlice};
 use std::alloc::{AllocError, Allocator};
 
 /// The words that are operators where they stand first in a list.

@@ -4,13 +4,13 @@
 ghost use Rattle.std.specs.Prelude.{◌≡◌, ◌≢◌, IfOk};
 ghost use Rattle.cil_text.specs.Common.{Trees, put_word, IsTargetThen, place_of, word_of, trees_of, target_of, FitsAs, IsWithoutUnordered, AreClasses, AreClassAndPermissions, ArePermissionsOf, IsAttributeAndSet};
 
-use cil_reader::{Place, TreeSlice, Word};
 use crate::expr::{expression, expression_list};
 use crate::keyword::Keyword;
 use crate::split::{
     are_lists, only_list, only_tree, only_word, split_word, two_words, word_and_list, words,
 };
 use crate::statement::{ClassPermissions, Expr, RuleKind, Statement, Target};
+use cil_reader::{Place, TreeSlice, Word};
 use std::alloc::{AllocError, Allocator};
 
 fn block<'a, A: Allocator + Copy>(

@@ -4,13 +4,13 @@ ghost use Rattle.std.specs.Prelude.{◌≡◌, ◌&&◌, ◌||◌, false, not, I
 ghost use Rattle.cil_text.specs.Common.{are_lists, is_optional, words_of, is_among, outside_optionals, Shapes, IsFirstShapeFault, place_of, trees_of, statements_of, FaultIs, forest_of, form_of, has_body, inner_of, HasBody, AreGood, IsHeading, IsHeadingFault, IsStatement, IsNext, IsFirstOf, IsFirstAmong};
 ghost use Rattle.cil_text.specs.Keyword.{spelling};
 
-use cil_reader::{Forest, Place, ShownWord, TextFault, TextFaultKind, Tree, TreeSlice, Word};
 use crate::check::{check_statement, fault_at};
 use crate::form::fit;
 use crate::keyword::Keyword;
 use crate::module::Module;
 use crate::split::split_word;
 use crate::statement::Statement;
+use cil_reader::{Forest, Place, ShownWord, TextFault, TextFaultKind, Tree, TreeSlice, Word};
 use std::alloc::Allocator;
 
 fn holds_others<A: Allocator>(statement: &Statement<A>) -> bool
