@@ -7,7 +7,7 @@ use Rattle.cil_specs.specs.Expr.{IsListThen}
 use Rattle.cil_specs.specs.Trees.{Trees, none, a_word, a_string, a_list, are_lists}
 use Rattle.cil_reader.specs.declared.tree.Tree.{Tree}
 use Rattle.cil_reader.specs.declared.tree.Tree.TheVariants as trees
-use Rattle.cil_text.specs.Common.{is_nothing, tree_then}
+use Rattle.cil_reader.specs.Common.{is_nothing, tree_then}
 use Rattle.cil_reader.proofs.Nodes.{tree_size}
 use Rattle.cil_projection.specs.declared.table.Table.TheVariants.{Tunables}
 use Rattle.cil_projection.specs.Pieces.{Piece, blanked, copied, taken}

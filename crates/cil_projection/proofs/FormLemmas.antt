@@ -16,7 +16,7 @@ use Rattle.cil_reader.specs.declared.place.Place as code_place
 use Rattle.cil_reader.specs.declared.tree.TreeSlice.{TreeSlice}
 use Rattle.cil_reader.specs.declared.tree.Tree.{Tree}
 use Rattle.cil_reader.specs.declared.tree.Tree.TheVariants as trees
-use Rattle.cil_text.specs.Common.{place_of, tree_then, trees_of}
+use Rattle.cil_reader.specs.Common.{place_of, tree_then, trees_of}
 
 -- what is one thing for all trees but those with a word in front is it where none is there
 pub without_word_is : {X : Type 0} (x : X) (f : Trees → X) → f none ≡ x → ((at : Place) (text : List ℕ) (rest : Trees) → f (a_string at text rest) ≡ x)

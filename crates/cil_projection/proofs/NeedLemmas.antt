@@ -9,7 +9,7 @@ use Rattle.cil_reader.specs.declared.place.Place as code_place
 use Rattle.cil_reader.specs.declared.tree.TreeSlice.{TreeSlice}
 use Rattle.cil_reader.specs.declared.tree.Tree.{Tree}
 use Rattle.cil_reader.specs.declared.tree.Tree.TheVariants as trees
-use Rattle.cil_text.specs.Common.{place_of, tree_then, trees_of}
+use Rattle.cil_reader.specs.Common.{place_of, tree_then, trees_of}
 use Rattle.cil_projection.specs.Pieces.{Piece}
 use Rattle.cil_projection.specs.Forms.{joined}
 use Rattle.cil_projection.specs.Conditions.{Settings}

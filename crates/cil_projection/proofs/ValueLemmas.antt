@@ -4,7 +4,7 @@ use Rattle.std.proofs.Common.{◌∙◌, sym, ap, subst, append_assoc, append-ni
 use Rattle.cil_specs.specs.Trees.{Trees}
 use Rattle.cil_reader.specs.declared.tree.Tree.{Tree}
 use Rattle.cil_reader.specs.declared.tree.Tree.TheVariants as trees
-use Rattle.cil_text.specs.Common.{tree_then}
+use Rattle.cil_reader.specs.Common.{tree_then}
 use Rattle.cil_projection.specs.Conditions.{in_front, values, first_value, AddsValues}
 
 -- what is added to some values completes what was to be added to others

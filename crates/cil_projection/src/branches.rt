@@ -2,12 +2,12 @@
 
 ghost use Rattle.std.specs.Prelude.{◌≡◌, bytes_eq, codes, cond, option_map};
 ghost use Rattle.cil_specs.specs.Trees.{are_lists};
-ghost use Rattle.cil_text.specs.Common.{trees_of};
+ghost use Rattle.cil_reader.specs.Common.{trees_of};
 ghost use Rattle.cil_projection.specs.Conditions.{are_branches, branch_for, branch_value, differ};
 
 use crate::declaration::truth;
 use crate::split::{split_list, split_word};
-use cil_text::{Tree, TreeSlice};
+use cil_reader::{Tree, TreeSlice};
 
 /// Whether each of the trees is a list.
 fn are_lists(trees: TreeSlice<'_, '_>) -> bool

@@ -1,7 +1,7 @@
 //! Statements that are taken by their names alone.
 
 ghost use Rattle.std.specs.Prelude.{◌≡◌, IfOk, option_map};
-ghost use Rattle.cil_text.specs.Common.{trees_of};
+ghost use Rattle.cil_reader.specs.Common.{trees_of};
 ghost use Rattle.cil_projection.specs.Pieces.{pieces_of};
 ghost use Rattle.cil_projection.specs.Forms.{fitting, rows_of, taken_by};
 ghost use Rattle.cil_projection.specs.Statements.{by_names};
@@ -9,7 +9,7 @@ ghost use Rattle.cil_projection.specs.Statements.{by_names};
 use crate::fit::fit;
 use crate::kinds::{FORMS, Form};
 use crate::piece::Piece;
-use cil_text::{TreeSlice, Word};
+use cil_reader::{TreeSlice, Word};
 use std::alloc::{AllocError, Allocator};
 
 /// The offsets of a statement's first byte and of what stands behind it.

@@ -1,14 +1,14 @@
 //! Classes and their permissions.
 
 ghost use Rattle.std.specs.Prelude.{IfOk};
-ghost use Rattle.cil_text.specs.Common.{trees_of};
+ghost use Rattle.cil_reader.specs.Common.{trees_of};
 ghost use Rattle.cil_projection.specs.Forms.{Adds, class_permissions, classes_in, listed};
 
 use crate::names::add_expression;
 use crate::operand::Operand;
 use crate::piece::Piece;
 use crate::split::{split_list, split_word};
-use cil_text::{Tree, TreeSlice, Word};
+use cil_reader::{Tree, TreeSlice, Word};
 use std::alloc::{AllocError, Allocator};
 
 /// Adds classes, where trees are them and nothing else.

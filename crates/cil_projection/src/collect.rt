@@ -1,14 +1,14 @@
 //! The declarations of booleans and tunables.
 
 ghost use Rattle.std.specs.Prelude.{◌≡◌, ◌≤◌, length, IfErr, OnOk};
-ghost use Rattle.cil_text.specs.Common.{FaultIs, IsReadingFault, trees_of};
+ghost use Rattle.cil_reader.specs.Common.{FaultIs, IsReadingFault, trees_of};
 ghost use Rattle.cil_projection.specs.Conditions.{Collects, declarations, declared_behind_condition, declared_by, declared_inside, noted_all};
 
 use crate::body::holds_others;
 use crate::booleans::Booleans;
 use crate::declaration::declaration;
 use crate::split::split_word;
-use cil_text::{TextFault, Tree, TreeSlice, read};
+use cil_reader::{TextFault, Tree, TreeSlice, read};
 use std::alloc::{AllocError, Allocator};
 
 /// Notes the declarations in trees, in blocks, optionals and the branches of `tunableif` too.

@@ -2,12 +2,12 @@
 
 ghost use Rattle.std.specs.Prelude.{◌≡◌, IfOk, Some};
 ghost use Rattle.cil_specs.specs.Trees.{Trees};
-ghost use Rattle.cil_text.specs.Common.{tree_then, trees_of};
+ghost use Rattle.cil_reader.specs.Common.{tree_then, trees_of};
 ghost use Rattle.cil_projection.specs.Conditions.{AddsValues, applied, combined, first_value, list_value, opposite, settings_of, values};
 
 use crate::booleans::Booleans;
 use crate::words::is_among;
-use cil_text::{Tree, TreeSlice};
+use cil_reader::{Tree, TreeSlice};
 use std::alloc::{AllocError, Allocator};
 
 /// The value of an operator of one operand.

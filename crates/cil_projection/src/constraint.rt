@@ -1,7 +1,7 @@
 //! The names of constraints.
 
 ghost use Rattle.std.specs.Prelude.{◌≡◌, IfOk};
-ghost use Rattle.cil_text.specs.Common.{trees_of};
+ghost use Rattle.cil_reader.specs.Common.{trees_of};
 ghost use Rattle.cil_projection.specs.Forms.{Adds, compared, comparison, constraint, constraints, variable};
 
 use crate::names::add_listed;
@@ -9,7 +9,7 @@ use crate::piece::Piece;
 use crate::split::split_word;
 use crate::table::Table;
 use crate::words::is_among;
-use cil_text::{Tree, TreeSlice, Word};
+use cil_reader::{Tree, TreeSlice, Word};
 use std::alloc::{AllocError, Allocator};
 
 const TYPE_VARIABLES: [&[u8]; 3] = [b"t1", b"t2", b"t3"];

@@ -2,13 +2,13 @@
 
 ghost use Rattle.std.specs.Prelude.{◌≡◌, ◌∷◌, []};
 ghost use Rattle.std.specs.Option.{option_map_or};
-ghost use Rattle.cil_text.specs.Common.{trees_of};
+ghost use Rattle.cil_reader.specs.Common.{trees_of};
 ghost use Rattle.cil_projection.specs.Conditions.{declaration};
 ghost use Rattle.cil_projection.specs.Forms.{truth_word};
 
 use crate::split::split_word;
 use crate::words::is_among;
-use cil_text::TreeSlice;
+use cil_reader::TreeSlice;
 
 /// The value that a word is.
 pub fn truth(word: &[u8]) -> Option<bool>

@@ -3,7 +3,7 @@
 ghost use Rattle.std.specs.Prelude.{◌≡◌, IfOk, option_map};
 ghost use Rattle.cil_projection.specs.Pieces.{pieces_of};
 ghost use Rattle.cil_specs.specs.Trees.{Trees};
-ghost use Rattle.cil_text.specs.Common.{tree_then, trees_of};
+ghost use Rattle.cil_reader.specs.Common.{tree_then, trees_of};
 ghost use Rattle.cil_projection.specs.Forms.{Adds, fit, inner_parts, level, of_first, of_list, of_word};
 
 use crate::class::{add_class_permissions, add_classes};
@@ -15,7 +15,7 @@ use crate::part::Part;
 use crate::piece::Piece;
 use crate::split::split_word;
 use crate::table::Table;
-use cil_text::{Tree, TreeSlice, Word};
+use cil_reader::{Tree, TreeSlice, Word};
 use std::alloc::{AllocError, Allocator};
 
 /// A user, a role, a type and a range (CIL Reference Guide, "context").

@@ -1,14 +1,14 @@
 //! The rules of conditional statements that stay where they are.
 
 ghost use Rattle.std.specs.Prelude.{◌≡◌, ◌++◌, OnOk};
-ghost use Rattle.cil_text.specs.Common.{trees_of};
+ghost use Rattle.cil_reader.specs.Common.{trees_of};
 ghost use Rattle.cil_projection.specs.Pieces.{pieces_of};
 ghost use Rattle.cil_projection.specs.Statements.{kept_rules};
 
 use crate::needs::{Choice, begins_rule};
 use crate::piece::Piece;
 use crate::split::split_word;
-use cil_text::{Tree, TreeSlice};
+use cil_reader::{Tree, TreeSlice};
 use std::alloc::{AllocError, Allocator};
 
 /// Adds the pieces from an offset up to another: access vector rules as they are, and all else blanked.
@@ -47,7 +47,7 @@ fn add_kept_rules<'a, A: Allocator>(
 
 impl<'w, 'm, A: Allocator + Copy> Choice<'w, 'm, A> {
     ghost use Rattle.std.specs.Prelude.{◌≡◌, ◌++◌, OnOk};
-    ghost use Rattle.cil_text.specs.Common.{trees_of};
+    ghost use Rattle.cil_reader.specs.Common.{trees_of};
     ghost use Rattle.cil_projection.specs.Pieces.{pieces_of};
     ghost use Rattle.cil_projection.specs.Conditions.{settings_of};
     ghost use Rattle.cil_projection.specs.Statements.{kept_branches};

@@ -1,10 +1,10 @@
 //! Words that could be taken for names that a projection makes.
 
 ghost use Rattle.std.specs.Prelude.{◌≡◌, option_map};
-ghost use Rattle.cil_text.specs.Common.{trees_of, word_of};
+ghost use Rattle.cil_reader.specs.Common.{trees_of, word_of};
 ghost use Rattle.cil_projection.specs.Statements.{first_marked, has_mark};
 
-use cil_text::{Tree, TreeSlice, Word};
+use cil_reader::{Tree, TreeSlice, Word};
 
 /// The bytes that begin the names that a projection makes.
 const MARK: &[u8] = b"cilsem__";

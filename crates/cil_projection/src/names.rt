@@ -1,7 +1,7 @@
 //! The names and the permissions in trees.
 
 ghost use Rattle.std.specs.Prelude.{◌≡◌, ◌++◌, IfOk, OnOk};
-ghost use Rattle.cil_text.specs.Common.{trees_of};
+ghost use Rattle.cil_reader.specs.Common.{trees_of};
 ghost use Rattle.cil_projection.specs.Pieces.{pieces_of};
 ghost use Rattle.cil_projection.specs.Forms.{Adds, expression_needs, has_no_string, listed_names, name_or_operator, of_operand, operands_in, permission_or_operator};
 
@@ -9,7 +9,7 @@ use crate::operand::Operand;
 use crate::piece::Piece;
 use crate::table::Table;
 use crate::words::is_among;
-use cil_text::{Tree, TreeSlice, Word};
+use cil_reader::{Tree, TreeSlice, Word};
 use std::alloc::{AllocError, Allocator};
 
 /// The words that are no names in expressions and in conditions.

@@ -2,7 +2,7 @@
 
 ghost use Rattle.std.specs.Prelude.{◌≡◌, IfOk, option_map};
 ghost use Rattle.cil_specs.specs.Trees.{Trees};
-ghost use Rattle.cil_text.specs.Common.{tree_then, trees_of};
+ghost use Rattle.cil_reader.specs.Common.{tree_then, trees_of};
 ghost use Rattle.cil_projection.specs.Pieces.{pieces_of};
 ghost use Rattle.cil_projection.specs.Forms.{Adds};
 ghost use Rattle.cil_projection.specs.Statements.{of_first_list, rule_needs, rules, rules_need, type_rule_needs};
@@ -16,7 +16,7 @@ use crate::piece::Piece;
 use crate::split::split_word;
 use crate::table::Table;
 use crate::words::is_among;
-use cil_text::{Tree, TreeSlice};
+use cil_reader::{Tree, TreeSlice};
 use std::alloc::{AllocError, Allocator};
 
 const RULES: [&[u8]; 4] = [b"allow", b"auditallow", b"dontaudit", b"neverallow"];
@@ -146,7 +146,7 @@ pub struct Choice<'w, 'm, A: Allocator> {
 impl<'w, 'm, A: Allocator + Copy> Choice<'w, 'm, A> {
     ghost use Rattle.std.specs.Prelude.{◌≡◌, IfOk};
     ghost use Rattle.cil_specs.specs.Trees.{Trees};
-    ghost use Rattle.cil_text.specs.Common.{tree_then, trees_of};
+    ghost use Rattle.cil_reader.specs.Common.{tree_then, trees_of};
     ghost use Rattle.cil_projection.specs.Forms.{Adds};
     ghost use Rattle.cil_projection.specs.Conditions.{settings_of};
     ghost use Rattle.cil_projection.specs.Statements.{branch_needs, branches_need, is_taken, of_first_list};

@@ -1,7 +1,7 @@
 //! The projection of a text.
 
 ghost use Rattle.std.specs.Prelude.{◌≡◌, ◌≤◌, length, IfErr, IfOk, OnOk};
-ghost use Rattle.cil_text.specs.Common.{FaultIs};
+ghost use Rattle.cil_reader.specs.Common.{FaultIs};
 ghost use Rattle.cil_projection.specs.Conditions.{settings_of};
 ghost use Rattle.cil_projection.specs.Statements.{IsProjectionFault, Projects, Tallies};
 
@@ -11,7 +11,7 @@ use crate::marked::first_marked;
 use crate::render::render;
 use crate::statement::Projector;
 use crate::tally::Tally;
-use cil_text::{ShownWord, TextFault, TextFaultKind, read};
+use cil_reader::{ShownWord, TextFault, TextFaultKind, read};
 use std::alloc::Allocator;
 
 /// The declarations of what a projection needs, for one of the texts that are compiled together.

@@ -5,9 +5,9 @@ ghost use Rattle.cil_specs.specs.Names.{Word as SpecWord};
 ghost use Rattle.cil_specs.specs.Trees.{Trees};
 ghost use Rattle.cil_specs.specs.Expr.{IsListThen};
 ghost use Rattle.cil_specs.specs.Shape.{put_word};
-ghost use Rattle.cil_text.specs.Common.{trees_of, word_of};
+ghost use Rattle.cil_reader.specs.Common.{trees_of, word_of};
 
-use cil_text::{Tree, TreeSlice, Word};
+use cil_reader::{Tree, TreeSlice, Word};
 
 /// The word in front, and the trees behind it.
 pub fn split_word<'t, 'a>(trees: TreeSlice<'t, 'a>) -> Option<(Word<'a>, TreeSlice<'t, 'a>)>

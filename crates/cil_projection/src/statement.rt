@@ -12,7 +12,7 @@ use crate::needs::Choice;
 use crate::operand::Operand;
 use crate::piece::Piece;
 use crate::table::Table;
-use cil_text::{Tree, TreeSlice, Word};
+use cil_reader::{Tree, TreeSlice, Word};
 use std::alloc::{AllocError, Allocator};
 
 /// What statements are projected by.
@@ -39,7 +39,7 @@ pub fn add_copied<'a, A: Allocator>(
 
 impl<'w, 'm, A: Allocator + Copy> Projector<'w, 'm, A> {
     ghost use Rattle.std.specs.Prelude.{◌≡◌, ◌++◌, IfOk, OnOk, Some, option_map};
-    ghost use Rattle.cil_text.specs.Common.{tree_then, trees_of};
+    ghost use Rattle.cil_reader.specs.Common.{tree_then, trees_of};
     ghost use Rattle.cil_projection.specs.Pieces.{pieces_of};
     ghost use Rattle.cil_projection.specs.Conditions.{settings_of};
     ghost use Rattle.cil_projection.specs.Statements.{chosen, condition_names, condition_value, conditional, or_copied, statement};

@@ -11,7 +11,7 @@ use crate::piece::Piece;
 use crate::split::split_word;
 use crate::statement::{Projector, add_copied};
 use crate::table::Table;
-use cil_text::{Tree, TreeSlice};
+use cil_reader::{Tree, TreeSlice};
 use std::alloc::{AllocError, Allocator};
 
 /// What stands between statements: it stays, or it is blanked.
@@ -27,7 +27,7 @@ fn between<'a>(stays: bool, from: u32, to: u32) -> Piece<'a>
 
 impl<'w, 'm, A: Allocator + Copy> Projector<'w, 'm, A> {
     ghost use Rattle.std.specs.Prelude.{◌≡◌, ◌++◌, OnOk};
-    ghost use Rattle.cil_text.specs.Common.{trees_of};
+    ghost use Rattle.cil_reader.specs.Common.{trees_of};
     ghost use Rattle.cil_projection.specs.Pieces.{pieces_of};
     ghost use Rattle.cil_projection.specs.Conditions.{settings_of};
     ghost use Rattle.cil_projection.specs.Statements.{body_projected, branch_projected, one_projected, projected, tunable_projected};

@@ -1,5 +1,5 @@
 use Rattle.std.proofs.Common.{◌∙◌, false, sym, refl}
-use Rattle.cil_text.specs.Common.{trees_of}
+use Rattle.cil_reader.specs.Common.{trees_of}
 use Rattle.cil_projection.specs.Conditions.{are_branches}
 use Rattle.cil_projection.proofs.BranchLemmas.{no_other_branch}
 use Rattle.cil_projection.proofs.FormLemmas.{without_list_is}

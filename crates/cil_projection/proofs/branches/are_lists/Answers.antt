@@ -1,5 +1,5 @@
 use Rattle.std.proofs.Common.{◌∙◌}
-use Rattle.cil_text.specs.Common.{trees_of}
+use Rattle.cil_reader.specs.Common.{trees_of}
 use Rattle.cil_projection.proofs.BranchLemmas.{no_lists}
 use Rattle.cil_projection.proofs.branches.are_lists.Goals as goal
 

@@ -1,6 +1,6 @@
 use Rattle.std.proofs.Common.{◌≡◌}
 use Rattle.cil_specs.specs.Trees.{are_lists}
-use Rattle.cil_text.specs.Common.{trees_of}
+use Rattle.cil_reader.specs.Common.{trees_of}
 use Rattle.cil_reader.proofs.Nodes.{tree_size}
 use Rattle.cil_projection.proofs.branches.are_lists.Given as goal
 

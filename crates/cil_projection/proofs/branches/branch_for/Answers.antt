@@ -1,6 +1,6 @@
 use Rattle.std.proofs.Common.{◌∙◌, ap, sym, refl}
 use Rattle.cil_specs.specs.Trees.{a_list}
-use Rattle.cil_text.specs.Common.{place_of, tree_then, trees_of}
+use Rattle.cil_reader.specs.Common.{place_of, tree_then, trees_of}
 use Rattle.cil_projection.specs.Conditions.{branch_for}
 use Rattle.cil_projection.proofs.FormLemmas.{without_word_is}
 use Rattle.cil_projection.proofs.branches.branch_for.Goals as goal

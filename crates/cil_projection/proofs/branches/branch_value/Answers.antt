@@ -1,5 +1,5 @@
 use Rattle.std.proofs.Common.{sym, refl}
-use Rattle.cil_text.specs.Common.{trees_of}
+use Rattle.cil_reader.specs.Common.{trees_of}
 use Rattle.cil_projection.specs.Conditions.{branch_value}
 use Rattle.cil_projection.proofs.FormLemmas.{without_word}
 use Rattle.cil_projection.proofs.branches.branch_value.Goals as goal

@@ -1,6 +1,6 @@
 use Rattle.std.proofs.Common.{◌∙◌, None, ap, refl}
 use Rattle.cil_specs.specs.Shape.{put_word}
-use Rattle.cil_text.specs.Common.{trees_of, word_of}
+use Rattle.cil_reader.specs.Common.{trees_of, word_of}
 use Rattle.cil_projection.specs.Forms.{class_permissions}
 use Rattle.cil_projection.proofs.FormLemmas.{without_list_is, without_word}
 use Rattle.cil_projection.proofs.class.add_class_permissions.Goals as goal

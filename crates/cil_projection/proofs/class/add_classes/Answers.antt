@@ -1,5 +1,5 @@
 use Rattle.std.proofs.Common.{◌∙◌, ap, refl, true, false, Some}
-use Rattle.cil_text.specs.Common.{trees_of}
+use Rattle.cil_reader.specs.Common.{trees_of}
 use Rattle.cil_projection.specs.Forms.{classes_in, joined}
 use Rattle.cil_projection.specs.Pieces.{pieces_of}
 use Rattle.cil_projection.proofs.FormLemmas.{no_word_first, none_left}

@@ -1,5 +1,5 @@
 use Rattle.std.proofs.Common.{[], ◌∷◌, Some, true, subst}
-use Rattle.cil_text.specs.Common.{trees_of}
+use Rattle.cil_reader.specs.Common.{trees_of}
 use Rattle.cil_projection.specs.Pieces.{closed, opened}
 use Rattle.cil_projection.specs.Forms.{Adds, joined, permissions_in}
 use Rattle.cil_projection.proofs.FormLemmas.{adds_then, pushed_one}

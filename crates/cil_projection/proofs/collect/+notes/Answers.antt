@@ -1,5 +1,5 @@
 use Rattle.std.proofs.Common.{[], sym, ap, refl}
-use Rattle.cil_text.specs.Common.{trees_of}
+use Rattle.cil_reader.specs.Common.{trees_of}
 use Rattle.cil_projection.specs.Conditions.{declared_by, declared_inside, noted_all}
 use Rattle.cil_projection.proofs.FormLemmas.{without_word_is}
 use Rattle.cil_projection.proofs.collect.+notes.Goals as goal

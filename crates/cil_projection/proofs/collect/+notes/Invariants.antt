@@ -1,5 +1,5 @@
 use Rattle.std.proofs.Common.{◌≡◌, ◌≤◌}
-use Rattle.cil_text.specs.Common.{trees_of}
+use Rattle.cil_reader.specs.Common.{trees_of}
 use Rattle.cil_reader.proofs.Nodes.{tree_size}
 use Rattle.cil_projection.specs.Conditions.{declarations, declared_behind_condition, declared_in_branches, noted_all}
 use Rattle.cil_projection.proofs.collect.+notes.Given as goal

@@ -1,6 +1,6 @@
 use Rattle.std.proofs.Common.{◌++◌, ◌∙◌, sym, ap, subst, arith, true, false}
 use Rattle.std.specs.Option.{option_map}
-use Rattle.cil_text.specs.Common.{trees_of}
+use Rattle.cil_reader.specs.Common.{trees_of}
 use Rattle.cil_reader.proofs.Nodes.{size_behind}
 use Rattle.cil_projection.specs.Conditions.{in_front, settings_of, values}
 use Rattle.cil_projection.proofs.ValueLemmas.{CompletesValues, completes_more, none_left, values_first}

@@ -1,5 +1,5 @@
 use Rattle.std.proofs.Common.{◌∙◌, ap, subst, refl, arith, true, false, Some}
-use Rattle.cil_text.specs.Common.{trees_of, place_of, tree_then}
+use Rattle.cil_reader.specs.Common.{trees_of, place_of, tree_then}
 use Rattle.cil_reader.proofs.Nodes.{size_behind}
 use Rattle.cil_projection.specs.Pieces.{pieces_of}
 use Rattle.cil_projection.specs.Forms.{Adds, constraint, constraints, joined}

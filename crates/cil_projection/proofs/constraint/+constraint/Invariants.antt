@@ -1,5 +1,5 @@
 use Rattle.std.proofs.Common.{◌≤◌, ◌+◌, ◌*◌}
-use Rattle.cil_text.specs.Common.{trees_of}
+use Rattle.cil_reader.specs.Common.{trees_of}
 use Rattle.cil_reader.proofs.Nodes.{tree_size}
 use Rattle.cil_projection.specs.Forms.{constraints}
 use Rattle.cil_projection.proofs.FormLemmas.{Completes}

@@ -1,6 +1,6 @@
 use Rattle.std.proofs.Common.{◌∙◌, [], sym, ap, refl}
 use Rattle.cil_specs.specs.Shape.{put_word}
-use Rattle.cil_text.specs.Common.{trees_of, word_of}
+use Rattle.cil_reader.specs.Common.{trees_of, word_of}
 use Rattle.cil_projection.specs.Conditions.{declaration}
 use Rattle.cil_projection.proofs.FormLemmas.{without_word_is}
 use Rattle.cil_projection.proofs.declaration.declaration.Goals as goal

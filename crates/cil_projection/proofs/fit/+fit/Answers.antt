@@ -1,5 +1,5 @@
 use Rattle.std.proofs.Common.{arith}
-use Rattle.cil_text.specs.Common.{trees_of}
+use Rattle.cil_reader.specs.Common.{trees_of}
 use Rattle.cil_reader.proofs.Nodes.{size_first}
 use Rattle.cil_projection.proofs.FormLemmas.{adds_parts}
 use Rattle.cil_projection.proofs.fit.+fit.Goals as goal

@@ -1,6 +1,6 @@
 use Rattle.std.proofs.Common.{◌+◌, ◌*◌}
 use Rattle.cil_specs.specs.Trees.{none}
-use Rattle.cil_text.specs.Common.{tree_then, trees_of}
+use Rattle.cil_reader.specs.Common.{tree_then, trees_of}
 use Rattle.cil_reader.proofs.Nodes.{tree_size}
 use Rattle.cil_projection.proofs.fit.+fit.Given as goal
 

@@ -1,5 +1,5 @@
 use Rattle.std.proofs.Common.{refl}
-use Rattle.cil_text.specs.Common.{trees_of}
+use Rattle.cil_reader.specs.Common.{trees_of}
 use Rattle.cil_projection.specs.Forms.{level}
 use Rattle.cil_projection.proofs.FormLemmas.{without_word}
 use Rattle.cil_projection.proofs.fit.add_level.Goals as goal

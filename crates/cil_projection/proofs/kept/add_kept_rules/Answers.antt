@@ -1,6 +1,6 @@
 use Rattle.std.proofs.Common.{◌∙◌, ◌++◌, ap, sym, refl}
 use Rattle.cil_specs.specs.Trees.{a_list}
-use Rattle.cil_text.specs.Common.{place_of, tree_then, trees_of}
+use Rattle.cil_reader.specs.Common.{place_of, tree_then, trees_of}
 use Rattle.cil_projection.specs.Pieces.{pieces_of}
 use Rattle.cil_projection.specs.Statements.{kept_rules}
 use Rattle.cil_projection.proofs.FormLemmas.{without_word_is}

@@ -1,4 +1,4 @@
-use Rattle.cil_text.specs.Common.{trees_of}
+use Rattle.cil_reader.specs.Common.{trees_of}
 use Rattle.cil_reader.proofs.Nodes.{tree_size}
 use Rattle.cil_projection.specs.Statements.{rules_need}
 use Rattle.cil_projection.proofs.FormLemmas.{Completes}

@@ -1,5 +1,5 @@
 use Rattle.std.proofs.Common.{◌∙◌, sym, ap, inr, refl}
-use Rattle.cil_text.specs.Common.{forest_of, word_of}
+use Rattle.cil_reader.specs.Common.{forest_of, word_of}
 use Rattle.cil_projection.specs.Statements.{first_marked}
 use Rattle.cil_projection.proofs.projecting.project.Goals as goal
 

@@ -1,5 +1,5 @@
 use Rattle.std.proofs.Common.{◌∙◌, ap, subst, true, Some}
-use Rattle.cil_text.specs.Common.{trees_of, tree_then}
+use Rattle.cil_reader.specs.Common.{trees_of, tree_then}
 use Rattle.cil_projection.specs.Pieces.{pieces_of}
 use Rattle.cil_projection.specs.Forms.{Adds, joined}
 use Rattle.cil_projection.specs.Conditions.{settings_of}

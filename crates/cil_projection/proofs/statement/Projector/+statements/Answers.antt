@@ -1,6 +1,6 @@
 use Rattle.std.proofs.Common.{◌≡◌, ◌++◌, ◌∷◌, [], ◌∙◌, OnOk, false, codes, sym, ap, subst, refl, arith}
 use Rattle.std.specs.Option.{option_map_or}
-use Rattle.cil_text.specs.Common.{tree_then, trees_of}
+use Rattle.cil_reader.specs.Common.{tree_then, trees_of}
 use Rattle.cil_projection.specs.declared.table.Table.TheVariants.{Tunables}
 use Rattle.cil_projection.specs.Pieces.{blanked, copied, pieces_of, taken}
 use Rattle.cil_projection.specs.Conditions.{settings_of}

@@ -1,5 +1,5 @@
 use Rattle.std.proofs.Common.{◌∙◌, sym}
-use Rattle.cil_text.specs.Common.{trees_of}
+use Rattle.cil_reader.specs.Common.{trees_of}
 use Rattle.cil_projection.specs.Conditions.{settings_of}
 use Rattle.cil_projection.specs.Pieces.{pieces_of}
 use Rattle.cil_projection.specs.Statements.{branches_need, kept_branches}
