@@ -1,8 +1,7 @@
 -- The names from elsewhere that this crate's contracts cite most, passed on from one place.
 pub use Rattle.cil_reader.specs.Forest.{forest_of}
-pub use Rattle.cil_reader.specs.Tree.{is_nothing, is_one}
+pub use Rattle.cil_reader.specs.Tree.{is_one}
 pub use Rattle.cil_specs.specs.Expr.{HasNoOperator, IsListThen, leaves}
-pub use Rattle.cil_specs.specs.Reading.{IsReadingFault}
 pub use Rattle.cil_specs.specs.Shape.{IsFirstShapeFault, IsShapeFault, IsTargetThen, Shapes, is_among, outside_optionals, put_word}
 pub use Rattle.cil_specs.specs.Statements.{Statements, as_declared, as_referred, is_optional, permission_words, target_words, words_of}
 pub use Rattle.cil_specs.specs.Trees.{Trees, a_list, are_lists, in_order, none}

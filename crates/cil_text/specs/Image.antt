@@ -1,6 +1,6 @@
 -- The values of the definitions that expressions and statements of the code stand for, and those of places, words, trees and
 -- faults, passed on.
-pub use Rattle.cil_reader.specs.Image.{FaultIs, IsMemory, kind_of, place_of, shown, tree_then, trees_in, trees_of, word_of}
+pub use Rattle.cil_reader.specs.Image.{FaultIs, kind_of, place_of, shown, tree_then, trees_of, word_of}
 use Rattle.std.specs.Prelude.{List, [], ◌∷◌, map}
 use Rattle.cil_specs.specs.Expr as spec_exprs
 use Rattle.cil_specs.specs.Expr.{every, named, opposite, both, either, one_of, nothing, elements}
