@@ -1,7 +1,6 @@
-//! Counters of small policies.
+//! Counters of small policies, kept.
 
 ghost use Rattle.std.specs.Prelude.{◌≡◌, length};
-ghost use Rattle.std.specs.Rc.{rc_value};
 ghost use Rattle.cil_resolve.specs.Resolved.{meaning_in};
 ghost use Rattle.cil_resolve.specs.Sets.{sets_in};
 ghost use Rattle.cil_counters.specs.Counted.{steps_in, IsNow, WasBefore};
@@ -10,32 +9,11 @@ use crate::policies::policy;
 use cil_counters::Counters;
 use cil_names::Seed;
 use cil_resolve::{Meter, Resolved};
-use cil_rules::Changes;
 use std::alloc::Global;
 use std::process::Abort;
-use std::rc::Rc;
 
-/// Brings counters from one policy to another, and answers the changes.
-pub fn bring(
-    rt: &impl Abort,
-    alloc: Global,
-    counters: &mut Counters,
-    old: &Rc<Resolved>,
-    new: &Rc<Resolved>,
-) -> Changes
-    requires now { IsNow (rc_value old.now) counters.old }
-    requires before { WasBefore (rc_value old.now) counters.old }
-    ensures now { IsNow (rc_value new.now) counters.new }
-    ensures before { WasBefore (rc_value old.now) counters.new }
-{
-    let mut meter = Meter::new();
-    counters
-        .update(alloc, old, new, &mut meter)
-        .expect(rt, "memory")
-}
-
-/// Keeps the counters of a policy.
-pub fn keep(counters: &mut Counters, policy: &Resolved)
+// Keeps the counters of a policy.
+fn keep(counters: &mut Counters, policy: &Resolved)
     requires { IsNow policy.now counters.old }
     ensures now { IsNow policy.now counters.new }
     ensures before { WasBefore policy.now counters.new }
@@ -65,36 +43,16 @@ fn none(rt: &impl Abort, alloc: Global, empty: &Resolved) -> Counters
     Counters::none(alloc, Seed::fixed(), empty).expect(rt, "memory")
 }
 
-/// The counters of a policy, kept.
+/// The counters of a policy.
 pub fn counted(rt: &impl Abort, alloc: Global, resolved: &Resolved) -> Counters
     ensures now { IsNow resolved.now result }
     ensures before { WasBefore resolved.now result }
 {
-    let empty = policy(rt, alloc, &[]);
+    let empty = policy(rt, alloc, b"");
     let mut counters = none(rt, alloc, &empty);
     counters
-        .update_counted(alloc, &empty, resolved, &mut Meter::new())
+        .load_counted(alloc, &empty, resolved, &mut Meter::new())
         .expect(rt, "memory");
     keep(&mut counters, resolved);
-    counters
-}
-
-/// The counters of a policy, loaded from nothing.
-pub fn loaded(rt: &impl Abort, alloc: Global, resolved: &Resolved) -> Counters
-    ensures { IsNow resolved.now result }
-{
-    let mut meter = Meter::new();
-    load(rt, alloc, resolved, &mut meter)
-}
-
-/// The same, where a meter counts what is done for it.
-pub fn load(rt: &impl Abort, alloc: Global, resolved: &Resolved, meter: &mut Meter) -> Counters
-    ensures { IsNow resolved.now result }
-{
-    let empty = policy(rt, alloc, &[]);
-    let mut counters = none(rt, alloc, &empty);
-    counters
-        .load_counted(alloc, &empty, resolved, meter)
-        .expect(rt, "memory");
     counters
 }

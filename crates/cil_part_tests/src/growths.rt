@@ -1,57 +1,71 @@
-//! Lines of counters whose growths are refused in turn.
+//! A line of counters whose growths are refused in turn. An addition that was refused leaves each counter as it was, and succeeds when it
+//! is asked again.
 
-use crate::lines::{Step, wanted};
 use cil_lines::Line;
 use refusing::Refusing;
 use std::alloc::Global;
 use std::process::Abort;
 
+// Adds 1 in a word to the targets that a mask has.
+type Addition = (u32, u64);
+
 const EACH: u64 = u64::MAX;
 
 // Words in front and far behind, counters up to 8, and entries enough to become dense.
-const ADDITIONS: &[Step] = &[
-    (0, 0b1111, 1),
-    (0, 0b1110, 1),
-    (30, EACH, 1),
-    (30, 1 << 63, 1),
-    (30, 1 << 63, 1),
-    (30, 1 << 63, 1),
-    (20, 7, 1),
-    (0, 0b1100, 1),
-    (20, 7, 1),
-    (40, 3, 1),
-    (25, 1, 1),
-    (35, 1, 1),
-    (30, EACH, 1),
-    (28, 5, 1),
-    (22, 1 << 63, 1),
-    (24, 1, 1),
-    (32, 1, 1),
-    (38, 1, 1),
-    (30, EACH, 1),
-    (30, EACH, 1),
-    (30, EACH, 1),
-    (50, 9, 1),
+const ADDITIONS: &[Addition] = &[
+    (0, 0b1111),
+    (0, 0b1110),
+    (30, EACH),
+    (30, 1 << 63),
+    (30, 1 << 63),
+    (30, 1 << 63),
+    (20, 7),
+    (0, 0b1100),
+    (20, 7),
+    (40, 3),
+    (25, 1),
+    (35, 1),
+    (30, EACH),
+    (28, 5),
+    (22, 1 << 63),
+    (24, 1),
+    (32, 1),
+    (38, 1),
+    (30, EACH),
+    (30, EACH),
+    (30, EACH),
+    (50, 9),
 ];
 
 // The targets up to here are looked at.
 const TARGETS: usize = 64 * 52;
 
-fn assert_counts(rt: &impl Abort, line: &Line<&Refusing<Global>>, first: &[Step]) {
+// How often these add to a target.
+fn wanted(additions: &[Addition], target: usize) -> u64 {
+    let mut count: u64 = 0;
+    for (word, mask) in additions {
+        if *word as usize == target / 64 && (*mask >> (target % 64)) & 1 == 1 {
+            count = count.saturating_add(1);
+        }
+    }
+    count
+}
+
+fn assert_counts(rt: &impl Abort, line: &Line<&Refusing<Global>>, first: &[Addition]) {
     for target in 0..TARGETS {
         assert!(rt; line.count(target) == wanted(first, target));
     }
 }
 
-// Makes an addition behind others. Where it is refused, it leaves each counter as it was, and succeeds when asked again.
+// Makes an addition behind others.
 fn add<'h>(
     rt: &impl Abort,
     heap: &'h Refusing<Global>,
     line: &mut Line<&'h Refusing<Global>>,
-    first: &[Step],
-    added: &Step,
+    first: &[Addition],
+    added: &Addition,
 ) {
-    let (word, mask, _) = *added;
+    let (word, mask) = *added;
     let before = heap.refused();
     if line.add(heap, word as usize, mask).is_err() {
         assert!(rt; heap.refused() > before);

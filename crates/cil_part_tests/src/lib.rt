@@ -1,43 +1,16 @@
-//! Tests of the crates below the store by their public calls: cases in tables, and what is answered to each.
+//! Calls of the crates below the store that no program makes: what is asked by place, growths that are refused, and targets far behind.
+//! What programs answer is shown by scripts and trials.
 #![tactic(auto)]
 
 #[cfg(test)]
-mod accesses;
-#[cfg(test)]
 mod counters;
-#[cfg(test)]
-mod dependence;
-#[cfg(test)]
-mod expressions;
 #[cfg(test)]
 mod growths;
 #[cfg(test)]
-mod keyed_lines;
-#[cfg(test)]
 mod lines;
 #[cfg(test)]
-mod listings;
+mod numberings;
 #[cfg(test)]
-mod matching;
-#[cfg(test)]
-mod member_rows;
+mod places;
 #[cfg(test)]
 mod policies;
-#[cfg(test)]
-mod recorded;
-#[cfg(test)]
-mod renumbered;
-#[cfg(test)]
-mod rule_shifts;
-#[cfg(test)]
-mod sets;
-#[cfg(test)]
-mod symbol_changes;
-#[cfg(test)]
-mod symbols;
-#[cfg(test)]
-mod tables;
-#[cfg(test)]
-mod violations;
-#[cfg(test)]
-mod wide_sets;

@@ -1,9 +1,0 @@
-use Rattle.cil_keyed_lines.specs.Keyed.{count_before, count_now}
-use Rattle.cil_symbol_changes.specs.Numbered.{ArePresentNumbered}
-use Rattle.cil_part_tests.proofs.symbol_changes.lines_of.Given as goal
-
-abbrev pub invariant-loop-step : goal.invariant-loop-step
-invariant-loop-step g l = record {
-  now : ArePresentNumbered l.numbers (count_now l.lines);
-  before : ArePresentNumbered l.numbers (count_before l.lines);
-}
