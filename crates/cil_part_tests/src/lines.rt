@@ -102,7 +102,7 @@ fn key(given: Key) -> SymbolKey {
 }
 
 // Whether a list is empty until a line is put in.
-fn is_list(alloc: Global) -> Result<bool, AllocError> {
+fn list_fills(alloc: Global) -> Result<bool, AllocError> {
     let mut lines = RecordedLines::new(alloc);
     let was_empty = lines.is_empty();
     lines.put_in(alloc)?;
@@ -110,7 +110,7 @@ fn is_list(alloc: Global) -> Result<bool, AllocError> {
 }
 
 // The same of lines by their keys.
-fn is_keyed_list(alloc: Global) -> Result<bool, AllocError> {
+fn keyed_list_fills(alloc: Global) -> Result<bool, AllocError> {
     let mut lines = KeyedLines::new(alloc);
     let was_empty = lines.is_empty();
     lines.add(alloc, key(KEYS[0]), 2, 1)?;
@@ -150,8 +150,8 @@ fn lines_where_programs_dont_reach(rt: HostRuntime) {
         is_line_far(&rt, alloc),
         has_last_target(alloc).expect(&rt, "memory"),
         are_rows(alloc).expect(&rt, "memory"),
-        is_list(alloc).expect(&rt, "memory"),
-        is_keyed_list(alloc).expect(&rt, "memory"),
+        list_fills(alloc).expect(&rt, "memory"),
+        keyed_list_fills(alloc).expect(&rt, "memory"),
         are_ordered(),
     ];
     assert!(&rt; same == [true; 6]);

@@ -31,27 +31,27 @@ fn shared(rt: &impl Abort, alloc: Global, text: &[u8]) -> Rc<Resolved> {
     Rc::new(alloc, policy(rt, alloc, text)).expect(rt, "memory")
 }
 
-// Whether an attribute has these members, by the numbers of their names.
-fn are_members(
+// The members of an attribute, by the numbers of their names.
+fn members_of(
     rt: &impl Abort,
     alloc: Global,
     resolved: &Resolved,
     counters: &Counters,
     attribute: &[u8],
-    want: &[usize],
-) -> bool
+) -> Vec<usize>
     requires { IsNow resolved.now counters.now }
 {
     let listed = counters.members(alloc, resolved, attribute);
-    listed.expect(rt, "memory").as_slice() == want
+    listed.expect(rt, "memory")
 }
 
 // Whether a is the only member of s, and a name that isn't there has none.
 fn has_members(rt: &impl Abort, alloc: Global) -> bool {
     let resolved = policy(rt, alloc, OLD);
     let counters = counted(rt, alloc, &resolved);
-    are_members(rt, alloc, &resolved, &counters, b"s", &[0])
-        && are_members(rt, alloc, &resolved, &counters, b"no", &[])
+    let of_s = members_of(rt, alloc, &resolved, &counters, b"s");
+    let of_none = members_of(rt, alloc, &resolved, &counters, b"no");
+    of_s.as_slice() == [0].as_slice() && of_none.is_empty()
 }
 
 // An access of the class p: its kind, its source, its target and its permission.
@@ -174,7 +174,7 @@ const COME: [Access; 4] = [
 ];
 
 fn are_changes(changes: &Changes) -> bool {
-    for i in 0..5usize {
+    for i in 0..=COME.len() {
         if !is_access(changes.removed(i), GONE.get(i))
             || !is_access(changes.added(i), COME.get(i))
         {
@@ -185,7 +185,7 @@ fn are_changes(changes: &Changes) -> bool {
 }
 
 // Whether the types a and b have changed as members of s and steps are pending, or neither is so.
-fn is_changed(rt: &impl Abort, alloc: Global, counters: &Counters, want: bool) -> bool {
+fn tells_changed(rt: &impl Abort, alloc: Global, counters: &Counters, want: bool) -> bool {
     let attribute: &[u8] = b"s";
     let listed = counters.changed_members(alloc).expect(rt, "memory");
     for ty in [b"a".as_slice(), b"b".as_slice()] {
@@ -199,7 +199,7 @@ fn is_changed(rt: &impl Abort, alloc: Global, counters: &Counters, want: bool) -
 }
 
 // Brings counters from one policy to another, and says whether the changes are those.
-fn are_brought(
+fn update_tells_changes(
     rt: &impl Abort,
     alloc: Global,
     counters: &mut Counters,
@@ -219,10 +219,10 @@ fn has_changes(rt: &impl Abort, alloc: Global) -> bool {
     let old = shared(rt, alloc, OLD);
     let new = shared(rt, alloc, NEW);
     let mut counters = counted(rt, alloc, &old);
-    let is_brought = are_brought(rt, alloc, &mut counters, &old, &new);
-    let is_changed_now = is_changed(rt, alloc, &counters, true);
+    let is_told = update_tells_changes(rt, alloc, &mut counters, &old, &new);
+    let has_changed = tells_changed(rt, alloc, &counters, true);
     take_back(&mut counters, &old);
-    is_brought && is_changed_now && is_changed(rt, alloc, &counters, false)
+    is_told && has_changed && tells_changed(rt, alloc, &counters, false)
 }
 
 #[test]

@@ -1,4 +1,4 @@
-//! Tests of the crates from texts to the access table by their public calls: what is answered that no script shows.
+//! Tests of the crates from texts to resolved policies, by their public calls: what is answered that no script shows.
 #![tactic(auto)]
 
 #[cfg(test)]
