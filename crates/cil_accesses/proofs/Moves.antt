@@ -27,11 +27,13 @@ no-class chunks bit n n_is past = ap (map (access_at bit)) (none-passes (has_bit
 abbrev pub behind : RowPlace → Bor (List Chunk) → RowPlace
 behind p left = record { run = p.run; bits = p.bits; left = left; bit = p.bit; later = p.later }
 
-pub behind-is : (p : RowPlace) (left : Bor (List Chunk)) → IsPlace p → (first : Chunk) (row : List Chunk) → IsNextClass p.left.now p.bit first row left.now → IsPlace (behind p left)
-behind-is p left at first row next = record {
-  bit = at.bit;
-  left_ordered = later-ordered p at first row left.now next;
-  left_of_run = later-of-run p at first row left.now next;
+-- at any bit of the run, with any rows of it left
+same-run : (p : RowPlace) (bit : ℕ) (left : Bor (List Chunk)) → IsPlace p → bit < 64 → IsStrictlySortedBy chunk_cmp left.now → ((c : Chunk) → Contains left.now c → Contains p.run.now c)
+    → IsPlace (record { run = p.run; bits = p.bits; left = left; bit = bit; later = p.later })
+same-run p bit left at low ordered of_run = record {
+  bit = low;
+  left_ordered = ordered;
+  left_of_run = of_run;
   run_ordered = at.run_ordered;
   run_words = at.run_words;
   one_run = at.one_run;
@@ -39,6 +41,9 @@ behind-is p left at first row next = record {
   later = at.later;
   apart = at.apart;
 }
+
+pub behind-is : (p : RowPlace) (left : Bor (List Chunk)) → IsPlace p → (first : Chunk) (row : List Chunk) → IsNextClass p.left.now p.bit first row left.now → IsPlace (behind p left)
+behind-is p left at first row next = same-run p p.bit left at at.bit (later-ordered p at first row left.now next) (later-of-run p at first row left.now next)
 
 pub row-is : (p : RowPlace) (left chunks : Bor (List Chunk)) (a : AccessNumbers) → IsPlace p → (first : Chunk) → IsNextClass p.left.now p.bit first chunks.now left.now → a ≡ access_at p.bit first
     → IsNextRow (record { first = a; chunks = chunks; bit = p.bit }) (at_place p) (at_place (behind p left))
@@ -77,17 +82,7 @@ module _ (p : RowPlace) (at : IsPlace p) (none : at_bit p.bit p.left.now ≡ [])
   skipped-bit = ap (λ l. l ++ (from_bit (p.bit + 1) p.run.now ++ accesses_of p.later.now)) none
 
   pub next-place : (left : Bor (List Chunk)) → (left.now ≡ p.run.now) ⊎ (left.now ≡ []) → p.bit < 63 → IsPlace (at-next p left)
-  next-place left part more = record {
-    bit = omega (arith, more);
-    left_ordered = part-ordered left.now p.run.now part at.run_ordered;
-    left_of_run = part-of left.now p.run.now part;
-    run_ordered = at.run_ordered;
-    run_words = at.run_words;
-    one_run = at.one_run;
-    bits = at.bits;
-    later = at.later;
-    apart = at.apart;
-  }
+  next-place left part more = same-run p (p.bit + 1) left at (omega (arith, more)) (part-ordered left.now p.run.now part at.run_ordered) (part-of left.now p.run.now part)
 
   pub next-same : (left : Bor (List Chunk)) → at_bit (p.bit + 1) left.now ≡ at_bit (p.bit + 1) p.run.now → p.bit < 63 → at_place (at-next p left) ≡ at_place p
   next-same left same more =

@@ -173,11 +173,13 @@ module _ (numbers : List ℕ) (c : Chunk) (word bits : ℕ) (exact : (j : ℕ) �
   pub some-target : 0 < bits → bits < 2 ^ 64 → (j : ℕ) × IsTarget numbers c (64 * word + j)
   some-target some fits = (trailing_zeros w64 bits, (exact (trailing_zeros w64 bits) (lowest-small bits some fits)).0 (lowest-set bits some fits))
 
-  pub its-numbers : ((a : AccessNumbers) → IsAccessOf c a → IsWithin (length numbers) a) → 0 < bits → bits < 2 ^ 64 → (a : AccessNumbers) × IsAccessOf c a × IsWithin (length numbers) a
+  -- the numbers of the chunk have places
+  pub its-numbers : ((a : AccessNumbers) → IsAccessOf c a → IsWithin (length numbers) a) → 0 < bits → bits < 2 ^ 64 → (c.source < length numbers) × (c.class < length numbers) × (c.permission < length numbers)
   its-numbers within some fits =
       let t = (some-target some fits).1 in
       let of = access-of c t.bit (access_at t.bit c) t.within t.set refl in
-      (access_at t.bit c, of, within (access_at t.bit c) of)
+      let low = within (access_at t.bit c) of in
+      (omega (arith, of.source, low.source), omega (arith, of.the_class, low.the_class), omega (arith, of.permission, low.permission))
 
   pub word-low : ((i : ℕ) → get_or numbers i 0 < 2 ^ 32) → 0 < bits → bits < 2 ^ 64 → word < 2 ^ 26
   word-low low some fits =

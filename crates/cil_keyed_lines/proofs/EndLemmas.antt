@@ -4,7 +4,7 @@ use Rattle.std.specs.Int.{bit_not, bit_at}
 use Rattle.std.proofs.lemmas.Bool.{cases_eq, cases_lt, ne_eqb}
 use Rattle.std.proofs.lemmas.List.{get_or_default, length-append, length-set, length-take-le, get_or-take, get_or-set_same, get_or-set_other, get_or_at}
 use Rattle.std.proofs.lemmas.List.Folds.{list_any-append, list_any_at}
-use Rattle.std.proofs.lemmas.Nat.Bits.{bit_at_and, bit_at_not, bit_at-zero, bit_at-lt, same_from_bits_below}
+use Rattle.std.proofs.lemmas.Nat.Bits.{bit_at-zero, same_from_bits_below}
 use Rattle.std.proofs.lemmas.Nat.{and_le_l}
 use Rattle.std.proofs.lemmas.Option.{none-some, slice_get-get_or}
 use Rattle.cil_lines.proofs.LineLemmas.{some_bit}
@@ -12,7 +12,7 @@ use Rattle.cil_lines.specs.Limit.{CanLower}
 use Rattle.cil_recorded.specs.Recorded as recorded
 use Rattle.cil_recorded.specs.declared.step.Step.{Step}
 use Rattle.cil_recorded.proofs.PlaceLemmas.{untouched}
-use Rattle.cil_keyed_lines.proofs.KeyedLemmas.{count_absent, count_placed, count_raised, count_reached, count_same, count_shifted, key_placed, no_key, past_raised, past_shifted, placed_at, placed_within, listed_at, swap_of}
+use Rattle.cil_keyed_lines.proofs.KeyedLemmas.{bit_swap, count_absent, count_placed, count_raised, count_reached, count_same, count_shifted, key_placed, no_key, past_raised, past_shifted, placed_at, placed_within, listed_at, swap_of}
 
 -- ---- counters by key
 
@@ -157,18 +157,7 @@ placed_new keys news key n long unknown is distinct =
 pub moves : (was is : ℕ) → was < 2 ^ 64 → is < 2 ^ 64 → bit_and was (bit_not w64 is) ≡ 0 → bit_and is (bit_not w64 was) ≡ 0 → was ≡ is
 moves was is was_fits is_fits gone come =
     same_from_bits_below 64 was is was_fits is_fits (λ b within.
-    omega (
-      arith,
-      ap (λ n. bit_at n b) gone,
-      ap (λ n. bit_at n b) come,
-      bit_at-zero b,
-      bit_at_and was (bit_not w64 is) b,
-      bit_at_and is (bit_not w64 was) b,
-      bit_at_not w64 is b is_fits within,
-      bit_at_not w64 was b was_fits within,
-      bit_at-lt was b,
-      bit_at-lt is b,
-    ))
+    omega (arith, ap (λ n. bit_at n b) gone, ap (λ n. bit_at n b) come, bit_at-zero b, bit_swap was is b was_fits is_fits within))
 
 -- the lines of other keys are as they were, and the line of a place has a counter or a step that took the last ones from a word
 pub counted_shifted : (old mid new : State) (n m place word was is : ℕ) → was < 2 ^ 64 → is < 2 ^ 64 → was ≢ is → mid.log ≡ old.log → AreCounted (falls old.log) n old

@@ -1,6 +1,6 @@
 -- The counters of keys, by the places of their lines.
-use Rattle.cil_keyed_lines.proofs.Common.{zero, suc, ◌≡◌, ◌≢◌, ◌⊎◌, ℕ, ◌+◌, ◌/◌, ◌%◌, ◌^◌, ◌<◌, ◌≤◌, ◌==◌, ◌&&◌, Bool, true, false, cond, if◌then◌else◌, nat_lt, List, [], ◌∷◌, ◌++◌, length, get_or, position, slice_get, bit_and, w64, Option, None, Some, Result, Ok, Err, MatchOption, OnOk, OnErr, refl, sym, ap, ◌∙◌, true≢false, inl, inr, arith, list_any, position_or_len, IsDistinct, hit_at, State, hit_in, hit_nothing, hit_off, same_counts, SymbolKey, Keyed, AreKeyed, IsLineOf, IsNoLine, NoneCounted, before_at, count_by, hit_of, is_key, is_kind, now_at, with_key}
-use Rattle.std.specs.Int.{bit_not}
+use Rattle.cil_keyed_lines.proofs.Common.{zero, suc, ◌≡◌, ◌≢◌, ◌⊎◌, ℕ, ◌+◌, ◌/◌, ◌%◌, ◌^◌, ◌<◌, ◌≤◌, ◌==◌, ◌&&◌, Bool, true, false, cond, if◌then◌else◌, nat_lt, List, [], ◌∷◌, ◌++◌, length, get_or, position, slice_get, bit_and, w64, Option, None, Some, Result, Ok, Err, MatchOption, OnOk, OnErr, refl, sym, ap, ◌∙◌, true≢false, inl, inr, arith, rules, list_any, position_or_len, IsDistinct, hit_at, State, hit_in, hit_nothing, hit_off, same_counts, SymbolKey, Keyed, AreKeyed, IsLineOf, IsNoLine, NoneCounted, before_at, count_by, hit_of, is_key, is_kind, now_at, with_key}
+use Rattle.std.specs.Int.{bit_at, bit_not}
 use Rattle.std.specs.Option.{option_map_or}
 use Rattle.std.proofs.lemmas.Bool.{cases_eq, cases_lt, eqb-true, eq-eqb, ltb-false, lt-ltb}
 use Rattle.std.proofs.lemmas.List.{length-append}
@@ -12,11 +12,13 @@ use Rattle.std.proofs.lemmas.Option.{none-some, slice_get_within, get_or_from_sl
 use Rattle.std.proofs.lemmas.Nat.{and-not, and_comm}
 use Rattle.std.specs.Int.Bits.{and_self}
 use Rattle.std.proofs.lemmas.Nat.Bits.{bit_at_and, bit_at_not, bit_at-lt}
+use denote.Enum.Bare.{same_true}
 use Rattle.cil_lines.proofs.StepLemmas.{hit-here, hit-there}
 use Rattle.cil_lines.specs.Line.{hit}
 use Rattle.cil_recorded.specs.Recorded as recorded
 use Rattle.cil_text.specs.declared.statement.RuleKind.{RuleKind}
 use Rattle.cil_text.specs.declared.statement.RuleKind.TheVariants.{Allow, AuditAllow, DontAudit, NeverAllow}
+use Rattle.cil_text.specs.contracts.statement.RuleKind.{the_type}
 use Rattle.cil_text.specs.contracts.statement.RuleKindPartialEq.TheImpl.{eq-value as kind_eq}
 use Rattle.cil_keyed_lines.specs.contracts.symbol_key.SymbolKeyPartialEq.TheImpl.{eq-value as key_eq}
 
@@ -25,25 +27,6 @@ use Rattle.cil_keyed_lines.specs.contracts.symbol_key.SymbolKeyPartialEq.TheImpl
 both_true : (b c : Bool) → (b && c) ≡ true → (b ≡ true) × (c ≡ true)
 both_true true c is = (refl, is)
 both_true false c is = absurd (true≢false (sym is))
-
--- kinds that are the same are one
-pub one_kind : (kind other : RuleKind) → is_kind kind other ≡ true → kind ≡ other
-one_kind Allow Allow is = refl
-one_kind Allow AuditAllow is = absurd (true≢false (sym is))
-one_kind Allow DontAudit is = absurd (true≢false (sym is))
-one_kind Allow NeverAllow is = absurd (true≢false (sym is))
-one_kind AuditAllow Allow is = absurd (true≢false (sym is))
-one_kind AuditAllow AuditAllow is = refl
-one_kind AuditAllow DontAudit is = absurd (true≢false (sym is))
-one_kind AuditAllow NeverAllow is = absurd (true≢false (sym is))
-one_kind DontAudit Allow is = absurd (true≢false (sym is))
-one_kind DontAudit AuditAllow is = absurd (true≢false (sym is))
-one_kind DontAudit DontAudit is = refl
-one_kind DontAudit NeverAllow is = absurd (true≢false (sym is))
-one_kind NeverAllow Allow is = absurd (true≢false (sym is))
-one_kind NeverAllow AuditAllow is = absurd (true≢false (sym is))
-one_kind NeverAllow DontAudit is = absurd (true≢false (sym is))
-one_kind NeverAllow NeverAllow is = refl
 
 pub kind_itself : (kind : RuleKind) → is_kind kind kind ≡ true
 kind_itself Allow = refl
@@ -69,6 +52,10 @@ same_kinds NeverAllow Allow = refl
 same_kinds NeverAllow AuditAllow = refl
 same_kinds NeverAllow DontAudit = refl
 same_kinds NeverAllow NeverAllow = refl
+
+-- kinds that are the same are one
+pub one_kind : (kind other : RuleKind) → is_kind kind other ≡ true → kind ≡ other
+one_kind kind other is = same_true the_type (search rules) kind other (same_kinds kind other ∙ is)
 
 pub same_eq : key_eq.it ≡ is_key
 same_eq i key other = same_kinds key.kind other.kind i && (key.source == other.source && (key.class == other.class && key.permission == other.permission))
@@ -260,7 +247,12 @@ module _ (f g : ℕ → ℕ → ℕ) (keys : List SymbolKey) (key : SymbolKey) (
 
 -- ---- the targets that go and those that come
 
--- they differ as those before and after do
+-- they differ as those before and after do, bit by bit
+pub bit_swap : (was is b : ℕ) → was < 2 ^ 64 → is < 2 ^ 64 → b < 64
+    → bit_at (bit_and was (bit_not w64 is)) b + bit_at is b ≡ bit_at (bit_and is (bit_not w64 was)) b + bit_at was b
+bit_swap was is b was_fits is_fits within =
+    omega (arith, bit_at_and was (bit_not w64 is) b, bit_at_and is (bit_not w64 was) b, bit_at_not w64 is b is_fits within, bit_at_not w64 was b was_fits within, bit_at-lt was b, bit_at-lt is b)
+
 swap : (word was is t : ℕ) → was < 2 ^ 64 → is < 2 ^ 64
     → hit word (bit_and was (bit_not w64 is)) t + hit word is t ≡ hit word (bit_and is (bit_not w64 was)) t + hit word was t
 swap word was is t was_fits is_fits =
@@ -269,20 +261,7 @@ swap word was is t was_fits is_fits =
     let b = t % 64 in
     let within : b < 64 = omega arith in
     elim (cases_eq (t / 64) word) [
-      | inl e ↦
-          omega (
-            arith,
-            hit-here word was t e,
-            hit-here word is t e,
-            hit-here word gone t e,
-            hit-here word come t e,
-            bit_at_and was (bit_not w64 is) b,
-            bit_at_and is (bit_not w64 was) b,
-            bit_at_not w64 is b is_fits within,
-            bit_at_not w64 was b was_fits within,
-            bit_at-lt was b,
-            bit_at-lt is b,
-          )
+      | inl e ↦ omega (arith, hit-here word was t e, hit-here word is t e, hit-here word gone t e, hit-here word come t e, bit_swap was is b was_fits is_fits within)
       | inr n ↦ omega (arith, hit-there word was t n, hit-there word is t n, hit-there word gone t n, hit-there word come t n)
     ]
 

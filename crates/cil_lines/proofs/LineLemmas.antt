@@ -32,18 +32,22 @@ take-set (x ∷ ds) rest (suc i) e within = ap (λ l. x ∷ l) (take-set ds rest
 pub half_add : (p c b : ℕ) → bit_at (bit_xor p c) b + 2 * bit_at (bit_and c p) b ≡ bit_at p b + bit_at c b
 half_add p c b = omega (arith, bit_at_xor p c b, bit_at_and c p b, bit_at-lt p b, bit_at-lt c b)
 
+-- a digit of a list turned by bits, where with what it passes on it has what it had with what came
+pub turn_step : (ds : List Words) (i w c b n m : ℕ) (d e : Words) → i < length ds → bits_of e w ≡ bit_xor (bits_of (get_or ds i d) w) c
+    → bit_at (bit_xor (bits_of (get_or ds i d) w) c) b + n ≡ bit_at (bits_of (get_or ds i d) w) b + m
+    → value (set ds i e) w b + 2 ^ i * n ≡ value ds w b + 2 ^ i * m
+turn_step ds i w c b n m d e within turned even = omega (arith, value-set ds i w b d e within, ap (λ x. 2 ^ i * bit_at x b) turned, ap (λ x. 2 ^ i * x) even)
+
+pub next_power : (i : ℕ) → 2 ^ (i + 1) ≡ 2 * 2 ^ i
+next_power i = let next : i + 1 ≡ suc i = omega arith in omega (arith, ap (λ k. 2 ^ k) next, pow-suc 2 i)
+
 -- a digit passes on what is carried out of it, at twice the weight
 pub add_step : (ds : List Words) (i w c b goal : ℕ) (d e : Words) → i < length ds → bits_of e w ≡ bit_xor (bits_of (get_or ds i d) w) c
     → value ds w b + 2 ^ i * bit_at c b ≡ goal
     → value (set ds i e) w b + 2 ^ (i + 1) * bit_at (bit_and c (bits_of (get_or ds i d) w)) b ≡ goal
 add_step ds i w c b goal d e within turned before =
     let p = bits_of (get_or ds i d) w in
-    let moved = value-set ds i w b d e within in
-    let bits = ap (λ x. 2 ^ i * bit_at x b) turned in
-    let parts = ap (λ n. 2 ^ i * n) (half_add p c b) in
-    let next : i + 1 ≡ suc i = omega arith in
-    let twice : 2 ^ (i + 1) ≡ 2 * 2 ^ i = omega (arith, ap (λ k. 2 ^ k) next, pow-suc 2 i) in
-    rw twice (omega (arith, before, moved, bits, parts))
+    rw (next_power i) (omega (arith, before, turn_step ds i w c b (2 * bit_at (bit_and c p) b) (bit_at c b) d e within turned (half_add p c b)))
 
 -- a carry that is left has a place in the digit that comes, and room behind it
 pub room-next : (ds : List Words) (i w c : ℕ) (d : Words) → i < length ds → c ≢ 0 → HasRoom (drop i ds) w c

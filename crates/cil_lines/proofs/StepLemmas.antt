@@ -1,8 +1,8 @@
 -- Steps of the counters of a word within their limits.
-use Rattle.cil_lines.proofs.Common.{suc, ◌≡◌, ◌≢◌, ℕ, ◌+◌, ◌-◌, ◌*◌, ◌/◌, ◌%◌, ◌^◌, ◌<◌, ◌≤◌, List, [], ◌∷◌, length, get_or, drop, set, min, refl, sym, ap, subst, ◌∙◌, arith, eq-eqb, if◌then◌else◌, bit_xor, bit_and, inl, inr, pow-suc, w64, cases_eq, cases_lt, ne_eqb, bit_at_xor, bit_at_and, bit_at_not, bit_at_above, bit_at-lt, bit_at-zero, bit_at, bit_not, Words, bits_of, HasPlace, Counters, value, count_of, hit, HasRoom, limit, limit_of, AreBelow, CanRaise, CanLower}
+use Rattle.cil_lines.proofs.Common.{suc, ◌≡◌, ◌≢◌, ℕ, ◌+◌, ◌-◌, ◌*◌, ◌/◌, ◌%◌, ◌^◌, ◌<◌, ◌≤◌, List, [], ◌∷◌, length, get_or, drop, set, min, refl, sym, ap, subst, ◌∙◌, arith, eq-eqb, if◌then◌else◌, bit_xor, bit_and, inl, inr, w64, cases_eq, cases_lt, ne_eqb, bit_at_xor, bit_at_and, bit_at_not, bit_at_above, bit_at-lt, bit_at-zero, bit_at, bit_not, Words, bits_of, HasPlace, Counters, value, count_of, hit, HasRoom, limit, limit_of, AreBelow, CanRaise, CanLower}
 use Rattle.std.proofs.Math.Seq.{drop-cons}
 use Rattle.std.proofs.lemmas.Nat.{and_le_l, and_le_r}
-use Rattle.cil_lines.proofs.LineLemmas.{value-set, half_add, some_bit}
+use Rattle.cil_lines.proofs.LineLemmas.{half_add, next_power, some_bit, turn_step}
 use Rattle.cil_lines.proofs.PlaceLemmas.{limit-end, limit-some, limit-here, limit-more, place-limit}
 
 -- ---- carries and room
@@ -53,13 +53,8 @@ pub subtract_step : (ds : List Words) (i w c b goal m : ℕ) (d e : Words) → i
     → value ds w b + m ≡ goal + 2 ^ i * bit_at c b
     → value (set ds i e) w b + m ≡ goal + 2 ^ (i + 1) * bit_at (bit_and c (bit_xor (bits_of (get_or ds i d) w) c)) b
 subtract_step ds i w c b goal m d e within turned before =
-    let p = bits_of (get_or ds i d) w in
-    let moved = value-set ds i w b d e within in
-    let bits = ap (λ x. 2 ^ i * bit_at x b) turned in
-    let parts = ap (λ n. 2 ^ i * n) (half_subtract p c b) in
-    let next : i + 1 ≡ suc i = omega arith in
-    let twice : 2 ^ (i + 1) ≡ 2 * 2 ^ i = omega (arith, ap (λ k. 2 ^ k) next, pow-suc 2 i) in
-    rw twice (omega (arith, before, moved, bits, parts))
+    let x = bit_xor (bits_of (get_or ds i d) w) c in
+    rw (next_power i) (omega (arith, before, turn_step ds i w c b (bit_at c b) (2 * bit_at (bit_and c x) b) d e within turned (half_subtract (bits_of (get_or ds i d) w) c b)))
 
 module _ (ds : List Words) (i w : ℕ) (d : Words) (within : i < length ds) where
   split : drop i ds ≡ get_or ds i d ∷ drop (suc i) ds
@@ -208,6 +203,13 @@ module _ (d : Words) (h : List Words) where
 
 -- ---- what a step leaves
 
+-- a line, and what it is once its targets of a mask are lowered
+pub record IsLowered (d d' : Words) (h h' : List Words) (word mask : ℕ) : Type 0 where
+  pub below : AreBelow (line d' h')
+  pub now : (t : ℕ) → count_of (line d' h') t + hit word mask t ≡ count_of (line d h) t
+  pub limits : (w : ℕ) → limit_of (line d h) w ≤ limit_of (line d' h') w
+  pub room : CanRaise (count_of (line d' h')) (limit_of (line d' h')) word mask
+
 module _ (d d' : Words) (h h' : List Words) (kept : (w : ℕ) → HasPlace d w → HasPlace d' w) (more : (w : ℕ) → limit h w ≤ limit h' w) where
   pub limits_now : (w : ℕ) → limit_of (line d h) w ≤ limit_of (line d' h') w
   unfolding limit_of
@@ -246,10 +248,7 @@ module _ (d d' : Words) (h h' : List Words) (kept : (w : ℕ) → HasPlace d w �
           let x = bit_xor bits mask in
           omega (arith, difference b, ap (λ n. bit_at n b) turned, ap (λ n. bit_at n b) is, half_subtract bits mask b, bit_at_and mask x b, bit_at_and x mask b)
 
-      pub lowered_below : AreBelow (line d' h')
-      lowered_below = all_below (λ b. omega (arith, lowered_at b, below_at d h below word b, limits_at word))
-
-      pub lowered_now : (t : ℕ) → count_of (line d' h') t + hit word mask t ≡ count_of (line d h) t
+      lowered_now : (t : ℕ) → count_of (line d' h') t + hit word mask t ≡ count_of (line d h) t
       lowered_now t =
           let b = t % 64 in
           elim (cases_eq (t / 64) word) [
@@ -260,8 +259,13 @@ module _ (d d' : Words) (h h' : List Words) (kept : (w : ℕ) → HasPlace d w �
             | inr n ↦ omega (arith, count_value d' h' t, count_value d h t, other_at (t / 64) b n, hit-there word mask t n)
           ]
 
-      pub lowered_room : CanRaise (count_of (line d' h')) (limit_of (line d' h')) word mask
-      lowered_room t one = omega (arith, one, lowered_now t, count_below d h below t, limits_now (t / 64))
+      pub lowered : IsLowered d d' h h' word mask
+      lowered = record {
+        below = all_below (λ b. omega (arith, lowered_at b, below_at d h below word b, limits_at word));
+        now = lowered_now;
+        limits = limits_now;
+        room = λ t one. omega (arith, one, lowered_now t, count_below d h below t, limits_now (t / 64));
+      }
 
 -- the counters that are 1 have the lowest digit alone
 pub single_is : (d : Words) (h : List Words) (word b low high : ℕ) → b < 64 → high < 2 ^ 64 → low ≡ bits_of d word → bit_at high b ≡ min 1 (value h word b)

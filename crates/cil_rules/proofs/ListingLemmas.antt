@@ -53,6 +53,10 @@ permissions-within n bit chunks all =
 abbrev pub no_chunk : Chunk
 no_chunk = record { kind = Allow; source = 0; word = 0; class = 0; permission = 0; bits = 0 }
 
+-- a text ends with the text that is written from a state on
+abbrev pub Ends : Option (List ℕ) → Option (List ℕ) → List ℕ → Option (List ℕ) → List ℕ → Type 0
+Ends near new end old whole = (Gains near new end → Gains old new whole) × (GainsFront near new end → GainsFront old new whole)
+
 -- three texts, one after the other
 module _ (old mid near new : Option (List ℕ)) (first second third whole : List ℕ) (is : whole ≡ first ++ (second ++ third)) where
   pub front-in_first : GainsFront old new first → GainsFront old new whole
@@ -61,11 +65,12 @@ module _ (old mid near new : Option (List ℕ)) (first second third whole : List
   pub front-in_second : Gains old mid first → GainsFront mid new second → GainsFront old new whole
   front-in_second gains front = subst (GainsFront old new) (sym is) (gains-then_front old mid new first (second ++ third) gains (front-longer mid new second third front))
 
-  pub front-in_third : Gains old mid first → Gains mid near second → GainsFront near new third → GainsFront old new whole
-  front-in_third gains more front = subst (GainsFront old new) (sym is) (gains-then_front old mid new first (second ++ third) gains (gains-then_front mid near new second third more front))
-
-  pub gains-three : Gains old mid first → Gains mid near second → Gains near new third → Gains old new whole
-  gains-three gains more most = subst (Gains old new) (sym is) (gains-both old mid new first (second ++ third) gains (gains-both mid near new second third more most))
+  -- what is said of the third is said of the whole
+  pub third-in_whole : Gains old mid first → Gains mid near second → Ends near new third old whole
+  third-in_whole gains more = (
+    λ most. subst (Gains old new) (sym is) (gains-both old mid new first (second ++ third) gains (gains-both mid near new second third more most)),
+    λ front. subst (GainsFront old new) (sym is) (gains-then_front old mid new first (second ++ third) gains (gains-then_front mid near new second third more front)),
+  )
 
 -- the line of the next row
 module _ (text whole : List ℕ) (row : Row) (rows later : List Row) (is : rows ≡ row ∷ later) (rest : text ++ flat_map row_line rows ≡ whole) where

@@ -49,36 +49,22 @@ module _ {A : Type 0} (r : Resolved A) where
   aimed-named spec.at_itself s t source aimed = subst (IsNamed names) ((bytes_decides s t).0 aimed) source
   aimed-named (spec.at_element element) s t source aimed = held-named element t aimed
 
-  -- so has a permission of a class
+  -- so have a permission of a class and the class
   listed-named : (classes : List (NumberedClass A)) (c p : List ℕ) → IsTrue (list_all (is_class_below (length names)) classes)
-      → AnyByRecursion (λ d. IsTrue (bytes_eq c (class_of r.modules.items names d).name && list_any (bytes_eq p) (class_of r.modules.items names d).permissions)) classes → IsNamed names p
+      → AnyByRecursion (λ d. IsTrue (bytes_eq c (class_of r.modules.items names d).name && list_any (bytes_eq p) (class_of r.modules.items names d).permissions)) classes → IsNamed names c × IsNamed names p
   listed-named [] c p below none = absurd none
   listed-named (d ∷ classes) c p below (inl is) =
-      number-named names p d.permissions.items (and_parts (nat_lt d.name (length names)) _ (and_parts (is_class_below (length names) d) _ below).0).1
-      (any_from_map (name_at names) (λ q. IsTrue (bytes_eq p q)) d.permissions.items
-      (any_from_test (bytes_eq p) (class_of r.modules.items names d).permissions (and_parts (bytes_eq c (name_at names d.name)) (list_any (bytes_eq p) (class_of r.modules.items names d).permissions) is).1))
+      let low = and_parts (nat_lt d.name (length names)) _ (and_parts (is_class_below (length names) d) _ below).0 in
+      let has = and_parts (bytes_eq c (name_at names d.name)) (list_any (bytes_eq p) (class_of r.modules.items names d).permissions) is in (
+        (d.name, ltb-true d.name (length names) low.0, sym ((bytes_decides c (name_at names d.name)).0 has.0)),
+        number-named names p d.permissions.items low.1
+            (any_from_map (name_at names) (λ q. IsTrue (bytes_eq p q)) d.permissions.items (any_from_test (bytes_eq p) (class_of r.modules.items names d).permissions has.1)),
+      )
   listed-named (d ∷ classes) c p below (inr later) = listed-named classes c p (and_parts (is_class_below (length names) d) _ below).1 later
 
-  permission-named : (c p : List ℕ) → IsTrue (has_permission (meaning_in r) c p) → IsNamed names p
-  permission-named c p has =
+  had-named : (c p : List ℕ) → IsTrue (has_permission (meaning_in r) c p) → IsNamed names c × IsNamed names p
+  had-named c p has =
       listed-named r.classes.items c p r.classes_within
-      (any_from_map (class_of r.modules.items names) (λ d. IsTrue (bytes_eq c d.name && list_any (bytes_eq p) d.permissions)) r.classes.items
-      (any_from_test (λ d. bytes_eq c d.name && list_any (bytes_eq p) d.permissions) (meaning_in r).classes has))
-
-  -- so has the class
-  class-listed : (classes : List (NumberedClass A)) (c p : List ℕ) → IsTrue (list_all (is_class_below (length names)) classes)
-      → AnyByRecursion (λ d. IsTrue (bytes_eq c (class_of r.modules.items names d).name && list_any (bytes_eq p) (class_of r.modules.items names d).permissions)) classes → IsNamed names c
-  class-listed [] c p below none = absurd none
-  class-listed (d ∷ classes) c p below (inl is) = (
-    d.name,
-    ltb-true d.name (length names) (and_parts (nat_lt d.name (length names)) _ (and_parts (is_class_below (length names) d) _ below).0).0,
-    sym ((bytes_decides c (name_at names d.name)).0 (and_parts (bytes_eq c (name_at names d.name)) (list_any (bytes_eq p) (class_of r.modules.items names d).permissions) is).0),
-  )
-  class-listed (d ∷ classes) c p below (inr later) = class-listed classes c p (and_parts (is_class_below (length names) d) _ below).1 later
-
-  class-named : (c p : List ℕ) → IsTrue (has_permission (meaning_in r) c p) → IsNamed names c
-  class-named c p has =
-      class-listed r.classes.items c p r.classes_within
       (any_from_map (class_of r.modules.items names) (λ d. IsTrue (bytes_eq c d.name && list_any (bytes_eq p) d.permissions)) r.classes.items
       (any_from_test (λ d. bytes_eq c d.name && list_any (bytes_eq p) d.permissions) (meaning_in r).classes has))
 
@@ -108,8 +94,7 @@ module _ {A : Type 0} (r : Resolved A) where
       let kind : rule_kind_of rule.kind ≡ a.kind = same-kind (rule_kind_of rule.kind) a.kind (eqb-true _ _ kinds.0) in
       let source : IsNamed names a.source = held-named named.source a.source sources.0 in
       let target : IsNamed names a.target = aimed-named named.target a.source a.target source targets.0 in
-      let the_class : IsNamed names a.the_class = class-named a.the_class a.permission had in
-      let permission : IsNamed names a.permission = permission-named a.the_class a.permission had in (
+      let (the_class, permission) = had-named a.the_class a.permission had in (
         record { kind = rule.kind; source = source.0; target = target.0; class = the_class.0; permission = permission.0 },
         record { source = source.1; target = target.1; the_class = the_class.1; permission = permission.1 },
         λ i. record { kind = kind i; source = source.2 i; target = target.2 i; the_class = the_class.2 i; permission = permission.2 i },

@@ -1,5 +1,5 @@
 -- The classes in which two rules share a permission.
-use Rattle.cil_violations.proofs.Common.{◌≡◌, ◌∙◌, true, ℕ, ◌<◌, List, [], ◌∷◌, length, map, Some, slice_get, Contains, refl, sym, ap, subst, arith, nat_cmp, nat_cmp_total, AnyByRecursion, any_from_map, contains_from, contains_to, ClassPermission, NumberedRule, given_in, AreInOrder, permission_cmp, AreClasses, IsOrdered, IsSearch, IsStrictlySortedBy, Search, classes_of, hits, names_in, of_class, permissions_at, rules_in, set_at, share, shared, tests_of}
+use Rattle.cil_violations.proofs.Common.{◌≡◌, ◌⊎◌, ◌∙◌, inl, inr, true, ℕ, ◌<◌, List, [], ◌∷◌, length, map, Some, slice_get, Contains, refl, sym, ap, subst, arith, nat_cmp, nat_cmp_total, AnyByRecursion, any_from_map, contains_from, contains_to, ClassPermission, NumberedRule, given_in, AreInOrder, permission_cmp, AreClasses, IsOrdered, IsSearch, IsStrictlySortedBy, Search, classes_of, hits, names_in, of_class, permissions_at, rules_in, set_at, share, shared, tests_of}
 use Rattle.cil_resolve.specs.declared.numbered.NumberedPermissions.{NumberedPermissions}
 use Rattle.cil_resolve.specs.declared.numbered.ResolvedPermissions.TheVariants as permits
 use Rattle.cil_specs.proofs.ViolationLemmas.{one-sorted}
@@ -36,6 +36,16 @@ module _ {A : Type 0} (s : Search A) (is : IsSearch s) (never allowed : ℕ) (lo
           let (here, also) = out g one other in
           contains_to list c
           ((ordered.same c).1 (subst (Contains (map (λ g. g.class) (shared first second))) same (shared-to (λ (x : ClassPermission). x.class) first second g here also)))
+
+  -- those that the permissions of the two rules share, taken in either order
+  pub classes-either : (first second : List ClassPermission) → first ≡ permissions_at s never → second ≡ permissions_at s allowed → (list : List ℕ)
+      → IsOrdered nat_cmp (map (λ g. g.class) (shared first second)) list ⊎ IsOrdered nat_cmp (map (λ g. g.class) (shared second first)) list → list ≡ classes_of s never allowed
+  classes-either first second first_is second_is list (inl ordered) =
+      classes-are first second (λ g here there. (subst (λ l. Contains l g) first_is here, subst (λ l. Contains l g) second_is there))
+      (λ g here there. (subst (λ l. Contains l g) (sym first_is) here, subst (λ l. Contains l g) (sym second_is) there)) list ordered
+  classes-either first second first_is second_is list (inr ordered) =
+      classes-are second first (λ g here there. (subst (λ l. Contains l g) first_is there, subst (λ l. Contains l g) second_is here))
+      (λ g here there. (subst (λ l. Contains l g) (sym second_is) there, subst (λ l. Contains l g) (sym first_is) here)) list ordered
 
 -- where all that two lists share is of one class, that is the only one
 module _ (c : ℕ) (first second : List ClassPermission)

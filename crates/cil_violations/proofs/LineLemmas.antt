@@ -3,6 +3,10 @@ use Rattle.cil_violations.proofs.Common.{◌≡◌, ◌∙◌, ℕ, Bool, true, 
 use Rattle.std.proofs.Common.{flat_map}
 use Rattle.std.proofs.lemmas.List.Folds.{flat_map-map}
 
+-- a text ends with the text that is written from a state on
+abbrev pub Ends : Option (List ℕ) → Option (List ℕ) → List ℕ → Option (List ℕ) → List ℕ → Type 0
+Ends near new end old whole = (Gains near new end → Gains old new whole) × (GainsFront near new end → GainsFront old new whole)
+
 -- three texts, one after the other
 module _ (old mid near new : Option (List ℕ)) (first second third whole : List ℕ) (is : first ++ (second ++ third) ≡ whole) where
   pub front-in_first : GainsFront old mid first → GainsFront old mid whole
@@ -11,11 +15,12 @@ module _ (old mid near new : Option (List ℕ)) (first second third whole : List
   pub front-in_second : Gains old mid first → GainsFront mid near second → GainsFront old near whole
   front-in_second gains front = subst (GainsFront old near) is (gains-then_front old mid near first (second ++ third) gains (front-longer mid near second third front))
 
-  pub front-in_third : Gains old mid first → Gains mid near second → GainsFront near new third → GainsFront old new whole
-  front-in_third gains more front = subst (GainsFront old new) is (gains-then_front old mid new first (second ++ third) gains (gains-then_front mid near new second third more front))
-
-  pub gains-three : Gains old mid first → Gains mid near second → Gains near new third → Gains old new whole
-  gains-three gains more most = subst (Gains old new) is (gains-both old mid new first (second ++ third) gains (gains-both mid near new second third more most))
+  -- what is said of the third is said of the whole
+  pub third-in_whole : Gains old mid first → Gains mid near second → Ends near new third old whole
+  third-in_whole gains more = (
+    λ most. subst (Gains old new) is (gains-both old mid new first (second ++ third) gains (gains-both mid near new second third more most)),
+    λ front. subst (GainsFront old new) is (gains-then_front old mid new first (second ++ third) gains (gains-then_front mid near new second third more front)),
+  )
 
 -- the text of a place, with its numbers written
 pub place-is : (word name line column : List ℕ) (l c : ℕ) → line ≡ decimal l → column ≡ decimal c

@@ -1,5 +1,5 @@
 -- The allow rules that a rule meets.
-use Rattle.cil_violations.proofs.Common.{◌≡◌, ◌⊎◌, ◌↔◌, ◌∙◌, inl, inr, ℕ, ◌+◌, ◌-◌, ◌<◌, ◌≤◌, ◌&&◌, ◌||◌, Bool, true, false, IsTrue, List, [], ◌∷◌, ◌++◌, length, get_or, take, Option, Some, None, slice_get, Contains, refl, sym, ap, subst, arith, true≢false, nat_cmp, nat_cmp_total, IsStrictlySortedBy, AnyByRecursion, any-filter, any_from_filter, any-flat_map, any_from_flat_map, any_weaker, contains_to, contains_from, and_parts, and_from, eqb-true, eq-eqb, none-some, same_Some, slice_get_within, filter, flat_map, list_any, take_all, IsOrdered, NumberedRule, ClassPermission, gives_class, share, AreHeads, AreHeadsOf, AreOfSet, DoAgree, IsSearch, Search, hits, is_allow, is_allow_of_set, is_kind, is_of_set, is_set_rule, are_of_set, met_in, permissions_at, rules_in, rules_of_set, set_at, stood_by, stood_by_at, stood_for}
+use Rattle.cil_violations.proofs.Common.{◌≡◌, ◌⊎◌, ◌↔◌, ◌∙◌, inl, inr, ℕ, ◌+◌, ◌-◌, ◌<◌, ◌≤◌, ◌&&◌, ◌||◌, Bool, true, false, IsTrue, List, [], ◌∷◌, ◌++◌, length, get_or, get_or_default, take, Option, Some, None, slice_get, Contains, refl, sym, ap, subst, arith, true≢false, nat_cmp, nat_cmp_total, IsStrictlySortedBy, AnyByRecursion, any-filter, any_from_filter, any-flat_map, any_from_flat_map, any_weaker, contains_to, contains_from, and_parts, and_from, eqb-true, eq-eqb, none-some, same_Some, slice_get_within, filter, flat_map, list_any, take_all, IsOrdered, NumberedRule, ClassPermission, gives_class, share, AreHeads, AreHeadsOf, AreOfSet, DoAgree, IsSearch, Search, hits, is_allow, is_allow_of_set, is_kind, is_of_set, is_set_rule, are_of_set, met_in, permissions_at, rules_in, rules_of_set, set_at, stood_by, stood_by_at, stood_for}
 use Rattle.std.specs.Option.{is_some}
 use Rattle.std.proofs.lemmas.List.{take_more}
 use Rattle.std.proofs.lemmas.List.Kept.{IsStrictlySortedBy-filter}
@@ -9,7 +9,7 @@ use Rattle.cil_resolve.specs.declared.numbered.ResolvedPermissions.TheVariants a
 use Rattle.cil_violations.proofs.FoundLemmas.{hit-from}
 use Rattle.cil_violations.proofs.HitLemmas.{hits-hold}
 use Rattle.cil_violations.proofs.IndexLemmas.{gives-to, set-allows, set-rule, there-at}
-use Rattle.cil_violations.proofs.MeaningLemmas.{same-set, witness}
+use Rattle.cil_violations.proofs.MeaningLemmas.{agree as rules-agree, same-set, witness}
 use Rattle.cil_violations.proofs.OrderLemmas.{hits-ascend}
 use Rattle.cil_violations.proofs.ShareLemmas.{share-from, share-to}
 use Rattle.cil_violations.proofs.TestLemmas.{if-at, is-there}
@@ -213,7 +213,7 @@ module _ {A : Type 0} (s : Search A) (is : IsSearch s) (agree : DoAgree (rules_i
       let (g, given, at) = (of.same h).0 there in
       (and_parts (is_allow rules h) (gives_class (permissions_at s h) g.class) (are.sound g.class h at)).0
 
-  pub head-within : (h : ℕ) → Contains hs h → h < length rules
+  head-within : (h : ℕ) → Contains hs h → h < length rules
   head-within h there = let (r, at, kind) = is-there (is_kind 0) (slice_get rules h) (head-allows h there) in slice_get_within rules h r at
 
   -- what one shares another rule of its set shares
@@ -333,3 +333,10 @@ met-same s is i j set i_is j_is = λ k. hits (λ m. is_allow (rules_in s) m && s
         share-same (permissions_at s i) (permissions_at s j) (permissions_at s m)
         (same-set s.resolved.now s.permissions.now.0 is.permissions i j set i_is j_is)
         (same-set s.resolved.now s.permissions.now.0 is.permissions j i set j_is i_is)
+
+-- the head at a place of those of a rule is a rule
+pub head-within_at : {A : Type 0} (s : Search A) (is : IsSearch s) (never : ℕ) (hs : List ℕ) → AreHeadsOf is.index.holds.heads (permissions_at s never) hs → (given : List ℕ) (k : ℕ) → given ≡ hs → k < length given
+    → get_or given k 0 < length (rules_in s)
+head-within_at s is never hs of given k are within =
+    let h = get_or given k 0 in
+    head-within s is (rules-agree s.resolved.now s.permissions.now.0 is.permissions) never is.index.holds.heads is.index.holds.are hs of h (subst (λ l. Contains l h) are (k, within, get_or_default given k h 0 within))

@@ -1,10 +1,12 @@
 -- The types that two rules have in common.
-use Rattle.cil_violations.proofs.Common.{◌≡◌, ◌∙◌, ℕ, ◌+◌, ◌<◌, ◌&&◌, true, false, List, [], ◌∷◌, ◌++◌, length, get_or, take, slice_get, MatchOption, Option, None, Some, true≢false, refl, sym, ap, subst, arith, is_target_below, NumberedRule, aim_of, are_both_held, both_hold, is_held_in, is_known, symbols_in, if_there, hits, names_in, rows_at, rows_of, rules_in, source_rows, sources_of, target_rows, targets_of, tests_of, IsSearch, Tests, NoneFromWord, IsFirstWordFrom, Search}
+use Rattle.cil_violations.proofs.Common.{◌≡◌, ◌∙◌, ℕ, ◌+◌, ◌<◌, ◌&&◌, true, false, List, [], ◌∷◌, ◌++◌, length, get_or, take, slice_get, MatchOption, Option, None, Some, true≢false, refl, sym, ap, subst, arith, is_target_below, NumberedRule, aim_of, are_both_held, both_hold, is_held_in, is_known, symbols_in, if_there, hits, names_in, rows_at, rows_of, rules_in, source_rows, sources_of, target_rows, targets_of, tests_of, IsSearch, RowNumbers, Tests, NoneFromWord, IsFirstWordFrom, Search}
 use Rattle.std.specs.Option.{is_some}
 use Rattle.std.proofs.lemmas.Grind.{common_steps}
 use Rattle.cil_expression.specs.declared.expression.Element.{Element}
 use Rattle.std.proofs.Common.{flat_map}
 use Rattle.cil_resolve.specs.declared.numbered.ResolvedTarget.TheVariants as targets
+use Rattle.cil_violations.specs.Rows.{IsPair}
+use Rattle.cil_violations.specs.declared.row.Pair.{Pair}
 use Rattle.cil_violations.proofs.HeldLemmas.{known, long}
 use Rattle.cil_violations.proofs.HitLemmas.{hits-none}
 use Rattle.cil_violations.proofs.MeaningLemmas.{rule-sound}
@@ -20,6 +22,17 @@ pub part-more : {Y : Type 0} (f : ℕ → List Y) (old mid new : List Y) (xs : L
     → mid ≡ old ++ flat_map f (take k xs) → new ≡ mid ++ f (get_or xs k 0)
     → new ≡ old ++ flat_map f (take (k + 1) xs)
 part-more f old mid new xs k within so_far more = grind (arith, common_steps, within, so_far, more)
+
+-- so do the rows of one more source
+pub source-more : {A : Type 0} (s : Search A) (pair : Pair) → IsPair s pair → (before old new : List RowNumbers) (sources targets : List ℕ) (k : ℕ) → sources ≡ sources_of s pair.never pair.allowed → k < length sources
+    → targets ≡ targets_of s pair.never pair.allowed (get_or sources k 0)
+    → old ≡ before ++ flat_map (target_rows (tests_of s) (names_in s) pair.never pair.allowed) (take k (sources_of s pair.never pair.allowed))
+    → new ≡ old ++ flat_map (rows_at pair.never pair.allowed pair.classes.now (get_or sources k 0)) targets
+    → new ≡ before ++ flat_map (target_rows (tests_of s) (names_in s) pair.never pair.allowed) (take (k + 1) (sources_of s pair.never pair.allowed))
+source-more s pair is before old new sources targets k are within aimed so_far more =
+    let rows = target_rows (tests_of s) (names_in s) pair.never pair.allowed in
+    part-more rows before old new (sources_of s pair.never pair.allowed) k (subst (λ l. k < length l) are within) so_far
+    (more ∙ (λ i. old ++ flat_map (rows_at pair.never pair.allowed (is.classes i) (get_or sources k 0)) (aimed i)) ∙ ap (λ l. old ++ rows (get_or l k 0)) are)
 
 -- without targets there are no rows
 pub no-targets : (tests : Tests) (names never allowed : ℕ)

@@ -4,25 +4,13 @@ use Rattle.cil_accesses.proofs.Shifts.{its-numbers, word-low, word-put}
 use Rattle.cil_accesses.proofs.renumber.push_word.Goals as goal
 
 pub bounds-numbers-chunk : goal.bounds-numbers-chunk
-bounds-numbers-chunk g c =
-    let (a, of, within) = its-numbers c.args.numbers.now c.args.chunk.now c.args.word c.args.bits c.requires.bits c.requires.within (omega arith) (omega arith) in
-    let is = of.source in
-    let low = within.source in
-    omega (arith, is, low)
+bounds-numbers-chunk g c = let (source, _, _) = its-numbers c.args.numbers.now c.args.chunk.now c.args.word c.args.bits c.requires.bits c.requires.within (omega arith) (omega arith) in omega (arith, source)
 
 pub bounds-numbers-chunk-2 : goal.bounds-numbers-chunk-2
-bounds-numbers-chunk-2 g c =
-    let (a, of, within) = its-numbers c.args.numbers.now c.args.chunk.now c.args.word c.args.bits c.requires.bits c.requires.within (omega arith) (omega arith) in
-    let is = of.the_class in
-    let low = within.the_class in
-    omega (arith, is, low)
+bounds-numbers-chunk-2 g c = let (_, the_class, _) = its-numbers c.args.numbers.now c.args.chunk.now c.args.word c.args.bits c.requires.bits c.requires.within (omega arith) (omega arith) in omega (arith, the_class)
 
 pub bounds-numbers-chunk-3 : goal.bounds-numbers-chunk-3
-bounds-numbers-chunk-3 g c =
-    let (a, of, within) = its-numbers c.args.numbers.now c.args.chunk.now c.args.word c.args.bits c.requires.bits c.requires.within (omega arith) (omega arith) in
-    let is = of.permission in
-    let low = within.permission in
-    omega (arith, is, low)
+bounds-numbers-chunk-3 g c = let (_, _, permission) = its-numbers c.args.numbers.now c.args.chunk.now c.args.word c.args.bits c.requires.bits c.requires.within (omega arith) (omega arith) in omega (arith, permission)
 
 pub push_chunk-requires-clause-word : goal.push_chunk-requires-clause-word
 push_chunk-requires-clause-word g c =

@@ -1,4 +1,4 @@
-use Rattle.cil_recorded.proofs.Common.{◌<◌, ◌∙◌, ◌==◌, length, bit_and, w64, refl, sym, ap, rules, bit_not, IsPresence, IsSingle, falls, has_line, count_in}
+use Rattle.cil_recorded.proofs.Common.{◌∙◌, ◌==◌, bit_and, w64, refl, sym, ap, rules, bit_not, IsPresence, IsSingle, falls, has_line, count_in}
 use Rattle.cil_recorded.proofs.EndLemmas.{others_down}
 use Rattle.cil_recorded.proofs.LogLemmas.{back_down, before_step, moved_down, sound_down}
 use Rattle.cil_recorded.proofs.recorded_lines.RecordedLines.lower.Goals as goal
@@ -7,10 +7,9 @@ pub invariant_of-self : goal.invariant_of-self
 invariant_of-self g c =
     let old = c.self.inside.lines.items in
     let step = c.lower.ensures in
-    let within : c.args.line < length old = rw (← c.self.view_is) at c.requires.line in
-    let is : IsSingle (count_in old c.args.line) c.args.word c.single.result = rw (← c.self.view_is) at c.single.ensures in
     rw c.log_step.ensures.items
-    (sound_down old c.lower.new.lines.items c.self.inside.log.items c.self.invariant step.limits c.args.line c.args.word c.args.mask within step.len c.single.result _ step.now is step.room)
+    (sound_down old c.lower.new.lines.items c.self.inside.log.items c.self.invariant step.limits c.args.line c.args.word c.args.mask (rw (← c.self.view_is) at c.requires.line) step.len c.single.result _ step.now
+    (rw (← c.self.view_is) at c.single.ensures) step.room)
 
 pub returns-clause-moved : goal.returns-clause-moved
 returns-clause-moved g c =

@@ -1,4 +1,4 @@
-use Rattle.cil_recorded.proofs.Common.{◌<◌, length, bit_and, w64, refl, rules, bit_not, IsPresence, count_in}
+use Rattle.cil_recorded.proofs.Common.{bit_and, w64, refl, rules, bit_not, count_in}
 use Rattle.cil_recorded.proofs.EndLemmas.{falls_up}
 use Rattle.cil_recorded.proofs.LogLemmas.{back_up, before_step, moved_up, sound_up}
 use Rattle.cil_recorded.proofs.recorded_lines.RecordedLines.raise.Goals as goal
@@ -7,10 +7,9 @@ pub invariant_of-self : goal.invariant_of-self
 invariant_of-self g c =
     let old = c.self.inside.lines.items in
     let step = c.raise.ensures in
-    let within : c.args.line < length old = rw (← c.self.view_is) at c.requires.line in
-    let is : IsPresence (count_in old c.args.line) c.args.word c.present.result = rw (← c.self.view_is) at c.present.ensures in
     rw c.log_step.ensures.items
-    (sound_up old c.raise.new.lines.items c.self.inside.log.items c.self.invariant step.limits c.args.line c.args.word c.args.mask within step.len c.present.result step.now (search rules) is)
+    (sound_up old c.raise.new.lines.items c.self.inside.log.items c.self.invariant step.limits c.args.line c.args.word c.args.mask (rw (← c.self.view_is) at c.requires.line) step.len c.present.result step.now (search rules)
+    (rw (← c.self.view_is) at c.present.ensures))
 
 pub returns-clause-moved : goal.returns-clause-moved
 returns-clause-moved g c =

@@ -26,29 +26,13 @@ loop-turn-preserved g c =
     elim c.if-turn-ne0.branch [
       | then-turn-ne0+in_ok-push w ↦
           let ch : Change = record { line = x.line; word = x.word; appeared = bit_xor x.low (bit_and x.low x.high); gone = bit_and x.low x.high } in
+          let come = λ (l t : ℕ). sum_by_push (λ (s : Change). hit_at s.line s.word s.appeared l t) out ch in
+          let go = λ (l t : ℕ). sum_by_push (λ (s : Change). hit_at s.line s.word s.gone l t) out ch in
           rw (w.changes-is, w.in_ok-push.ensures.items) (record {
             up = ascends-push change_key 0 out ch was.up tail.0;
             rest = ascends-less turn_key _ (turn_key x + 1) (drop (i + 1) xs) (omega (arith, next-push change_key 0 out ch)) left;
-            balance = λ l t.
-                omega (
-                  arith,
-                  was.balance l t,
-                  sum_by_push (λ s. hit_at s.line s.word s.appeared l t) out ch,
-                  sum_by_push (λ s. hit_at s.line s.word s.gone l t) out ch,
-                  more l t,
-                  more-alone l t,
-                  low l t,
-                  high l t,
-                );
-            low = λ l t.
-                omega (
-                  arith,
-                  was.low l t,
-                  sum_by_push (λ s. hit_at s.line s.word s.appeared l t) out ch,
-                  sum_by_push (λ s. hit_at s.line s.word s.gone l t) out ch,
-                  more-low l t,
-                  low l t,
-                );
+            balance = λ l t. omega (arith, was.balance l t, come l t, go l t, more l t, more-alone l t, low l t, high l t);
+            low = λ l t. omega (arith, was.low l t, come l t, go l t, more-low l t, low l t);
           })
       | else-turn-ne0 w ↦
           let none = λ (l t : ℕ). ap (λ m. hit_at x.line x.word m l t) w.if-turn-ne0.false in

@@ -1,4 +1,4 @@
-use Rattle.cil_violations.proofs.Common.{◌≡◌, ◌∙◌, ◌++◌, ◌+◌, ◌<◌, ◌≤◌, length, get_or, None, Some, sym, ap, subst, arith, get_or_default, Contains, ClassPermission, IsChain, permissions_at}
+use Rattle.cil_violations.proofs.Common.{◌≡◌, ◌∙◌, ◌++◌, ◌+◌, ◌<◌, ◌≤◌, ℕ, List, length, get_or, None, Some, sym, ap, subst, arith, get_or_default, Contains, ClassPermission, IsChain, IsSearch, Search, permissions_at, rules_in}
 use Rattle.cil_violations.proofs.IndexLemmas.{same-last}
 use Rattle.cil_violations.proofs.MeaningLemmas.{classes-low}
 use Rattle.cil_violations.proofs.MetLemmas.{AreGathered, gathered-all, gathered-more, gathered-none, gathered-ordered, gathered-same}
@@ -8,32 +8,29 @@ use Rattle.cil_violations.proofs.search.Search.heads.Goals.{then-ne+in_ok-push_c
 abbrev none : ClassPermission
 none = record { class = 0; permission = 0 }
 
+-- the class of a permission of a rule has a place in the index
+class-low : {A : Type 0} (s : Search A) (is : IsSearch s) (never : ℕ) → never < length (rules_in s) → (given : List ClassPermission) (k : ℕ) → given ≡ permissions_at s never → k < length given
+    → (get_or given k none).class < length s.index.now.first.items
+class-low s is never low given k are within =
+    let x = get_or given k none in
+    let below = classes-low s.resolved.now s.permissions.now.0 is.permissions never low x (subst (λ l. Contains l x) are (k, within, get_or_default given k x none within)) in
+    let room = is.index.classes_len in
+    omega (arith, below, room)
+
 pub loop-permission-init : goal.loop-permission-init
 loop-permission-init g c = λ is. gathered-none is.holds.heads (permissions_at c.args.self.now c.args.never) c.clear.new.self.items c.clear.ensures.items
 
 pub index-first-requires : goal.index-first-requires
 index-first-requires g c =
     let s = c.args.self.now in
-    let given = c.given-given.result.now in
-    let k = c.loop-permission.permission-index in
-    let x = get_or given k none in
-    let there : Contains (permissions_at s c.args.never) x =
-    subst (λ l. Contains l x) c.given-given.ensures (k, c.loop-permission-test.true, get_or_default given k x none c.loop-permission-test.true) in
-    let below = classes-low s.resolved.now s.permissions.now.0 c.requires.search.permissions c.args.never c.requires.never x there in
-    let room = c.requires.search.index.classes_len in
-    omega (arith, below, room, s.index.now.first.ok.0)
+    let low = class-low s c.requires.search c.args.never c.requires.never c.given-given.result.now c.loop-permission.permission-index c.given-given.ensures c.loop-permission-test.true in
+    omega (arith, low, s.index.now.first.ok.0)
 
 pub push_chain-requires : goal.push_chain-requires
 push_chain-requires g c =
     let s = c.args.self.now in
-    let given = c.given-given.result.now in
-    let k = c.loop-permission.permission-index in
-    let x = get_or given k none in
-    let there : Contains (permissions_at s c.args.never) x =
-    subst (λ l. Contains l x) c.given-given.ensures (k, c.loop-permission-test.true, get_or_default given k x none c.loop-permission-test.true) in
-    let below = classes-low s.resolved.now s.permissions.now.0 c.requires.search.permissions c.args.never c.requires.never x there in
-    let room = c.requires.search.index.classes_len in
-    let low : x.class < length s.index.now.first.items = omega (arith, below, room) in
+    let x = get_or c.given-given.result.now c.loop-permission.permission-index none in
+    let low = class-low s c.requires.search c.args.never c.requires.never c.given-given.result.now c.loop-permission.permission-index c.given-given.ensures c.loop-permission-test.true in
     let heads = c.requires.search.index.holds.heads x.class in (
       heads,
       subst (IsChain s.index.now.links.items heads) (get_or_default s.index.now.first.items x.class None c.index-first.result.now low ∙ sym c.index-first.ensures) (c.requires.search.index.holds.classes x.class low),
@@ -50,10 +47,7 @@ loop-permission-preserved g c = λ is.
     let within : k < length whole = subst (λ l. k < length l) c.given-given.ensures c.loop-permission-test.true in
     let heads = is.holds.heads in
     let m = c.loop-permission.invariant is in
-    let there : Contains whole x = subst (λ l. Contains l x) c.given-given.ensures (k, c.loop-permission-test.true, get_or_default given k x none c.loop-permission-test.true) in
-    let below = classes-low s.resolved.now s.permissions.now.0 c.requires.search.permissions c.args.never c.requires.never x there in
-    let room = is.classes_len in
-    let low : x.class < length s.index.now.first.items = omega (arith, below, room) in
+    let low = class-low s c.requires.search c.args.never c.requires.never given k c.given-given.ensures c.loop-permission-test.true in
     elim c.if-ne.branch [
       | then-ne+in_ok-push_chain w ↦
           let chain = subst (IsChain s.index.now.links.items (heads x.class)) (get_or_default s.index.now.first.items x.class None w.index-first.result.now low ∙ sym w.index-first.ensures) (is.holds.classes x.class low) in
@@ -72,16 +66,12 @@ loop-permission-preserved g c = λ is.
 
 pub returns-then-are_several : goal.returns-then-are_several
 returns-then-are_several g c = λ is.
-    let s = c.args.self.now in
-    let whole = permissions_at s c.args.never in
-    let past : length whole ≤ c.loop-permission.permission-index = subst (λ l. length l ≤ c.loop-permission.permission-index) c.given-given.ensures c.loop-permission-test.false in
-    gathered-ordered is.holds.heads whole c.loop-permission.permission-index past c.loop-permission.last c.loop-permission.are_several c.loop-permission.list.items (c.loop-permission.invariant is)
+    let past = subst (λ l. length l ≤ c.loop-permission.permission-index) c.given-given.ensures c.loop-permission-test.false in
+    gathered-ordered is.holds.heads (permissions_at c.args.self.now c.args.never) c.loop-permission.permission-index past c.loop-permission.last c.loop-permission.are_several c.loop-permission.list.items (c.loop-permission.invariant is)
     c.put_in_order.new.numbers.items c.put_in_order.ensures
 
 pub returns-else-are_several : goal.returns-else-are_several
 returns-else-are_several g c = λ is.
-    let s = c.args.self.now in
-    let whole = permissions_at s c.args.never in
-    let past : length whole ≤ c.loop-permission.permission-index = subst (λ l. length l ≤ c.loop-permission.permission-index) c.given-given.ensures c.loop-permission-test.false in
-    gathered-all is.holds.heads whole c.loop-permission.permission-index past c.loop-permission.last c.loop-permission.are_several c.loop-permission.list.items (c.loop-permission.invariant is)
+    let past = subst (λ l. length l ≤ c.loop-permission.permission-index) c.given-given.ensures c.loop-permission-test.false in
+    gathered-all is.holds.heads (permissions_at c.args.self.now c.args.never) c.loop-permission.permission-index past c.loop-permission.last c.loop-permission.are_several c.loop-permission.list.items (c.loop-permission.invariant is)
     c.if-are_several.false
