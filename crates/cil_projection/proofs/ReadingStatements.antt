@@ -15,32 +15,23 @@ use Rattle.cil_projection.specs.Conditions.{Settings, containers, list_value}
 use Rattle.cil_projection.specs.Statements.{rules, is_taken, condition_value, behind_first, statement, value_for}
 use Rattle.cil_projection.specs.Readings.{tunable_value, AreLastOf, all_of_them, behind_word, behind_string, behind_list, AreStatements, top, past_word, past_string, past_list, in_body, in_branch, IsUnprojectedByWord, nowhere, followed_by, plain_list, without_places, made_trees, rules_of, rules_taken, stays_of, or_unprojected, projected_trees, one_tree, body_trees, tunable_trees, branch_trees, inner_trees, HasStatement, IsUnprojectedInText}
 
--- words that are among others are among more
-among_both : (words others : List (List ℕ)) (text : List ℕ) → AllByRecursion (λ word. is_among others word ≡ true) words → is_among words text ≡ true → is_among others text ≡ true
-among_both [] others text all h = absurd (true≢false (sym h))
-among_both (word ∷ words) others text all h = by (or_cases (bytes_eq text word) (list_any (bytes_eq text) words) h) (λ k. among_both words others text all.1 k)
+-- words that are among others stand to more words as those do
+among_all : (is : Bool) (words others : List (List ℕ)) (text : List ℕ) → AllByRecursion (λ word. is_among others word ≡ is) words → is_among words text ≡ true → is_among others text ≡ is
+among_all is [] others text all h = absurd (true≢false (sym h))
+among_all is (word ∷ words) others text all h = by (or_cases (bytes_eq text word) (list_any (bytes_eq text) words) h) (λ k. among_all is words others text all.1 k)
   where
-    by : (bytes_eq text word ≡ true) ⊎ (is_among words text ≡ true) → (is_among words text ≡ true → is_among others text ≡ true) → is_among others text ≡ true
-    by (inl same) rest = ap (is_among others) ((bytes_eq-Decides text word).0 same) ∙ all.0
-    by (inr more) rest = rest more
-
--- words that are among others are not among others still
-among_neither : (words others : List (List ℕ)) (text : List ℕ) → AllByRecursion (λ word. is_among others word ≡ false) words → is_among words text ≡ true → is_among others text ≡ false
-among_neither [] others text all h = absurd (true≢false (sym h))
-among_neither (word ∷ words) others text all h = by (or_cases (bytes_eq text word) (list_any (bytes_eq text) words) h) (λ k. among_neither words others text all.1 k)
-  where
-    by : (bytes_eq text word ≡ true) ⊎ (is_among words text ≡ true) → (is_among words text ≡ true → is_among others text ≡ false) → is_among others text ≡ false
+    by : (bytes_eq text word ≡ true) ⊎ (is_among words text ≡ true) → (is_among words text ≡ true → is_among others text ≡ is) → is_among others text ≡ is
     by (inl same) rest = ap (is_among others) ((bytes_eq-Decides text word).0 same) ∙ all.0
     by (inr more) rest = rest more
 
 container_keyword : (text : List ℕ) → is_among containers text ≡ true → is_among keywords text ≡ true
-container_keyword text h = among_both containers keywords text (refl, (refl, tt)) h
+container_keyword text h = among_all true containers keywords text (refl, (refl, tt)) h
 
 rule_keyword : (text : List ℕ) → is_among rules text ≡ true → is_among keywords text ≡ true
-rule_keyword text h = among_both rules keywords text (refl, (refl, (refl, (refl, tt)))) h
+rule_keyword text h = among_all true rules keywords text (refl, (refl, (refl, (refl, tt)))) h
 
 rule_holds_none : (text : List ℕ) → is_among rules text ≡ true → is_among containers text ≡ false
-rule_holds_none text h = among_neither rules containers text (refl, (refl, (refl, (refl, tt)))) h
+rule_holds_none text h = among_all false rules containers text (refl, (refl, (refl, (refl, tt)))) h
 
 module _ (settings : Settings) (trees : Trees) (size : ℕ) (word : List ℕ) (arguments : Trees) (free : is_among keywords word ≡ false) where
   -- the statement is one that stays

@@ -1,7 +1,14 @@
 //! The kinds of statements outside the language that are taken by their names.
 
 use crate::part::Part;
-use crate::table::Table;
+use crate::part::Part::{
+    Address, Class, ClassPermissions, Classes, Constraint, Context, Declared, Expression,
+    ExtendedPermission, Ignored, Level, Name, Names, PerhapsContext, Range, Target, Truth,
+};
+use crate::table::Table::{
+    Addresses, Booleans, Categories, Contexts, ExtendedPermissions, Levels, Ranges, Roles,
+    Sensitivities, Sids, Tunables, Types, Users,
+};
 
 /// A form of statements: their first word, and what their arguments are.
 pub type Form = (&'static [u8], &'static [Part]);
@@ -10,245 +17,117 @@ pub type Form = (&'static [u8], &'static [Part]);
 /// packages writes is among them, `booleanif` apart.
 pub const FORMS: [Form; 75] = [
     // "Role Statements"
-    (b"role", &[Part::Declared(Table::Roles)]),
-    (
-        b"roletype",
-        &[Part::Name(Table::Roles), Part::Name(Table::Types)],
-    ),
-    (b"roleattribute", &[Part::Declared(Table::Roles)]),
-    (
-        b"roleattributeset",
-        &[Part::Name(Table::Roles), Part::Expression(Table::Roles)],
-    ),
-    (
-        b"roleallow",
-        &[Part::Name(Table::Roles), Part::Name(Table::Roles)],
-    ),
+    (b"role", &[Declared(Roles)]),
+    (b"roletype", &[Name(Roles), Name(Types)]),
+    (b"roleattribute", &[Declared(Roles)]),
+    (b"roleattributeset", &[Name(Roles), Expression(Roles)]),
+    (b"roleallow", &[Name(Roles), Name(Roles)]),
     (
         b"roletransition",
-        &[
-            Part::Name(Table::Roles),
-            Part::Name(Table::Types),
-            Part::Class,
-            Part::Name(Table::Roles),
-        ],
+        &[Name(Roles), Name(Types), Class, Name(Roles)],
     ),
-    (
-        b"rolebounds",
-        &[Part::Name(Table::Roles), Part::Name(Table::Roles)],
-    ),
+    (b"rolebounds", &[Name(Roles), Name(Roles)]),
     // "User Statements"
-    (b"user", &[Part::Declared(Table::Users)]),
-    (b"userattribute", &[Part::Declared(Table::Users)]),
-    (
-        b"userattributeset",
-        &[Part::Name(Table::Users), Part::Expression(Table::Users)],
-    ),
-    (
-        b"userrole",
-        &[Part::Name(Table::Users), Part::Name(Table::Roles)],
-    ),
-    (b"userlevel", &[Part::Name(Table::Users), Part::Level]),
-    (b"userrange", &[Part::Name(Table::Users), Part::Range]),
-    (
-        b"userbounds",
-        &[Part::Name(Table::Users), Part::Name(Table::Users)],
-    ),
-    (b"userprefix", &[Part::Name(Table::Users), Part::Ignored]),
-    (
-        b"selinuxuser",
-        &[Part::Ignored, Part::Name(Table::Users), Part::Range],
-    ),
-    (
-        b"selinuxuserdefault",
-        &[Part::Name(Table::Users), Part::Range],
-    ),
+    (b"user", &[Declared(Users)]),
+    (b"userattribute", &[Declared(Users)]),
+    (b"userattributeset", &[Name(Users), Expression(Users)]),
+    (b"userrole", &[Name(Users), Name(Roles)]),
+    (b"userlevel", &[Name(Users), Level]),
+    (b"userrange", &[Name(Users), Range]),
+    (b"userbounds", &[Name(Users), Name(Users)]),
+    (b"userprefix", &[Name(Users), Ignored]),
+    (b"selinuxuser", &[Ignored, Name(Users), Range]),
+    (b"selinuxuserdefault", &[Name(Users), Range]),
     // "Conditional Statements"
-    (b"boolean", &[Part::Declared(Table::Booleans), Part::Truth]),
-    (b"tunable", &[Part::Declared(Table::Tunables), Part::Truth]),
+    (b"boolean", &[Declared(Booleans), Truth]),
+    (b"tunable", &[Declared(Tunables), Truth]),
     // "Multi-Level Security Labeling Statements"
-    (b"category", &[Part::Declared(Table::Categories)]),
-    (b"categoryalias", &[Part::Declared(Table::Categories)]),
+    (b"category", &[Declared(Categories)]),
+    (b"categoryalias", &[Declared(Categories)]),
     (
         b"categoryaliasactual",
-        &[Part::Name(Table::Categories), Part::Name(Table::Categories)],
+        &[Name(Categories), Name(Categories)],
     ),
-    (b"categoryorder", &[Part::Names(Table::Categories)]),
+    (b"categoryorder", &[Names(Categories)]),
     (
         b"categoryset",
-        &[
-            Part::Declared(Table::Categories),
-            Part::Expression(Table::Categories),
-        ],
+        &[Declared(Categories), Expression(Categories)],
     ),
-    (b"sensitivity", &[Part::Declared(Table::Sensitivities)]),
-    (b"sensitivityalias", &[Part::Declared(Table::Sensitivities)]),
+    (b"sensitivity", &[Declared(Sensitivities)]),
+    (b"sensitivityalias", &[Declared(Sensitivities)]),
     (
         b"sensitivityaliasactual",
-        &[
-            Part::Name(Table::Sensitivities),
-            Part::Name(Table::Sensitivities),
-        ],
+        &[Name(Sensitivities), Name(Sensitivities)],
     ),
-    (b"sensitivityorder", &[Part::Names(Table::Sensitivities)]),
+    (b"sensitivityorder", &[Names(Sensitivities)]),
     (
         b"sensitivitycategory",
-        &[
-            Part::Name(Table::Sensitivities),
-            Part::Expression(Table::Categories),
-        ],
+        &[Name(Sensitivities), Expression(Categories)],
     ),
-    (b"level", &[Part::Declared(Table::Levels), Part::Level]),
-    (b"levelrange", &[Part::Declared(Table::Ranges), Part::Range]),
+    (b"level", &[Declared(Levels), Level]),
+    (b"levelrange", &[Declared(Ranges), Range]),
     (
         b"rangetransition",
-        &[
-            Part::Name(Table::Types),
-            Part::Name(Table::Types),
-            Part::Class,
-            Part::Range,
-        ],
+        &[Name(Types), Name(Types), Class, Range],
     ),
     // "Type Statements"
     (
         b"typetransition",
-        &[
-            Part::Name(Table::Types),
-            Part::Target,
-            Part::Class,
-            Part::Name(Table::Types),
-        ],
+        &[Name(Types), Target, Class, Name(Types)],
     ),
     (
         b"typetransition",
-        &[
-            Part::Name(Table::Types),
-            Part::Target,
-            Part::Class,
-            Part::Ignored,
-            Part::Name(Table::Types),
-        ],
+        &[Name(Types), Target, Class, Ignored, Name(Types)],
     ),
-    (
-        b"typechange",
-        &[
-            Part::Name(Table::Types),
-            Part::Target,
-            Part::Class,
-            Part::Name(Table::Types),
-        ],
-    ),
-    (
-        b"typemember",
-        &[
-            Part::Name(Table::Types),
-            Part::Target,
-            Part::Class,
-            Part::Name(Table::Types),
-        ],
-    ),
-    (b"typepermissive", &[Part::Name(Table::Types)]),
-    (
-        b"typebounds",
-        &[Part::Name(Table::Types), Part::Name(Table::Types)],
-    ),
-    (
-        b"expandtypeattribute",
-        &[Part::Names(Table::Types), Part::Ignored],
-    ),
+    (b"typechange", &[Name(Types), Target, Class, Name(Types)]),
+    (b"typemember", &[Name(Types), Target, Class, Name(Types)]),
+    (b"typepermissive", &[Name(Types)]),
+    (b"typebounds", &[Name(Types), Name(Types)]),
+    (b"expandtypeattribute", &[Names(Types), Ignored]),
     // "Context Statement", "SID Statements"
-    (
-        b"context",
-        &[Part::Declared(Table::Contexts), Part::Context],
-    ),
-    (b"sid", &[Part::Declared(Table::Sids)]),
-    (b"sidorder", &[Part::Names(Table::Sids)]),
-    (b"sidcontext", &[Part::Name(Table::Sids), Part::Context]),
+    (b"context", &[Declared(Contexts), Context]),
+    (b"sid", &[Declared(Sids)]),
+    (b"sidorder", &[Names(Sids)]),
+    (b"sidcontext", &[Name(Sids), Context]),
     // "File Labeling Statements", "Network Labeling Statements", "Infiniband Statements", "Xen Statements"
-    (
-        b"filecon",
-        &[Part::Ignored, Part::Ignored, Part::PerhapsContext],
-    ),
-    (b"fsuse", &[Part::Ignored, Part::Ignored, Part::Context]),
-    (b"genfscon", &[Part::Ignored, Part::Ignored, Part::Context]),
-    (
-        b"genfscon",
-        &[Part::Ignored, Part::Ignored, Part::Ignored, Part::Context],
-    ),
-    (
-        b"ipaddr",
-        &[Part::Declared(Table::Addresses), Part::Ignored],
-    ),
-    (b"netifcon", &[Part::Ignored, Part::Context, Part::Context]),
-    (b"nodecon", &[Part::Address, Part::Address, Part::Context]),
-    (b"portcon", &[Part::Ignored, Part::Ignored, Part::Context]),
-    (b"ibpkeycon", &[Part::Ignored, Part::Ignored, Part::Context]),
-    (
-        b"ibendportcon",
-        &[Part::Ignored, Part::Ignored, Part::Context],
-    ),
-    (b"iomemcon", &[Part::Ignored, Part::Context]),
-    (b"ioportcon", &[Part::Ignored, Part::Context]),
-    (b"pcidevicecon", &[Part::Ignored, Part::Context]),
-    (b"pirqcon", &[Part::Ignored, Part::Context]),
-    (b"devicetreecon", &[Part::Ignored, Part::Context]),
+    (b"filecon", &[Ignored, Ignored, PerhapsContext]),
+    (b"fsuse", &[Ignored, Ignored, Context]),
+    (b"genfscon", &[Ignored, Ignored, Context]),
+    (b"genfscon", &[Ignored, Ignored, Ignored, Context]),
+    (b"ipaddr", &[Declared(Addresses), Ignored]),
+    (b"netifcon", &[Ignored, Context, Context]),
+    (b"nodecon", &[Address, Address, Context]),
+    (b"portcon", &[Ignored, Ignored, Context]),
+    (b"ibpkeycon", &[Ignored, Ignored, Context]),
+    (b"ibendportcon", &[Ignored, Ignored, Context]),
+    (b"iomemcon", &[Ignored, Context]),
+    (b"ioportcon", &[Ignored, Context]),
+    (b"pcidevicecon", &[Ignored, Context]),
+    (b"pirqcon", &[Ignored, Context]),
+    (b"devicetreecon", &[Ignored, Context]),
     // "Policy Configuration Statements"
-    (b"mls", &[Part::Ignored]),
-    (b"handleunknown", &[Part::Ignored]),
-    (b"policycap", &[Part::Ignored]),
+    (b"mls", &[Ignored]),
+    (b"handleunknown", &[Ignored]),
+    (b"policycap", &[Ignored]),
     // "Constraint Statements"
-    (b"constrain", &[Part::ClassPermissions, Part::Constraint]),
-    (b"mlsconstrain", &[Part::ClassPermissions, Part::Constraint]),
-    (b"validatetrans", &[Part::Class, Part::Constraint]),
-    (b"mlsvalidatetrans", &[Part::Class, Part::Constraint]),
+    (b"constrain", &[ClassPermissions, Constraint]),
+    (b"mlsconstrain", &[ClassPermissions, Constraint]),
+    (b"validatetrans", &[Class, Constraint]),
+    (b"mlsvalidatetrans", &[Class, Constraint]),
     // "Default Object Statements"
-    (b"defaultuser", &[Part::Classes, Part::Ignored]),
-    (b"defaultrole", &[Part::Classes, Part::Ignored]),
-    (b"defaulttype", &[Part::Classes, Part::Ignored]),
-    (b"defaultrange", &[Part::Classes, Part::Ignored]),
-    (
-        b"defaultrange",
-        &[Part::Classes, Part::Ignored, Part::Ignored],
-    ),
+    (b"defaultuser", &[Classes, Ignored]),
+    (b"defaultrole", &[Classes, Ignored]),
+    (b"defaulttype", &[Classes, Ignored]),
+    (b"defaultrange", &[Classes, Ignored]),
+    (b"defaultrange", &[Classes, Ignored, Ignored]),
     // "Access Vector Rules" with extended permissions
-    (
-        b"allowx",
-        &[
-            Part::Name(Table::Types),
-            Part::Target,
-            Part::ExtendedPermission,
-        ],
-    ),
-    (
-        b"auditallowx",
-        &[
-            Part::Name(Table::Types),
-            Part::Target,
-            Part::ExtendedPermission,
-        ],
-    ),
-    (
-        b"dontauditx",
-        &[
-            Part::Name(Table::Types),
-            Part::Target,
-            Part::ExtendedPermission,
-        ],
-    ),
-    (
-        b"neverallowx",
-        &[
-            Part::Name(Table::Types),
-            Part::Target,
-            Part::ExtendedPermission,
-        ],
-    ),
+    (b"allowx", &[Name(Types), Target, ExtendedPermission]),
+    (b"auditallowx", &[Name(Types), Target, ExtendedPermission]),
+    (b"dontauditx", &[Name(Types), Target, ExtendedPermission]),
+    (b"neverallowx", &[Name(Types), Target, ExtendedPermission]),
     (
         b"permissionx",
-        &[
-            Part::Declared(Table::ExtendedPermissions),
-            Part::ExtendedPermission,
-        ],
+        &[Declared(ExtendedPermissions), ExtendedPermission],
     ),
 ];
 

@@ -1,4 +1,9 @@
-use Rattle.std.proofs.Common.{◌∙◌, ap, subst, refl, arith, true, false, Some}
+use Rattle.std.proofs.Common.{◌≡◌, ◌∙◌, ℕ, ap, subst, refl, arith, true, false, Some}
+use Rattle.cil_specs.specs.Trees.{Trees}
+use Rattle.cil_reader.specs.declared.place.Place.{Place}
+use Rattle.cil_reader.specs.declared.tree.TreeSlice.{TreeSlice}
+use Rattle.cil_reader.specs.declared.tree.Tree.{Tree}
+use Rattle.cil_reader.specs.declared.tree.Tree.TheVariants as trees
 use Rattle.cil_reader.specs.Common.{trees_of, place_of, tree_then}
 use Rattle.cil_reader.proofs.Nodes.{size_behind}
 use Rattle.cil_projection.specs.Pieces.{pieces_of}
@@ -14,30 +19,27 @@ add_constraints-returns-in_default-tree g t c =
     c.loop-tree.invariant.completes c.loop-tree.pieces.items false
     (no_constraint c.in-Some.tree (trees_of c.loop-tree.rest) (trees_of c.in-Some.behind) c.in-Some.ensures c.in_default-tree.not-List)
 
+-- trees with the list of a constraint in front
+constraint_first : (all rest : Trees) (tree : Tree) (at : Place) (end : ℕ) (items : TreeSlice) → all ≡ tree_then tree rest → tree ≡ trees.List at end items → constraints all ≡ joined (constraint (trees_of items)) (constraints rest)
+constraint_first all rest tree at end items front is = ap constraints (front ∙ ap (λ t. tree_then t rest) is) ∙ constraints_list (place_of at) end (trees_of items) rest
+
 pub add_constraints-returns-then-not-branch : goal.add_constraints-returns-then-not-branch
 add_constraints-returns-then-not-branch g t c =
-    let list = c.in-List in
+    let items = trees_of c.in-List.items in
     let rest = trees_of c.in-Some.behind in
-    let items = trees_of list.items in
-    let front = c.in-Some.ensures ∙ ap (λ tree. tree_then tree rest) list.is in
-    let before = c.loop-tree.pieces.items in
     let middle = c.add_constraint.new.pieces.items in
-    not_begun c.args.pieces.now.items before (constraints (trees_of c.args.trees)) (constraints (trees_of c.loop-tree.rest)) (constraint items) (constraints rest)
-    c.loop-tree.invariant.completes (ap constraints front ∙ constraints_list (place_of list.at) list.end items rest)
-    (subst (λ fits. Adds before middle fits (constraint items)) c.if-not-branch.true c.in_ok-add_constraint.ensures)
+    not_begun c.args.pieces.now.items c.loop-tree.pieces.items (constraints (trees_of c.args.trees)) (constraints (trees_of c.loop-tree.rest)) (constraint items) (constraints rest) c.loop-tree.invariant.completes
+    (constraint_first (trees_of c.loop-tree.rest) rest c.in-Some.tree c.in-List.at c.in-List.end c.in-List.items c.in-Some.ensures c.in-List.is) (subst (λ fits. Adds c.loop-tree.pieces.items middle fits (constraint items)) c.if-not-branch.true c.in_ok-add_constraint.ensures)
 
 pub add_constraints-loop-tree-preserved : goal.add_constraints-loop-tree-preserved
 add_constraints-loop-tree-preserved g t c =
-    let list = c.in-List in
+    let items = trees_of c.in-List.items in
     let rest = trees_of c.in-Some.behind in
-    let items = trees_of list.items in
-    let front = c.in-Some.ensures ∙ ap (λ tree. tree_then tree rest) list.is in
-    let before = c.loop-tree.pieces.items in
     let middle = c.add_constraint.new.pieces.items in
     record {
-      completes = completes_more c.args.pieces.now.items before middle (constraints (trees_of c.args.trees)) (constraints (trees_of c.loop-tree.rest)) (constraint items) (constraints rest)
-          c.loop-tree.invariant.completes (ap constraints front ∙ constraints_list (place_of list.at) list.end items rest)
-          (subst (λ fits. Adds before middle fits (constraint items)) c.if-not-branch.false c.in_ok-add_constraint.ensures);
+      completes = completes_more c.args.pieces.now.items c.loop-tree.pieces.items middle (constraints (trees_of c.args.trees)) (constraints (trees_of c.loop-tree.rest)) (constraint items) (constraints rest) c.loop-tree.invariant.completes
+          (constraint_first (trees_of c.loop-tree.rest) rest c.in-Some.tree c.in-List.at c.in-List.end c.in-List.items c.in-Some.ensures c.in-List.is)
+          (subst (λ fits. Adds c.loop-tree.pieces.items middle fits (constraint items)) c.if-not-branch.false c.in_ok-add_constraint.ensures);
       smaller = omega (arith, c.loop-tree.invariant.smaller, size_behind (trees_of c.loop-tree.rest) c.in-Some.tree rest c.in-Some.ensures);
     }
 

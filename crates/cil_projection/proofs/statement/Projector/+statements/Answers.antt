@@ -13,17 +13,15 @@ pub add_one-returns-in_default : goal.add_one-returns-in_default
 add_one-returns-in_default g t c =
     let from = c.args.span.from in
     let to = c.args.span.to in
-    let settings = settings_of c.args.self.now.booleans.now in
-    let is = without_word_is (copied from to ∷ []) (one_projected settings from to) refl (λ at text more. refl) (λ at end inner more. refl) (trees_of c.args.items) c.in_default.ensures in
-    subst (λ added. OnOk c.add_copied.result (pieces_of c.add_copied.new.pieces.items ≡ pieces_of c.args.pieces.now.items ++ added)) (sym is) c.add_copied.ensures
+    let is = without_word_is (copied from to ∷ []) (one_projected (settings_of c.args.self.now.booleans.now) from to) refl (λ at text more. refl) (λ at end inner more. refl) (trees_of c.args.items) c.in_default.ensures in
+    rw is c.add_copied.ensures
 
 pub add_body-returns-in_default : goal.add_body-returns-in_default
 add_body-returns-in_default g t c =
     let from = c.args.span.from in
     let to = c.args.span.to in
-    let settings = settings_of c.args.self.now.booleans.now in
-    let is = without_word_is (copied from to ∷ []) (body_projected settings from to) refl (λ at text more. refl) (λ at end inner more. refl) (trees_of c.args.arguments) c.in_default.ensures in
-    subst (λ added. OnOk c.add_copied.result (pieces_of c.add_copied.new.pieces.items ≡ pieces_of c.args.pieces.now.items ++ added)) (sym is) c.add_copied.ensures
+    let is = without_word_is (copied from to ∷ []) (body_projected (settings_of c.args.self.now.booleans.now) from to) refl (λ at text more. refl) (λ at end inner more. refl) (trees_of c.args.arguments) c.in_default.ensures in
+    rw is c.add_copied.ensures
 
 pub add_branch-returns-in_default : goal.add_branch-returns-in_default
 add_branch-returns-in_default g t c =
