@@ -1,0 +1,110 @@
+-- Lines of counters that keys name.
+use Rattle.std.specs.Prelude.{◌≡◌, ◌≢◌, ◌+◌, ◌*◌, ◌<◌, ◌≤◌, ◌&&◌, ℕ, Bool, List, length, slice_get, slice_index_or, Some, if◌then◌else◌, Contains, IsTrue}
+use Rattle.std.specs.List.{list_any, IsDistinct}
+use Rattle.cil_keyed_lines.specs.Keyed.{count_by, is_key}
+use Rattle.cil_keyed_lines.specs.declared.symbol_key.SymbolKey.{SymbolKey}
+use Rattle.cil_recorded.specs.Recorded as recorded
+use Rattle.cil_recorded.specs.Recorded.{State, lines_in, HasCount}
+use Rattle.cil_shared_lines.specs.Names.{Naming, name_before, name_now, times, AreLogged}
+use Rattle.cil_shared_lines.specs.declared.named.Named.{Named}
+
+-- the keys by their places, the lines that the places name, and the counters of these
+pub record Shared : Type 0 where
+  pub keys : List SymbolKey
+  pub names : Naming
+  pub lines : State
+
+-- the counter of a target in the line that a place names, now and before the steps
+abbrev pub now_in : Naming → State → ℕ → ℕ → ℕ
+now_in n s p = recorded.count_now s (name_now n p)
+
+abbrev pub before_in : Naming → State → ℕ → ℕ → ℕ
+before_in n s p = recorded.count_before s (name_before n p)
+
+abbrev pub now_at : Shared → ℕ → ℕ → ℕ
+now_at s = now_in s.names s.lines
+
+abbrev pub before_at : Shared → ℕ → ℕ → ℕ
+before_at s = before_in s.names s.lines
+
+-- the counters of a key, now and before the steps; 0 where the key names no line
+abbrev pub count_now : Shared → SymbolKey → ℕ → ℕ
+count_now s = count_by (now_at s) s.keys
+
+abbrev pub count_before : Shared → SymbolKey → ℕ → ℕ
+count_before s = count_by (before_at s) s.keys
+
+-- the number of steps since the last settling, and of the keys that changed their line
+abbrev pub changes_in : Shared → ℕ
+changes_in s = length s.names.log + recorded.steps_in s.lines
+
+-- Each place names a line that there is, or line 0, which has no counter above 0.
+pub record AreLines (n : Naming) (s : State) : Type 0 where
+  pub lines : n.lines ≡ lines_in s
+  pub within : (p : ℕ) → name_now n p ≢ 0 → name_now n p < lines_in s
+  pub past : (p : ℕ) → name_before n p ≢ 0 → name_before n p < lines_in s
+  pub nothing : (t : ℕ) → recorded.count_now s 0 t ≡ 0
+  pub nothing_before : (t : ℕ) → recorded.count_before s 0 t ≡ 0
+
+-- each line but 0 that a place names has a counter above 0
+abbrev pub AreCounted : Naming → State → Type 0
+AreCounted n s = (p : ℕ) → name_now n p ≢ 0 → HasCount s (name_now n p)
+
+-- Before the steps there were so many places and so many lines, and each of these places named a line with a counter above 0.
+pub record AreKept (n : Naming) (s : State) (places lines : ℕ) : Type 0 where
+  pub came : (p : ℕ) → places ≤ p → name_before n p ≡ 0
+  pub within : (p : ℕ) → name_before n p ≢ 0 → name_before n p < lines
+  pub lines : lines ≤ lines_in s
+  pub counted : (p : ℕ) → p < places → (t : ℕ) × (0 < before_in n s p t)
+
+-- the keys, and the lines that their places name
+pub record AreShared (keys : List SymbolKey) (n : Naming) (s : State) (places lines : ℕ) : Type 0 where
+  pub distinct : IsDistinct is_key keys
+  pub len : length n.named ≡ length keys
+  pub places : places ≤ length keys
+  pub lined : AreLines n s
+  pub counted : AreCounted n s
+  pub logged : AreLogged n
+  pub kept : AreKept n s places lines
+
+-- a place with its line, from a list
+abbrev pub named_at : List Named → ℕ → Named
+named_at group i = slice_index_or group i (record { line = 0; place = 0 })
+
+-- Places that name these lines, each once.
+pub record AreNamed (group : List Named) (n : Naming) : Type 0 where
+  pub within : (i : ℕ) → i < length group → (named_at group i).place < length n.named
+  pub name : (i : ℕ) → i < length group → name_now n (named_at group i).place ≡ (named_at group i).line
+  pub once : (p : ℕ) → times group p ≤ 1
+
+-- all of one line
+abbrev pub AreOf : ℕ → List Named → Type 0
+AreOf line group = (i : ℕ) → i < length group → (named_at group i).line ≡ line
+
+-- whether a key is one of a list
+abbrev pub has_key : List SymbolKey → SymbolKey → Bool
+has_key keys k = list_any (is_key k) keys
+
+-- so much for each key of a list, and nothing for others
+unfoldable pub of_keys : List SymbolKey → (ℕ → ℕ) → SymbolKey → ℕ → ℕ
+of_keys keys amount k t = if has_key keys k then amount t else 0
+
+-- the counters move from one amount to another
+abbrev pub AreMoved : Shared → Shared → (was is : SymbolKey → ℕ → ℕ) → Type 0
+AreMoved old new was is = (k : SymbolKey) (t : ℕ) → count_now new k t + was k t ≡ count_now old k t + is k t
+
+-- no counter rises by more than this
+abbrev pub RiseAtMost : Shared → Shared → (SymbolKey → ℕ → ℕ) → Type 0
+RiseAtMost old new most = (k : SymbolKey) (t : ℕ) → count_now new k t ≤ count_now old k t + most k t
+
+-- each counter stays
+abbrev pub Stays : Shared → Shared → Type 0
+Stays old new = (k : SymbolKey) (t : ℕ) → count_now new k t ≡ count_now old k t
+
+-- each counter as it was before the steps stays
+abbrev pub StaysBefore : Shared → Shared → Type 0
+StaysBefore old new = (k : SymbolKey) (t : ℕ) → count_before new k t ≡ count_before old k t
+
+-- each place has a counter above 0
+abbrev pub AllCounted : Shared → Type 0
+AllCounted s = (i : ℕ) → i < length s.keys → (t : ℕ) × (0 < now_at s i t)

@@ -1,0 +1,13 @@
+//! Lines of counters that keys share, changed in steps that can be taken back.
+#![tactic(auto)]
+
+mod group;
+mod line_moves;
+mod moved;
+mod named;
+mod names;
+mod reach;
+mod shared_lines;
+
+pub use moved::Moved;
+pub use shared_lines::SharedLines;
