@@ -1,6 +1,6 @@
 -- Lines of counters that keys name.
 use Rattle.std.specs.Prelude.{◌≡◌, ◌≢◌, ◌+◌, ◌*◌, ◌<◌, ◌≤◌, ◌&&◌, ℕ, Bool, List, length, slice_get, slice_index_or, Some, if◌then◌else◌, Contains, IsTrue}
-use Rattle.std.specs.List.{list_any, IsDistinct}
+use Rattle.std.specs.List.{list_any, All, IsDistinct}
 use Rattle.cil_keyed_lines.specs.Keyed.{count_by, is_key}
 use Rattle.cil_keyed_lines.specs.declared.symbol_key.SymbolKey.{SymbolKey}
 use Rattle.cil_recorded.specs.Recorded as recorded
@@ -40,7 +40,7 @@ changes_in s = length s.names.log + recorded.steps_in s.lines
 
 -- Each place names a line that there is, or line 0, which has no counter above 0.
 pub record AreLines (n : Naming) (s : State) : Type 0 where
-  pub lines : n.lines ≡ lines_in s
+  pub lines : lines_in s ≤ n.lines
   pub within : (p : ℕ) → name_now n p ≢ 0 → name_now n p < lines_in s
   pub past : (p : ℕ) → name_before n p ≢ 0 → name_before n p < lines_in s
   pub nothing : (t : ℕ) → recorded.count_now s 0 t ≡ 0
@@ -71,15 +71,18 @@ pub record AreShared (keys : List SymbolKey) (n : Naming) (s : State) (places li
 abbrev pub named_at : List Named → ℕ → Named
 named_at group i = slice_index_or group i (record { line = 0; place = 0 })
 
--- Places that name these lines, each once.
+-- a place of so many, which names its line
+abbrev pub Names : Naming → Named → Type 0
+Names n x = (x.place < length n.named) × (name_now n x.place ≡ x.line)
+
+-- places that name these lines, each once
 pub record AreNamed (group : List Named) (n : Naming) : Type 0 where
-  pub within : (i : ℕ) → i < length group → (named_at group i).place < length n.named
-  pub name : (i : ℕ) → i < length group → name_now n (named_at group i).place ≡ (named_at group i).line
+  pub named : All (Names n) group
   pub once : (p : ℕ) → times group p ≤ 1
 
 -- all of one line
 abbrev pub AreOf : ℕ → List Named → Type 0
-AreOf line group = (i : ℕ) → i < length group → (named_at group i).line ≡ line
+AreOf line group = All (λ x. x.line ≡ line) group
 
 -- whether a key is one of a list
 abbrev pub has_key : List SymbolKey → SymbolKey → Bool

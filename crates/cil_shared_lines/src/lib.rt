@@ -7,7 +7,5 @@ mod moved;
 mod named;
 mod names;
 mod reach;
-mod shared_lines;
 
 pub use moved::Moved;
-pub use shared_lines::SharedLines;

@@ -1,6 +1,6 @@
 //! The lines that places name.
 
-ghost use Rattle.std.specs.Prelude.{◌≡◌, ◌≢◌, ◌↔◌, ◌+◌, ◌<◌, ◌≤◌, ◌==◌, ◌++◌, ◌∷◌, [], ℕ, true, length, set, slice_index, vec_capacity, vec_len, if◌then◌else◌, IsTrue, OnErr, OnOk};
+ghost use Rattle.std.specs.Prelude.{◌≡◌, ◌≢◌, ◌↔◌, ◌+◌, ◌<◌, ◌≤◌, ◌==◌, ◌++◌, ◌∷◌, [], ℕ, true, length, min, set, slice_index, vec_capacity, vec_len, if◌then◌else◌, IsTrue, OnErr, OnOk};
 ghost use Rattle.cil_shared_lines.specs.Names.{has_place, name_before, name_now, one_if, uses, AreLogged};
 
 use std::alloc::{AllocError, Allocator, Global};
@@ -157,15 +157,18 @@ impl<A: Allocator> Names<A> {
         Ok(())
     }
 
-    /// Puts in a line behind the others, that no place names.
-    pub fn put_line(&mut self) -> Result<(), AllocError>
-        ensures ok { OnOk result (self.new.lines ≡ self.old.lines + 1) }
-        ensures err { OnErr result (self.new.lines ≡ self.old.lines) }
+    /// Lets a line be named that may be the first behind the others.
+    pub fn make_line(&mut self, line: usize) -> Result<(), AllocError>
+        requires { line ≤ self.old.lines }
+        ensures ok { OnOk result (line < self.new.lines) }
+        ensures lines { self.old.lines ≤ self.new.lines }
         ensures named { self.new.named ≡ self.old.named }
         ensures log { self.new.log ≡ self.old.log }
         ensures room { self.new.room ≡ self.old.room }
     {
-        self.users.push(0)?;
+        if line == self.users.len() {
+            self.users.push(0)?;
+        }
         Ok(())
     }
 
@@ -235,9 +238,8 @@ impl<A: Allocator> Names<A> {
         requires places { (p : ℕ) → places ≤ p → name_now self.old p ≡ 0 }
         requires lines { (p : ℕ) → name_now self.old p ≢ 0 → name_now self.old p < lines }
         requires have_places { places ≤ length self.old.named }
-        requires have_lines { lines ≤ self.old.lines }
         ensures len { length self.new.named ≡ places }
-        ensures lines { self.new.lines ≡ lines }
+        ensures lines { self.new.lines ≡ min lines self.old.lines }
         ensures log { self.new.log ≡ [] }
         ensures now { (p : ℕ) → name_now self.new p ≡ name_now self.old p }
     {
@@ -259,20 +261,14 @@ impl<A: Allocator> Names<A> {
         self.named.swap_remove(place);
     }
 
-    /// Takes out the last line if no place names it, and answers whether it did. Line 0 stays.
-    pub fn give_up_last(&mut self) -> bool
-        requires settled { self.old.log ≡ [] }
-        ensures lines { self.old.lines ≡ self.new.lines + one_if result }
-        ensures unnamed { result ≡ true → (p : ℕ) → name_now self.old p ≢ self.new.lines }
-        ensures zero { result ≡ true → self.new.lines ≢ 0 }
-        ensures named { self.new.named ≡ self.old.named }
-        ensures log { self.new.log ≡ [] }
+    /// A line from which on none is named, or 1.
+    pub fn end(&self) -> usize
+        ensures { (p : ℕ) → name_now self.now p ≢ 0 → name_now self.now p < result }
     {
-        let last = self.users.len().saturating_sub(1);
-        if last == 0 || self.users[last] != 0 {
-            return false;
+        let mut end = self.users.len();
+        while end > 1 && self.users[end - 1] == 0 {
+            end -= 1;
         }
-        self.users.pop();
-        true
+        end
     }
 }
