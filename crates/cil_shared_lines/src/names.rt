@@ -1,6 +1,6 @@
 //! The lines that places name.
 
-ghost use Rattle.std.specs.Prelude.{◌≡◌, ◌≢◌, ◌↔◌, ◌+◌, ◌<◌, ◌≤◌, ◌==◌, ◌++◌, ◌∷◌, [], ℕ, true, length, min, set, slice_index, vec_capacity, vec_len, if◌then◌else◌, IsTrue, OnErr, OnOk};
+ghost use Rattle.std.specs.Prelude.{◌≡◌, ◌≢◌, ◌↔◌, ◌+◌, ◌<◌, ◌≤◌, ◌==◌, ◌^◌, ◌++◌, ◌∷◌, [], ℕ, true, length, min, set, slice_index, vec_capacity, vec_len, if◌then◌else◌, IsTrue, OnErr, OnOk};
 ghost use Rattle.cil_shared_lines.specs.Names.{has_place, name_before, name_now, one_if, uses, AreLogged};
 
 use std::alloc::{AllocError, Allocator, Global};
@@ -40,7 +40,7 @@ fn leave<A: Allocator>(users: &mut Vec<usize, A>, line: usize)
 /// A place names a line from now on.
 fn join<A: Allocator>(users: &mut Vec<usize, A>, line: usize)
     requires line { line ≢ 0 → line < length users.old.items }
-    requires fits { slice_index users.old.items line < 2 ^ 63 }
+    requires fits { line ≢ 0 → slice_index users.old.items line < 2 ^ 63 }
     ensures len { length users.new.items ≡ length users.old.items }
     ensures users { (l : ℕ) → l ≢ 0 → slice_index users.new.items l ≡ slice_index users.old.items l + one_if (line == l) }
 {
