@@ -6,3 +6,12 @@ pub use Rattle.std.proofs.Common.{Bool, Err, IfSome, List, MatchOption, None, Ok
 pub use Rattle.std.proofs.lemmas.Bool.{cases_eq, cases_lt, ne_eqb}
 pub use Rattle.std.specs.List.{All, IsDistinct, list_any, swap_remove}
 pub use Rattle.std.specs.Prelude.{slice_index, sum_by}
+pub use Rattle.cil_lines.specs.Limit.{CanLower, CanRaise}
+pub use Rattle.cil_lines.specs.Line.{hit}
+pub use Rattle.cil_recorded.specs.Log.{hit_at}
+pub use Rattle.cil_recorded.specs.Recorded.{HasCount, State, count_before, count_now, limit_now, lines_in, spare, steps_in}
+pub use Rattle.cil_recorded.proofs.LogLemmas.{hit_in, hit_nothing, hit_off}
+pub use Rattle.cil_shared_lines.specs.Moves.{AreMoves, HasRoomFrom, HasRoomTo, came, move_at, ones_of, went}
+unfoldable pub use Rattle.cil_shared_lines.specs.Moves.{in_line}
+pub use Rattle.cil_shared_lines.specs.declared.moved.Moved.{Moved}
+pub use Rattle.cil_shared_lines.specs.Shared.{AreCounted, AreLines, AreNamed, AreOf, Names, before_in, named_at, now_in}

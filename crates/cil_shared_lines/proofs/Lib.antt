@@ -1,2 +1,4 @@
 pub mod Common
 pub mod NameLemmas
+pub mod MoveLemmas
+pub mod ReachLemmas
