@@ -15,3 +15,8 @@ pub use Rattle.cil_shared_lines.specs.Moves.{AreMoves, HasRoomFrom, HasRoomTo, c
 unfoldable pub use Rattle.cil_shared_lines.specs.Moves.{in_line}
 pub use Rattle.cil_shared_lines.specs.declared.moved.Moved.{Moved}
 pub use Rattle.cil_shared_lines.specs.Shared.{AreCounted, AreLines, AreNamed, AreOf, Names, before_in, named_at, now_in}
+pub use Rattle.cil_keyed_lines.specs.Keyed.{AreAmong, is_key, with_key}
+unfoldable pub use Rattle.cil_keyed_lines.specs.Keyed.{count_by}
+pub use Rattle.cil_keyed_lines.specs.declared.symbol_key.SymbolKey.{SymbolKey}
+pub use Rattle.cil_shared_lines.specs.Shared.{AreKept, ArePaired, AreShared, AreTaken, has_key, index_of, listed}
+unfoldable pub use Rattle.cil_shared_lines.specs.Shared.{of_keys}

@@ -10,7 +10,7 @@ use Rattle.std.proofs.lemmas.List.Sums.{get_or-le-sum_by, sum_by-append, sum_by-
 
 -- ---- how many places name a line
 
-one_most : (b : Bool) → one_if b ≤ 1
+pub one_most : (b : Bool) → one_if b ≤ 1
 one_most true = omega arith
 one_most false = omega arith
 

@@ -125,13 +125,13 @@ logged_renamed old new place line len step here more are p within none = elim (c
 -- more lines, and the same names
 pub lines_kept : (n n' : Naming) (s s' : State) → AreLines n s → lines_in s' ≤ n'.lines → lines_in s ≤ lines_in s' → ((p : ℕ) → name_now n' p ≡ name_now n p)
     → ((p : ℕ) → name_before n' p ≡ name_before n p) → ((t : ℕ) → count_now s' 0 t ≡ count_now s 0 t) → ((t : ℕ) → count_before s' 0 t ≡ count_before s 0 t) → AreLines n' s'
-lines_kept n n' s s' are lines more now before zero zero_before =
+lines_kept n n' s s' are lines more now before none none_before =
     record {
       lines = lines;
       within = λ p some. omega (arith, now p, are.within p (λ e. some (now p ∙ e)), more);
       past = λ p some. omega (arith, before p, are.past p (λ e. some (before p ∙ e)), more);
-      nothing = λ t. zero t ∙ are.nothing t;
-      nothing_before = λ t. zero_before t ∙ are.nothing_before t;
+      nothing = λ t. none t ∙ are.nothing t;
+      nothing_before = λ t. none_before t ∙ are.nothing_before t;
     }
 
 -- the places of a group name a line of its own

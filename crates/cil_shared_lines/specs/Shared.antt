@@ -1,11 +1,11 @@
 -- Lines of counters that keys name.
-use Rattle.std.specs.Prelude.{◌≡◌, ◌≢◌, ◌+◌, ◌*◌, ◌<◌, ◌≤◌, ◌&&◌, ℕ, Bool, List, length, slice_get, slice_index_or, Some, if◌then◌else◌, Contains, IsTrue}
-use Rattle.std.specs.List.{list_any, All, IsDistinct}
-use Rattle.cil_keyed_lines.specs.Keyed.{count_by, is_key}
+use Rattle.std.specs.Prelude.{◌≡◌, ◌≢◌, ◌+◌, ◌*◌, ◌<◌, ◌≤◌, ◌&&◌, ℕ, Bool, List, [], length, slice_get, slice_index_or, sum_by, Some, if◌then◌else◌, Contains, IsTrue}
+use Rattle.std.specs.List.{list_any, position_or_len, All, IsDistinct}
+use Rattle.cil_keyed_lines.specs.Keyed.{count_by, is_key, AreAmong}
 use Rattle.cil_keyed_lines.specs.declared.symbol_key.SymbolKey.{SymbolKey}
 use Rattle.cil_recorded.specs.Recorded as recorded
 use Rattle.cil_recorded.specs.Recorded.{State, lines_in, HasCount}
-use Rattle.cil_shared_lines.specs.Names.{Naming, name_before, name_now, times, AreLogged}
+use Rattle.cil_shared_lines.specs.Names.{Naming, name_before, name_now, one_if, times, AreLogged}
 use Rattle.cil_shared_lines.specs.declared.named.Named.{Named}
 
 -- the keys by their places, the lines that the places name, and the counters of these
@@ -54,14 +54,14 @@ AreCounted n s = (p : ℕ) → name_now n p ≢ 0 → HasCount s (name_now n p)
 pub record AreKept (n : Naming) (s : State) (places lines : ℕ) : Type 0 where
   pub came : (p : ℕ) → places ≤ p → name_before n p ≡ 0
   pub within : (p : ℕ) → name_before n p ≢ 0 → name_before n p < lines
-  pub lines : lines ≤ lines_in s
+  pub there : lines ≤ lines_in s
   pub counted : (p : ℕ) → p < places → (t : ℕ) × (0 < before_in n s p t)
 
 -- the keys, and the lines that their places name
 pub record AreShared (keys : List SymbolKey) (n : Naming) (s : State) (places lines : ℕ) : Type 0 where
   pub distinct : IsDistinct is_key keys
   pub len : length n.named ≡ length keys
-  pub places : places ≤ length keys
+  pub there : places ≤ length keys
   pub lined : AreLines n s
   pub counted : AreCounted n s
   pub logged : AreLogged n
@@ -70,6 +70,20 @@ pub record AreShared (keys : List SymbolKey) (n : Naming) (s : State) (places li
 -- a place with its line, from a list
 abbrev pub named_at : List Named → ℕ → Named
 named_at group i = slice_index_or group i (record { line = 0; place = 0 })
+
+-- the keys of the places, where no change is logged
+pub record ArePaired (keys : List SymbolKey) (n : Naming) : Type 0 where
+  pub distinct : IsDistinct is_key keys
+  pub len : length n.named ≡ length keys
+  pub settled : n.log ≡ []
+
+-- Keys that name no line are taken out: the others name theirs.
+pub record AreTaken (keys : List SymbolKey) (n : Naming) (keys' : List SymbolKey) (n' : Naming) : Type 0 where
+  pub among : AreAmong keys' keys
+  pub lines : n'.lines ≡ n.lines
+  pub from : (p : ℕ) → name_now n' p ≢ 0 → (q : ℕ) × (name_now n q ≡ name_now n' p)
+  pub counts : (f : ℕ → ℕ → ℕ) → ((t : ℕ) → f 0 t ≡ 0) → (k : SymbolKey) (t : ℕ)
+      → count_by (λ p. f (name_now n' p)) keys' k t ≡ count_by (λ p. f (name_now n p)) keys k t
 
 -- a place of so many, which names its line
 abbrev pub Names : Naming → Named → Type 0
@@ -87,6 +101,14 @@ AreOf line group = All (λ x. x.line ≡ line) group
 -- whether a key is one of a list
 abbrev pub has_key : List SymbolKey → SymbolKey → Bool
 has_key keys k = list_any (is_key k) keys
+
+-- how often it is there
+abbrev pub listed : List SymbolKey → SymbolKey → ℕ
+listed keys k = sum_by (λ x. one_if (is_key k x)) keys
+
+-- the place of a key, or how many there are where it is none of them
+abbrev pub index_of : List SymbolKey → SymbolKey → ℕ
+index_of keys k = position_or_len (is_key k) keys
 
 -- so much for each key of a list, and nothing for others
 unfoldable pub of_keys : List SymbolKey → (ℕ → ℕ) → SymbolKey → ℕ → ℕ
@@ -108,6 +130,22 @@ Stays old new = (k : SymbolKey) (t : ℕ) → count_now new k t ≡ count_now ol
 abbrev pub StaysBefore : Shared → Shared → Type 0
 StaysBefore old new = (k : SymbolKey) (t : ℕ) → count_before new k t ≡ count_before old k t
 
--- each place has a counter above 0
+-- each key has a counter above 0
 abbrev pub AllCounted : Shared → Type 0
 AllCounted s = (i : ℕ) → i < length s.keys → (t : ℕ) × (0 < now_at s i t)
+
+-- a place is that of a key
+pub record IsPlaceOf (s : Shared) (i : ℕ) (key : SymbolKey) : Type 0 where
+  pub at : slice_get s.keys i ≡ Some key
+  pub now : (t : ℕ) → now_at s i t ≡ count_now s key t
+  pub before : (t : ℕ) → before_at s i t ≡ count_before s key t
+
+-- the place is behind those of all keys
+pub record IsNoPlace (s : Shared) (i : ℕ) : Type 0 where
+  pub behind : length s.keys ≤ i
+  pub now : (t : ℕ) → now_at s i t ≡ 0
+  pub before : (t : ℕ) → before_at s i t ≡ 0
+
+-- no counter of the key is above 0
+abbrev pub NoneCounted : Shared → SymbolKey → Type 0
+NoneCounted s key = (t : ℕ) → (count_now s key t ≡ 0) × (count_before s key t ≡ 0)

@@ -53,8 +53,9 @@ pub fn move_group<A: Allocator + Copy>(
 {
     let line = reach(names, lines, alloc, group, moved)?;
     move_line(lines, line, moved);
-    if lines.is_clear(line, near(moved)) {
-        rename_all(names, group, 0);
+    if !lines.is_clear(line, near(moved)) {
+        return Ok(());
     }
+    rename_all(names, group, 0);
     Ok(())
 }
