@@ -2,11 +2,11 @@
 use Rattle.cil_shared_lines.proofs.Common.{All, AreCounted, AreKept, AreLines, AreLogged, AreNamed, AreShared, Bool, List, Named, Names, Naming, None, Option, Some, State, SymbolKey, [], ap, arith, before_in, cases_eq, cases_lt, cond, count_before, count_by, count_now, eq-eqb, eqb-true, false, get_or, has_key, if◌then◌else◌, index_of, inl, inr, is_key, length, lines_in, list_any, listed, name_before, name_now, nat_lt, now_in, of_keys, one_if, position, refl, reverse, slice_get, slice_index, sum_by, subst, suc, sym, take, times, true, true≢false, unnamed, with_key, zero, ℕ, ◌*◌, ◌++◌, ◌+◌, ◌-◌, ◌<◌, ◌==◌, ◌||◌, ◌∙◌, ◌∷◌, ◌≡◌, ◌≢◌, ◌≤◌}
 use Rattle.cil_shared_lines.proofs.NameLemmas.{one_most, one_other, one_same}
 use Rattle.cil_shared_lines.proofs.ReachLemmas.{lines_kept}
-use Rattle.cil_keyed_lines.proofs.KeyedLemmas.{no_key, one_key, placed_at}
+use Rattle.cil_keyed_lines.proofs.KeyedLemmas.{count_reached, count_same, no_key, one_key, placed_at, places_grown}
 use Rattle.std.specs.List.{AllByRecursion, IsDistinct, position_or_len}
 use Rattle.std.specs.Option.{option_map_or}
 use Rattle.std.proofs.lemmas.Bool.{ltb-false, lt-ltb}
-use Rattle.std.proofs.lemmas.List.{get_or_past}
+use Rattle.std.proofs.lemmas.List.{get_or_past, length-append}
 use Rattle.std.proofs.lemmas.List.Folds.{position_or_len_push}
 use Rattle.std.proofs.lemmas.List.Quantifiers.{position-Some}
 use Rattle.std.proofs.lemmas.List.Sums.{position_or_len_is, sum_by-cons, sum_by_more, sum_by_push}
@@ -162,6 +162,38 @@ shared_names keys keys' n n' s a b are distinct len more lines now before logged
       };
     }
 
+-- a key comes, or none
+module _ (keys keys' : List SymbolKey) (n n' : Naming) (s : State) (a b : ℕ) (are : AreShared keys n s a b) (now : (p : ℕ) → name_now n' p ≡ name_now n p)
+    (before : (p : ℕ) → name_before n' p ≡ name_before n p) where
+  same_now : (p t : ℕ) → now_in n' s p t ≡ now_in n s p t
+  same_now p t = ap (λ l. count_now s l t) (now p)
+
+  same_before : (p t : ℕ) → before_in n' s p t ≡ before_in n s p t
+  same_before p t = ap (λ l. count_before s l t) (before p)
+
+  pub stays_grown : (key : SymbolKey) → keys' ≡ with_key keys key → (k : SymbolKey) (t : ℕ) → count_by (now_in n' s) keys' k t ≡ count_by (now_in n s) keys k t
+  stays_grown key grown = count_reached (now_in n s) (now_in n' s) keys keys' key grown same_now (now_past keys n s a b are)
+
+  pub before_grown : (key : SymbolKey) → keys' ≡ with_key keys key → (k : SymbolKey) (t : ℕ) → count_by (before_in n' s) keys' k t ≡ count_by (before_in n s) keys k t
+  before_grown key grown = count_reached (before_in n s) (before_in n' s) keys keys' key grown same_before (before_past keys n s a b are)
+
+  pub stays_kept : keys' ≡ keys → (k : SymbolKey) (t : ℕ) → count_by (now_in n' s) keys' k t ≡ count_by (now_in n s) keys k t
+  stays_kept kept k t = ap (λ l. count_by (now_in n' s) l k t) kept ∙ count_same (now_in n s) (now_in n' s) keys same_now k t
+
+  pub before_kept : keys' ≡ keys → (k : SymbolKey) (t : ℕ) → count_by (before_in n' s) keys' k t ≡ count_by (before_in n s) keys k t
+  before_kept kept k t = ap (λ l. count_by (before_in n' s) l k t) kept ∙ count_same (before_in n s) (before_in n' s) keys same_before k t
+
+-- a key that comes makes the keys one more
+pub grown_len : (keys keys' : List SymbolKey) (key : SymbolKey) → list_any (is_key key) keys ≡ false → keys' ≡ with_key keys key → length keys' ≡ length keys + 1
+grown_len keys keys' key new grown =
+    ap length (grown ∙ ap (λ b. if b then keys else keys ++ key ∷ []) new) ∙ length-append keys (key ∷ [])
+
+pub places_kept : (keys keys' : List SymbolKey) → keys' ≡ keys → (i : ℕ) (k : SymbolKey) → slice_get keys i ≡ Some k → slice_get keys' i ≡ Some k
+places_kept keys keys' kept i k at = ap (λ l. slice_get l i) kept ∙ at
+
+pub places_more : (keys keys' : List SymbolKey) (key : SymbolKey) → keys' ≡ with_key keys key → (i : ℕ) (k : SymbolKey) → slice_get keys i ≡ Some k → slice_get keys' i ≡ Some k
+places_more keys keys' key grown i k at = ap (λ l. slice_get l i) grown ∙ places_grown keys key i k at
+
 -- counters move
 module _ (keys : List SymbolKey) (n n' : Naming) (s s' : State) (a b : ℕ) (are : AreShared keys n s a b) (lined : AreLines n' s') (more : lines_in s ≤ lines_in s')
     (names_before : (p : ℕ) → name_before n' p ≡ name_before n p) (before : (l t : ℕ) → l < lines_in s → count_before s' l t ≡ count_before s l t) where
@@ -221,16 +253,16 @@ shared_none keys n s distinct none named log lines len now before =
     nothing_before p = ap (λ l. unnamed (reverse l) (slice_index n.named) p) log ∙ nothing p
 
 -- a place that a further key of a list has
-pub times_key : (v : List Named) (keys keys' list : List SymbolKey) (key : SymbolKey) (i line place : ℕ) → All (λ x. x.place < length keys) v → keys' ≡ with_key keys key
-    → position (is_key key) keys' ≡ Some place → i < length list → key ≡ get_or list i no_key → ((k : SymbolKey) → times v (index_of keys k) ≡ listed (take i list) k)
+pub times_key : (v : List Named) (keys keys' list : List SymbolKey) (key d : SymbolKey) (i line place : ℕ) → All (λ x. x.place < length keys) v → keys' ≡ with_key keys key
+    → position (is_key key) keys' ≡ Some place → i < length list → key ≡ get_or list i d → ((k : SymbolKey) → times v (index_of keys k) ≡ listed (take i list) k)
     → (k : SymbolKey) → times (v ++ record { line = line; place = place } ∷ []) (index_of keys' k) ≡ listed (take (i + 1) list) k
-times_key v keys keys' list key i line place within grown at less is so_far k =
+times_key v keys keys' list key d i line place within grown at less is so_far k =
     omega (
       arith,
       sum_by_push (λ (x : Named). one_if (x.place == index_of keys' k)) v (record { line = line; place = place }),
       ap (λ l. times v (index_of l k)) grown ∙ times_grown v keys key within k,
       same_place keys' key k place at ∙ ap (λ x. one_if (is_key k x)) is,
-      sum_by_more (λ x. one_if (is_key k x)) list i no_key less,
+      sum_by_more (λ x. one_if (is_key k x)) list i d less,
       so_far k,
     )
 

@@ -75,26 +75,6 @@ module _ (places group : List Named) (from r : ℕ) (is : group ≡ take r (drop
     pub names_run : (n' : Naming) → ((p : ℕ) → times group p ≡ 0 → name_now n' p ≡ name_now n p) → (p : ℕ) → times (take (from + r) places) p ≡ 0 → name_now n' p ≡ name_now n0 p
     names_run n' step p none = step p (omega (arith, none, times_group p)) ∙ others p (omega (arith, none, times_group p))
 
--- no counter rises by more than what comes
-bounded_mid : (a b k m w c : ℕ) → a + k * w ≡ b + k * c → k ≤ m → m ≤ 1 → a ≤ b + m * c
-bounded_mid a b 0 m w c sum less most = omega (arith, sum)
-bounded_mid a b (suc k) m w c sum less most =
-    let one : m ≡ 1 = omega (arith, less, most) in
-    let none : k ≡ 0 = omega (arith, less, most) in
-    let all : m * c ≡ 1 * c = ap (λ n. n * c) one in
-    let some : suc k * c ≡ 1 * c = ap (λ n. suc n * c) none in
-    sums (suc k * w) (suc k * c) (m * c) (omega (arith, some)) (omega (arith, all)) sum
-  where
-    sums : (x y z : ℕ) → y ≡ c → z ≡ c → a + x ≡ b + y → a ≤ b + z
-    sums x y z y_is z_is e = omega (arith, y_is, z_is, e)
-
-pub bounded_run : (places : List Named) (from : ℕ) (n0 n : Naming) (s0 s : State) (moved : List Moved) → AreNamed places n0
-    → ((p t : ℕ) → now_in n s p t + times (take from places) p * went moved t ≡ now_in n0 s0 p t + times (take from places) p * came moved t)
-    → (p t : ℕ) → now_in n s p t ≤ now_in n0 s0 p t + times places p * came moved t
-bounded_run places from n0 n s0 s moved named so_far p t =
-    bounded_mid (now_in n s p t) (now_in n0 s0 p t) (times (take from places) p) (times places p) (went moved t) (came moved t) (so_far p t)
-    (sum_by-take-le (λ (x : Named). one_if (x.place == p)) places from) (named.once p)
-
 -- the places of a run are all of one line
 pub of_run : (rest group : List Named) (r : ℕ) → group ≡ take r rest → 0 < r → AreOf (named_at rest 0).line (take r rest) → AreOf (named_at group 0).line group
 of_run rest group r is some of =

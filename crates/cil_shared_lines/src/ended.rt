@@ -3,7 +3,7 @@
 ghost use Rattle.std.specs.Prelude.{◌≡◌, ◌≢◌, ◌<◌, ◌≤◌, [], ℕ, length, take, true};
 ghost use Rattle.cil_keyed_lines.specs.Keyed.{count_by};
 ghost use Rattle.cil_keyed_lines.specs.declared.symbol_key.SymbolKey.{SymbolKey};
-ghost use Rattle.cil_recorded.specs.Recorded.{count_now, steps_in};
+ghost use Rattle.cil_recorded.specs.Recorded.{lines_in, steps_in};
 ghost use Rattle.cil_shared_lines.specs.Names.{has_place, name_now};
 ghost use Rattle.cil_shared_lines.specs.Shared.{now_in, AreCounted, AreLines, ArePaired, AreShared, AreTaken};
 
@@ -69,14 +69,13 @@ pub fn take_out_unnamed<A: Allocator>(
     }
 }
 
-/// Takes out the keys from a place on, which name no line, and the lines behind the last that a key names. It answers how
-/// many lines are left.
+/// Takes out the keys from a place on, which name no line, and the lines behind the last that a key names.
 pub fn cut<A: Allocator>(
     keys: &mut IndexSet<SymbolKey, BuildHasherDefault<FoldHasher>, A>,
     names: &mut Names<A>,
     lines: &mut RecordedLines<A>,
     places: usize,
-) -> usize
+)
     requires paired { ArePaired keys.old.keys names.old }
     requires settled { steps_in lines.old ≡ 0 }
     requires lined { AreLines names.old lines.old }
@@ -84,7 +83,7 @@ pub fn cut<A: Allocator>(
     requires have { places ≤ length keys.old.keys }
     requires named { (p : ℕ) → p < places → name_now names.old p ≢ 0 }
     requires rest { (p : ℕ) → places ≤ p → name_now names.old p ≡ 0 }
-    ensures shared { AreShared keys.new.keys names.new lines.new places result }
+    ensures shared { AreShared keys.new.keys names.new lines.new places (lines_in lines.new) }
     ensures keys { keys.new.keys ≡ take places keys.old.keys }
     ensures log { names.new.log ≡ [] }
     ensures steps { steps_in lines.new ≡ 0 }
@@ -94,5 +93,4 @@ pub fn cut<A: Allocator>(
     keys.truncate(places);
     names.cut(places, end);
     lines.truncate(end);
-    lines.len()
 }

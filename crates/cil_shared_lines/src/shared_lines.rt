@@ -7,7 +7,7 @@ ghost use Rattle.indexmap.specs.IndexSet.{spare};
 ghost use Rattle.cil_keyed_lines.specs.Keyed.{is_key, with_key, AreAmong};
 ghost use Rattle.cil_lines.specs.Line.{IsPresence, IsNextPresent, NonePresent};
 ghost use Rattle.cil_shared_lines.specs.Moves.{came, ones_of, went, AreMoves};
-ghost use Rattle.cil_shared_lines.specs.Names.{name_now, times};
+ghost use Rattle.cil_shared_lines.specs.Names.{name_before, name_now, times, AreLogged};
 ghost use Rattle.cil_shared_lines.specs.Shared.{before_at, changes_in, count_before, count_now, index_of, listed, now_at, of_keys, AllCounted, AreMoved, AreNamed, IsNoPlace, IsPlaceOf, NoneCounted, RiseAtMost, Stays, StaysBefore};
 
 use crate::ended::{cut, take_out_unnamed};
@@ -35,19 +35,44 @@ fn moved_counters(keys: usize, moved: &[Moved]) -> u128
     ones.saturating_mul(keys as u128)
 }
 
-/// Puts in a key where there is room for it.
+/// Puts in a key where there is room for it, and answers its place.
 fn insert<A: Allocator>(
     keys: &mut IndexSet<SymbolKey, BuildHasherDefault<FoldHasher>, A>,
     key: SymbolKey,
-)
+) -> usize
     requires { 0 < spare keys.old }
     ensures keys { keys.new.keys ≡ with_key keys.old.keys key }
     ensures distinct { IsDistinct is_key keys.new.keys }
 {
     match keys.insert_full(key) {
-        Ok(_) => {}
+        Ok((place, _)) => place,
         Err(_) => unreachable!("there is room for the key"),
     }
+}
+
+/// Puts in a key that has no place, and its place behind the others. It names line 0.
+fn put_key<A: Allocator>(
+    keys: &mut IndexSet<SymbolKey, BuildHasherDefault<FoldHasher>, A>,
+    names: &mut Names<A>,
+    key: SymbolKey,
+) -> Result<(), AllocError>
+    requires new { list_any (is_key key) keys.old.keys ≡ false }
+    requires distinct { IsDistinct is_key keys.old.keys }
+    requires len { length names.old.named ≡ length keys.old.keys }
+    ensures ok { OnOk result (keys.new.keys ≡ with_key keys.old.keys key) }
+    ensures err { OnErr result (keys.new.keys ≡ keys.old.keys) }
+    ensures distinct { IsDistinct is_key keys.new.keys }
+    ensures len { length names.new.named ≡ length keys.new.keys }
+    ensures longer { length keys.old.keys ≤ length keys.new.keys }
+    ensures lines { names.new.lines ≡ names.old.lines }
+    ensures now { (p : ℕ) → name_now names.new p ≡ name_now names.old p }
+    ensures before { (p : ℕ) → name_before names.new p ≡ name_before names.old p }
+    ensures logged { AreLogged names.old → AreLogged names.new }
+{
+    keys.reserve(1)?;
+    names.push()?;
+    insert(keys, key);
+    Ok(())
 }
 
 /// Lines of counters, each named by keys whose counters are the same. A key that names no line has no counter above 0.
@@ -112,9 +137,7 @@ impl<A: Allocator + Copy> SharedLines<A> {
             return Ok(place);
         }
         let place = self.keys.len();
-        self.keys.reserve(1)?;
-        self.names.push()?;
-        insert(&mut self.keys, key);
+        put_key(&mut self.keys, &mut self.names, key)?;
         Ok(place)
     }
 
@@ -200,6 +223,8 @@ impl<A: Allocator + Copy> SharedLines<A> {
         ensures kept { OnErr result (Stays self.old self.new) }
         ensures before { (k : SymbolKey) (t : ℕ) → count_before self.new k t ≡ count_now self.new k t }
     {
+        let pending = self.is_pending();
+        prove!(!pending);
         match self.shift(alloc, keys, moved) {
             Ok(count) => {
                 self.settle();
@@ -307,12 +332,13 @@ impl<A: Allocator> SharedLines<A> {
         self.lines.undo_into(&mut self.steps);
         self.lines.give_up_words(&mut self.steps);
         self.lines.settle_into(&mut self.steps);
-        self.lines_before = cut(
+        cut(
             &mut self.keys,
             &mut self.names,
             &mut self.lines,
             self.keys_before,
         );
+        self.lines_before = self.lines.len();
     }
 
     /// Keeps the steps, so that they can't be taken back any more, and takes out the keys that name no line. It takes no
@@ -329,12 +355,14 @@ impl<A: Allocator> SharedLines<A> {
         self.lines.settle_into(&mut self.steps);
         self.names.settle_into(&mut self.changes);
         take_out_unnamed(&mut self.keys, &mut self.names, &mut self.changes);
-        self.keys_before = self.keys.len();
-        self.lines_before = cut(
+        let places = self.keys.len();
+        cut(
             &mut self.keys,
             &mut self.names,
             &mut self.lines,
-            self.keys_before,
+            places,
         );
+        self.keys_before = places;
+        self.lines_before = self.lines.len();
     }
 }

@@ -4,4 +4,4 @@ use Rattle.cil_shared_lines.specs.Moves.{ones_of}
 use Rattle.cil_shared_lines.proofs.shared_lines.moved_counters.Given as goal
 
 abbrev pub invariant-loop-step : goal.invariant-loop-step
-invariant-loop-step g l = l.ones ≡ min (ones_of (take l.step-index l.moved)) (2 ^ 128 - 1)
+invariant-loop-step l = l.ones ≡ min (ones_of (take l.step-index l.moved)) (2 ^ 128 - 1)

@@ -29,13 +29,13 @@ cut-requires-clause-counted g c =
     c.settle_into-3.ensures.named c.take_out_unnamed.ensures.taken now
 
 pub cut-requires-clause-have : goal.cut-requires-clause-have
-cut-requires-clause-have g c = omega (arith, c.len.ensures.len)
+cut-requires-clause-have g c = omega (arith, c.len-places.ensures.len)
 
 pub cut-requires-clause-named : goal.cut-requires-clause-named
-cut-requires-clause-named g c p less = c.take_out_unnamed.ensures.named p (omega (arith, less, c.len.ensures.len))
+cut-requires-clause-named g c p less = c.take_out_unnamed.ensures.named p (omega (arith, less, c.len-places.ensures.len))
 
 pub cut-requires-clause-rest : goal.cut-requires-clause-rest
-cut-requires-clause-rest g c p past = get_or_past c.take_out_unnamed.new.names.named p 0 (omega (arith, past, c.len.ensures.len, c.take_out_unnamed.ensures.paired.len))
+cut-requires-clause-rest g c p past = get_or_past c.take_out_unnamed.new.names.named p 0 (omega (arith, past, c.len-places.ensures.len, c.take_out_unnamed.ensures.paired.len))
 
 pub returns-clause-now : goal.returns-clause-now
 returns-clause-now g c k t =
@@ -51,13 +51,13 @@ returns-clause-before g c k t =
     let old = c.self.inside in
     let now : (l t : ℕ) → count_now c.settle_into-2.new.self l t ≡ count_now old.lines l t = λ l t. c.settle_into-2.ensures.now l t ∙ c.give_up_words.ensures.now l t ∙ c.settle_into.ensures.now l t in
     rw (← c.self.view_is)
-    (same_before c.cut.new.keys.keys c.cut.new.names c.cut.new.lines _ c.cut.result c.cut.ensures.shared c.cut.ensures.log c.cut.ensures.steps k t
+    (same_before c.cut.new.keys.keys c.cut.new.names c.cut.new.lines _ (lines_in c.cut.new.lines) c.cut.ensures.shared c.cut.ensures.log c.cut.ensures.steps k t
     ∙ c.cut.ensures.now k t
     ∙ counts_kept old.keys.keys c.take_out_unnamed.new.keys.keys old.names c.settle_into-3.new.self c.take_out_unnamed.new.names old.lines c.settle_into-2.new.self old.keys_before old.lines_before c.self.invariant
     c.settle_into-3.ensures.named c.take_out_unnamed.ensures.taken now k t)
 
 pub returns-clause-counted : goal.returns-clause-counted
-returns-clause-counted g c = all_counted c.cut.new.keys.keys c.cut.new.names c.cut.new.lines _ c.cut.result c.cut.ensures.shared c.cut.ensures.log
+returns-clause-counted g c = all_counted c.cut.new.keys.keys c.cut.new.names c.cut.new.lines _ (lines_in c.cut.new.lines) c.cut.ensures.shared c.cut.ensures.log
 
 pub returns-clause-changes : goal.returns-clause-changes
 returns-clause-changes g c = omega (arith, ap length c.cut.ensures.log, c.cut.ensures.steps)
@@ -65,4 +65,7 @@ returns-clause-changes g c = omega (arith, ap length c.cut.ensures.log, c.cut.en
 pub returns-clause-keys : goal.returns-clause-keys
 returns-clause-keys g c key at =
     rw (← c.self.view_is)
-    (c.take_out_unnamed.ensures.taken.among key (among_take c.take_out_unnamed.new.keys.keys c.len.result (omega (arith, c.len.ensures.len)) key (rw c.cut.ensures.keys at at)))
+    (c.take_out_unnamed.ensures.taken.among key (among_take c.take_out_unnamed.new.keys.keys c.len-places.result (omega (arith, c.len-places.ensures.len)) key (rw c.cut.ensures.keys at at)))
+
+pub invariant_of-self : goal.invariant_of-self
+invariant_of-self g c = rw c.len-self-inside.ensures c.cut.ensures.shared

@@ -1,4 +1,4 @@
-use Rattle.cil_shared_lines.proofs.Common.{◌≡◌, ◌≤◌, ◌*◌, ◌+◌, ◌∙◌, ap, arith, came, has_key, index_of, of_keys, one_if, times, went, SymbolKey, ℕ}
+use Rattle.cil_shared_lines.proofs.Common.{◌≡◌, ◌≤◌, ◌*◌, ◌+◌, ◌∙◌, ap, arith, came, has_key, index_of, of_keys, one_if, subst, times, went, SymbolKey, ℕ}
 use Rattle.cil_lines.proofs.DigitLemmas.{OnOk-map}
 use Rattle.cil_shared_lines.proofs.KeyLemmas.{listed_once}
 use Rattle.cil_shared_lines.proofs.SharedLemmas.{above_keys, bounded_keys, bounded_none, moved_keys}
@@ -28,3 +28,21 @@ returns-clause-now g c =
     let once : (k : SymbolKey) → times places (index_of mid.keys k) ≡ one_if (has_key keys k) = λ k. c.put_in_order.ensures.times _ ∙ c.in_ok-places.ensures.times k ∙ listed_once keys k c.requires.keys in
     moved_keys keys (went c.args.moved.now) (came c.args.moved.now) (count_now c.move_keys.new.self) (count_now c.args.self.now) (λ k. times places (index_of mid.keys k)) once
     (λ k t. (rw c.deref.ensures.value at c.in_ok-move_keys.ensures.now) k t ∙ ap (λ x. x + times places (index_of mid.keys k) * came c.args.moved.now t) (c.in_ok-places.ensures.now k t))
+
+pub returns-in_err-move_keys-clause-bounded : goal.returns-in_err-move_keys-clause-bounded
+returns-in_err-move_keys-clause-bounded g c =
+    let keys = c.args.keys.now in
+    let mid = c.places_of.new.self in
+    let places = c.put_in_order.new.places.items in
+    let once : (k : SymbolKey) → times places (index_of mid.keys k) ≡ one_if (has_key keys k) = λ k. c.put_in_order.ensures.times _ ∙ c.in_ok-places.ensures.times k ∙ listed_once keys k c.requires.keys in
+    bounded_keys keys (went c.args.moved.now) (came c.args.moved.now) (count_now c.move_keys.new.self) (count_now c.args.self.now) (λ k. times places (index_of mid.keys k)) once
+    (λ k t. subst (λ x. count_now c.move_keys.new.self k t ≤ x + times places (index_of mid.keys k) * came c.args.moved.now t) (c.in_ok-places.ensures.now k t) ((rw c.deref.ensures.value at c.move_keys.ensures.bounded) k t))
+
+pub returns-clause-bounded : goal.returns-clause-bounded
+returns-clause-bounded g c =
+    let keys = c.args.keys.now in
+    let mid = c.places_of.new.self in
+    let places = c.put_in_order.new.places.items in
+    let once : (k : SymbolKey) → times places (index_of mid.keys k) ≡ one_if (has_key keys k) = λ k. c.put_in_order.ensures.times _ ∙ c.in_ok-places.ensures.times k ∙ listed_once keys k c.requires.keys in
+    bounded_keys keys (went c.args.moved.now) (came c.args.moved.now) (count_now c.move_keys.new.self) (count_now c.args.self.now) (λ k. times places (index_of mid.keys k)) once
+    (λ k t. subst (λ x. count_now c.move_keys.new.self k t ≤ x + times places (index_of mid.keys k) * came c.args.moved.now t) (c.in_ok-places.ensures.now k t) ((rw c.deref.ensures.value at c.move_keys.ensures.bounded) k t))

@@ -47,15 +47,18 @@ returns-clause-before g c k t =
     let old = c.self.inside in
     let now : (l t : ℕ) → count_now c.settle_into.new.self l t ≡ count_before old.lines l t = λ l t. c.settle_into.ensures.now l t ∙ c.give_up_words.ensures.now l t ∙ c.undo_into.ensures.now l t in
     rw (← c.self.view_is)
-    (same_before c.cut.new.keys.keys c.cut.new.names c.cut.new.lines old.keys_before c.cut.result c.cut.ensures.shared c.cut.ensures.log c.cut.ensures.steps k t
+    (same_before c.cut.new.keys.keys c.cut.new.names c.cut.new.lines old.keys_before (lines_in c.cut.new.lines) c.cut.ensures.shared c.cut.ensures.log c.cut.ensures.steps k t
     ∙ c.cut.ensures.now k t
     ∙ counts_back old.keys.keys old.names c.undo.new.self old.lines c.settle_into.new.self old.keys_before old.lines_before c.self.invariant c.undo.ensures.now now k t)
 
 pub returns-clause-counted : goal.returns-clause-counted
-returns-clause-counted g c = all_counted c.cut.new.keys.keys c.cut.new.names c.cut.new.lines c.self.inside.keys_before c.cut.result c.cut.ensures.shared c.cut.ensures.log
+returns-clause-counted g c = all_counted c.cut.new.keys.keys c.cut.new.names c.cut.new.lines c.self.inside.keys_before (lines_in c.cut.new.lines) c.cut.ensures.shared c.cut.ensures.log
 
 pub returns-clause-changes : goal.returns-clause-changes
 returns-clause-changes g c = omega (arith, ap length c.cut.ensures.log, c.cut.ensures.steps)
 
 pub returns-clause-keys : goal.returns-clause-keys
 returns-clause-keys g c = rw (← c.self.view_is, c.cut.ensures.keys) (among_take c.self.inside.keys.keys c.self.inside.keys_before c.self.invariant.there)
+
+pub invariant_of-self : goal.invariant_of-self
+invariant_of-self g c = rw c.len-self-inside.ensures c.cut.ensures.shared
