@@ -1,5 +1,5 @@
 -- Keys that name no line are taken out, and lines that no key names are cut off.
-use Rattle.cil_shared_lines.proofs.Common.{AreAmong, AreCounted, AreKept, AreLines, AreLogged, ArePaired, AreShared, AreTaken, Bool, HasCount, IsDistinct, IfSome, List, Naming, Option, Rename, State, SymbolKey, [], ap, arith, before_in, cases_eq, cases_lt, cond, count_before, count_by, count_now, eq-eqb, false, get_or, has_place, if◌then◌else◌, index_of, inl, inr, is_key, length, lines_in, list_any, name_before, name_now, ne_eqb, now_in, refl, reverse, slice_get, slice_index, steps_in, subst, suc, swap_remove, sym, take, true, true≢false, unnamed, zero, ℕ, ◌++◌, ◌+◌, ◌-◌, ◌<◌, ◌==◌, ◌||◌, ◌∙◌, ◌∷◌, ◌≡◌, ◌≢◌, ◌≤◌}
+use Rattle.cil_shared_lines.proofs.Common.{AreAmong, AreCounted, AreLines, ArePaired, AreShared, AreTaken, Bool, IsDistinct, IfSome, List, Naming, Option, Rename, State, SymbolKey, [], ap, arith, cases_eq, cases_lt, cond, count_before, count_by, count_now, false, has_place, index_of, inl, inr, is_key, length, lines_in, name_before, name_now, ne_eqb, now_in, refl, reverse, slice_get, slice_index, steps_in, suc, swap_remove, sym, take, true, true≢false, unnamed, zero, ℕ, ◌++◌, ◌+◌, ◌-◌, ◌<◌, ◌==◌, ◌||◌, ◌∙◌, ◌∷◌, ◌≡◌, ◌≢◌, ◌≤◌}
 use Rattle.cil_shared_lines.proofs.KeyLemmas.{by_place}
 use Rattle.cil_keyed_lines.proofs.EndLemmas.{among_taken, count_taken}
 use Rattle.cil_recorded.proofs.LogLemmas.{before_none, count_past}
@@ -11,7 +11,7 @@ use Rattle.std.proofs.lemmas.List.Folds.{list_any-append}
 -- ---- keys that are taken out
 
 pub taken_none : (keys : List SymbolKey) (n : Naming) → AreTaken keys n keys n
-taken_none keys n = record { among = λ key at. at; lines = refl; from = λ p _. (p, refl); counts = λ f _ k t. refl; }
+taken_none keys n = record { among = λ key at. at; lines = refl; from = λ p _. (p, refl); counts = λ f _ k t. refl }
 
 pub taken_both : (k0 k1 k2 : List SymbolKey) (n0 n1 n2 : Naming) → AreTaken k0 n0 k1 n1 → AreTaken k1 n1 k2 n2 → AreTaken k0 n0 k2 n2
 taken_both k0 k1 k2 n0 n1 n2 first second =

@@ -1,5 +1,5 @@
 -- The counters of a group move together, and no others.
-use Rattle.cil_shared_lines.proofs.Common.{AreCounted, AreLines, AreNamed, AreOf, HasCount, List, Moved, Named, Naming, State, ap, arith, came, cases_eq, count_before, count_now, eq-eqb, in_line, inl, inr, length, lines_in, name_before, name_now, named_at, now_in, one_if, subst, sym, times, went, ℕ, ◌*◌, ◌+◌, ◌<◌, ◌==◌, ◌∙◌, ◌≡◌, ◌≢◌, ◌≤◌}
+use Rattle.cil_shared_lines.proofs.Common.{AreCounted, AreLines, AreNamed, AreOf, HasCount, List, Moved, Named, Naming, State, ap, arith, came, cases_eq, count_before, count_now, in_line, inl, inr, lines_in, name_before, name_now, named_at, now_in, one_if, subst, sym, times, went, ℕ, ◌*◌, ◌+◌, ◌<◌, ◌==◌, ◌∙◌, ◌≡◌, ◌≢◌}
 use Rattle.cil_shared_lines.proofs.MoveLemmas.{in_here, in_other}
 use Rattle.cil_shared_lines.proofs.NameLemmas.{one_other, one_same}
 use Rattle.cil_shared_lines.proofs.ReachLemmas.{AreRenamed, lines_kept, name_member, renamed_not, renamed_to}

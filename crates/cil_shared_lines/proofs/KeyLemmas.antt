@@ -1,9 +1,9 @@
 -- The counters of keys, by the places of keys.
-use Rattle.cil_shared_lines.proofs.Common.{All, AreCounted, AreKept, AreLines, AreLogged, AreNamed, AreShared, Bool, List, Named, Names, Naming, None, Option, Some, State, SymbolKey, [], ap, arith, before_in, cases_eq, cases_lt, cond, count_before, count_by, count_now, eq-eqb, eqb-true, false, get_or, has_key, if◌then◌else◌, index_of, inl, inr, is_key, length, lines_in, list_any, listed, name_before, name_now, nat_lt, now_in, of_keys, one_if, position, refl, reverse, slice_get, slice_index, sum_by, subst, suc, sym, take, times, true, true≢false, unnamed, with_key, zero, ℕ, ◌*◌, ◌++◌, ◌+◌, ◌-◌, ◌<◌, ◌==◌, ◌||◌, ◌∙◌, ◌∷◌, ◌≡◌, ◌≢◌, ◌≤◌}
+use Rattle.cil_shared_lines.proofs.Common.{All, AreCounted, AreLines, AreLogged, AreNamed, AreShared, Bool, List, Named, Names, Naming, None, Some, State, SymbolKey, [], ap, arith, before_in, cases_eq, cases_lt, cond, count_before, count_by, count_now, eqb-true, false, get_or, has_key, if◌then◌else◌, index_of, inl, inr, is_key, length, lines_in, list_any, listed, name_before, name_now, nat_lt, now_in, of_keys, one_if, position, refl, reverse, slice_get, slice_index, subst, suc, sym, take, times, true, true≢false, unnamed, with_key, ℕ, ◌*◌, ◌++◌, ◌+◌, ◌<◌, ◌==◌, ◌||◌, ◌∙◌, ◌∷◌, ◌≡◌, ◌≤◌}
 use Rattle.cil_shared_lines.proofs.NameLemmas.{one_most, one_other, one_same}
 use Rattle.cil_shared_lines.proofs.ReachLemmas.{lines_kept}
 use Rattle.cil_keyed_lines.proofs.KeyedLemmas.{count_reached, count_same, no_key, one_key, placed_at, places_grown}
-use Rattle.std.specs.List.{AllByRecursion, IsDistinct, position_or_len}
+use Rattle.std.specs.List.{AllByRecursion, IsDistinct}
 use Rattle.std.specs.Option.{option_map_or}
 use Rattle.std.proofs.lemmas.Bool.{ltb-false, lt-ltb}
 use Rattle.std.proofs.lemmas.List.{get_or_past, length-append}

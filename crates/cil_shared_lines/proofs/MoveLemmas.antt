@@ -1,5 +1,5 @@
 -- How the counters of a line move, word by word.
-use Rattle.cil_shared_lines.proofs.Common.{AreMoves, CanLower, CanRaise, HasRoomFrom, HasRoomTo, List, Moved, State, ap, arith, came, cases_eq, cases_lt, count_now, eq-eqb, get_or, hit, hit_at, hit_in, hit_off, if◌then◌else◌, in_line, inl, inr, length, limit_now, move_at, ne_eqb, subst, sym, take, went, zero, ℕ, ◌+◌, ◌-◌, ◌/◌, ◌<◌, ◌∙◌, ◌≡◌, ◌≢◌, ◌≤◌}
+use Rattle.cil_shared_lines.proofs.Common.{AreMoves, CanLower, CanRaise, HasRoomFrom, HasRoomTo, List, Moved, State, ap, arith, came, cases_eq, count_now, eq-eqb, hit, hit_at, hit_in, hit_off, if◌then◌else◌, in_line, inl, inr, length, limit_now, move_at, ne_eqb, subst, sym, take, went, ℕ, ◌+◌, ◌/◌, ◌<◌, ◌≡◌, ◌≢◌, ◌≤◌}
 use Rattle.std.proofs.lemmas.List.Sums.{sum_by_more, sum_by_more_le}
 use Rattle.cil_lines.proofs.StepLemmas.{hit-there}
 

@@ -1,5 +1,5 @@
 -- The lines that places name, how many places name each, and the log of the changes.
-use Rattle.cil_shared_lines.proofs.Common.{AreLogged, AreNames, IsOf, Rename, has_place, named_back, one_if, unnamed, uses, Bool, List, [], ap, arith, drop, eq-eqb, false, get_or, if◌then◌else◌, inl, inr, length, refl, reverse, set, slice_index, subst, suc, sym, take, true, true≢false, zero, ℕ, ◌++◌, ◌+◌, ◌-◌, ◌<◌, ◌==◌, ◌||◌, ◌∙◌, ◌∷◌, ◌≡◌, ◌≢◌, ◌≤◌, ◌⊎◌, cases_eq, cases_lt, ne_eqb, All, list_any, sum_by, swap_remove}
+use Rattle.cil_shared_lines.proofs.Common.{AreNames, IsOf, Rename, has_place, named_back, one_if, unnamed, uses, Bool, List, [], ap, arith, drop, eq-eqb, false, get_or, if◌then◌else◌, inl, inr, length, refl, reverse, set, slice_index, subst, suc, sym, take, true, zero, ℕ, ◌++◌, ◌+◌, ◌<◌, ◌==◌, ◌||◌, ◌∙◌, ◌∷◌, ◌≡◌, ◌≢◌, ◌≤◌, ◌⊎◌, cases_eq, cases_lt, ne_eqb, All, swap_remove}
 use Rattle.std.proofs.Math.ListN.{get_or-append}
 use Rattle.std.proofs.Math.Seq.{get_or-append_seam}
 use Rattle.std.proofs.lemmas.List.{get_or-drop, get_or-set_other, get_or-take, get_or_default, get_or_past, length-append, length-set, reverse-append}

@@ -1,7 +1,7 @@
 -- Lines that the places of a group have for themselves.
-use Rattle.cil_shared_lines.proofs.Common.{All, AreLines, AreLogged, AreNamed, AreOf, Bool, List, Named, Names, Naming, State, [], ap, arith, cases_eq, cases_lt, count_before, count_now, eq-eqb, false, get_or, has_place, if◌then◌else◌, inl, inr, length, lines_in, name_before, name_now, named_at, ne_eqb, one_if, set, subst, suc, sym, take, times, true, uses, zero, ℕ, ◌+◌, ◌-◌, ◌<◌, ◌==◌, ◌∙◌, ◌∷◌, ◌≡◌, ◌≢◌, ◌≤◌}
+use Rattle.cil_shared_lines.proofs.Common.{All, AreLines, AreLogged, AreNamed, AreOf, List, Named, Naming, State, [], ap, arith, cases_eq, count_before, count_now, eq-eqb, get_or, has_place, if◌then◌else◌, inl, inr, length, lines_in, name_before, name_now, named_at, ne_eqb, one_if, set, suc, sym, take, times, true, uses, ℕ, ◌+◌, ◌<◌, ◌==◌, ◌∙◌, ◌∷◌, ◌≡◌, ◌≢◌, ◌≤◌}
 use Rattle.cil_shared_lines.proofs.NameLemmas.{named_within, one_other, one_same, uses_set, uses_some}
-use Rattle.std.proofs.lemmas.List.{get_or-set_other, get_or_past, length-set}
+use Rattle.std.proofs.lemmas.List.{get_or-set_other, length-set}
 use Rattle.std.proofs.lemmas.List.Sums.{get_or-le-sum_by, sum_by-cons, sum_by_more}
 
 -- ---- places of a group

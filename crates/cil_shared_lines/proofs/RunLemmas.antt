@@ -1,5 +1,5 @@
 -- Places that are moved group by group.
-use Rattle.cil_shared_lines.proofs.Common.{AreNamed, AreOf, All, List, Moved, Named, Names, Naming, State, ap, arith, came, drop, get_or, length, name_now, named_at, now_in, one_if, subst, sym, take, times, went, ℕ, ◌*◌, ◌+◌, ◌<◌, ◌==◌, ◌∙◌, ◌≡◌, ◌≤◌, suc}
+use Rattle.cil_shared_lines.proofs.Common.{AreNamed, AreOf, All, List, Moved, Named, Names, Naming, State, ap, arith, came, drop, get_or, length, name_now, named_at, now_in, one_if, subst, sym, take, times, went, ℕ, ◌*◌, ◌+◌, ◌<◌, ◌==◌, ◌∙◌, ◌≡◌, ◌≤◌}
 use Rattle.cil_shared_lines.proofs.NameLemmas.{one_same}
 use Rattle.std.proofs.Math.Nat.{add-mul}
 use Rattle.std.proofs.Math.Seq.{take-add}

@@ -1,9 +1,8 @@
 -- The counters of keys, as the steps go on and end.
-use Rattle.cil_shared_lines.proofs.Common.{AreCounted, AreLines, AreLogged, ArePaired, AreShared, AreTaken, HasCount, IsDistinct, List, MatchOption, Naming, None, Option, Rename, Some, State, SymbolKey, [], ap, arith, before_in, cases_eq, cases_lt, came, count_before, count_by, count_now, get_or, has_key, has_place, index_of, inl, inr, is_key, length, lines_in, list_any, name_before, name_now, now_in, of_keys, one_if, position, slice_get, steps_in, subst, sym, true, true≢false, went, ℕ, ◌*◌, ◌+◌, ◌<◌, ◌∙◌, ◌∷◌, ◌≡◌, ◌≢◌, ◌≤◌, ◌⊎◌}
+use Rattle.cil_shared_lines.proofs.Common.{AreCounted, AreLines, AreShared, AreTaken, List, MatchOption, Naming, None, Option, Rename, Some, State, SymbolKey, [], ap, arith, before_in, cases_lt, count_before, count_by, count_now, get_or, has_key, has_place, inl, inr, is_key, length, lines_in, name_before, name_now, now_in, of_keys, one_if, position, slice_get, steps_in, subst, sym, true≢false, ℕ, ◌*◌, ◌+◌, ◌<◌, ◌∙◌, ◌∷◌, ◌≡◌, ◌≢◌, ◌≤◌, ◌⊎◌}
 use Rattle.cil_shared_lines.proofs.EndedLemmas.{settled_before}
 use Rattle.cil_shared_lines.proofs.KeyLemmas.{before_past, now_past, of_keys_times}
 use Rattle.cil_shared_lines.specs.Shared.{AllCounted, IsNoPlace, IsPlaceOf, NoneCounted, Shared, before_at, now_at}
-
 use Rattle.cil_shared_lines.specs.Shared as shared
 use Rattle.cil_keyed_lines.proofs.KeyedLemmas.{count_absent, count_placed, count_same, key_placed, no_key, placed_at}
 use Rattle.cil_recorded.proofs.LogLemmas.{before_none}

@@ -1,5 +1,5 @@
 -- How far the counters of a line move, word by word.
-use Rattle.std.specs.Prelude.{◌≡◌, ◌+◌, ◌≤◌, ◌<◌, ◌^◌, ◌==◌, ℕ, List, length, count_ones, slice_index_or, sum_by, if◌then◌else◌}
+use Rattle.std.specs.Prelude.{◌+◌, ◌≤◌, ◌<◌, ◌^◌, ◌==◌, ℕ, List, length, count_ones, slice_index_or, sum_by, if◌then◌else◌}
 use Rattle.cil_lines.specs.Limit.{CanRaise}
 use Rattle.cil_lines.specs.Line.{hit}
 use Rattle.cil_recorded.specs.Recorded.{State, count_now, limit_now}

@@ -1,5 +1,5 @@
 -- Lines of counters that keys name.
-use Rattle.std.specs.Prelude.{◌≡◌, ◌≢◌, ◌+◌, ◌*◌, ◌<◌, ◌≤◌, ◌&&◌, ℕ, Bool, List, [], length, slice_get, slice_index_or, sum_by, Some, if◌then◌else◌, Contains, IsTrue}
+use Rattle.std.specs.Prelude.{◌≡◌, ◌≢◌, ◌+◌, ◌<◌, ◌≤◌, ℕ, Bool, List, [], length, slice_get, slice_index_or, sum_by, Some, if◌then◌else◌}
 use Rattle.std.specs.List.{list_any, position_or_len, All, IsDistinct}
 use Rattle.cil_keyed_lines.specs.Keyed.{count_by, is_key, AreAmong}
 use Rattle.cil_keyed_lines.specs.declared.symbol_key.SymbolKey.{SymbolKey}

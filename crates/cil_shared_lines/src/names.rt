@@ -211,12 +211,7 @@ impl<A: Allocator> Names<A> {
         ensures now { (p : ℕ) → name_now self.new p ≡ name_before self.old p }
     {
         while let Some(change) = self.log.pop() {
-            name(
-                &mut self.named,
-                &mut self.users,
-                change.place,
-                change.line,
-            );
+            name(&mut self.named, &mut self.users, change.place, change.line);
         }
     }
 

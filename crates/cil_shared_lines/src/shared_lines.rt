@@ -142,11 +142,7 @@ impl<A: Allocator + Copy> SharedLines<A> {
     }
 
     /// The places of keys, each with the line that it names. Keys that have none are put in. No counter changes.
-    fn places_of(
-        &mut self,
-        alloc: A,
-        keys: &[SymbolKey],
-    ) -> Result<Vec<Named, A>, AllocError>
+    fn places_of(&mut self, alloc: A, keys: &[SymbolKey]) -> Result<Vec<Named, A>, AllocError>
         requires { IsDistinct is_key keys.now }
         ensures named { IfOk result (λ v. AreNamed v.items self.new.names) }
         ensures times { IfOk result (λ v. (k : SymbolKey) → times v.items (index_of self.new.keys k) ≡ listed keys.now k) }
@@ -188,12 +184,7 @@ impl<A: Allocator + Copy> SharedLines<A> {
     }
 
     /// Moves the counters of the keys of places.
-    fn move_keys(
-        &mut self,
-        alloc: A,
-        places: &[Named],
-        moved: &[Moved],
-    ) -> Result<(), AllocError>
+    fn move_keys(&mut self, alloc: A, places: &[Named], moved: &[Moved]) -> Result<(), AllocError>
         requires named { AreNamed places.now self.old.names }
         requires moved { AreMoves moved.now }
         requires above { (k : SymbolKey) (t : ℕ) → times places.now (index_of self.old.keys k) * went moved.now t ≤ count_now self.old k t }
@@ -207,12 +198,7 @@ impl<A: Allocator + Copy> SharedLines<A> {
     }
 
     /// The same as `shift`, where there is no step to take back, for good. After an out of memory no counter has changed.
-    pub fn add(
-        &mut self,
-        alloc: A,
-        keys: &[SymbolKey],
-        moved: &[Moved],
-    ) -> Result<u128, AllocError>
+    pub fn add(&mut self, alloc: A, keys: &[SymbolKey], moved: &[Moved]) -> Result<u128, AllocError>
         requires keys { IsDistinct is_key keys.now }
         requires moved { AreMoves moved.now }
         requires above { (k : SymbolKey) (t : ℕ) → of_keys keys.now (went moved.now) k t ≤ count_now self.old k t }
@@ -304,8 +290,7 @@ impl<A: Allocator> SharedLines<A> {
     pub fn next_present_word(&self, place: usize, from: usize) -> Option<usize>
         ensures { MatchOption result (NonePresent (now_at self.now place) from) (IsNextPresent (now_at self.now place) from) }
     {
-        self.lines
-            .next_present_word(self.names.line(place), from)
+        self.lines.next_present_word(self.names.line(place), from)
     }
 
     /// Whether there are steps that `undo` would take back. Where there are none, each key has a counter above 0.
@@ -356,12 +341,7 @@ impl<A: Allocator> SharedLines<A> {
         self.names.settle_into(&mut self.changes);
         take_out_unnamed(&mut self.keys, &mut self.names, &mut self.changes);
         let places = self.keys.len();
-        cut(
-            &mut self.keys,
-            &mut self.names,
-            &mut self.lines,
-            places,
-        );
+        cut(&mut self.keys, &mut self.names, &mut self.lines, places);
         self.keys_before = places;
         self.lines_before = self.lines.len();
     }

@@ -1,4 +1,4 @@
-use Rattle.cil_shared_lines.proofs.Common.{◌≡◌, ◌∙◌, arith, subst, IsDistinct, is_key}
+use Rattle.cil_shared_lines.proofs.Common.{subst, IsDistinct, is_key}
 use Rattle.cil_shared_lines.proofs.EndedLemmas.{counts_cut, shared_cut}
 use Rattle.cil_keyed_lines.proofs.KeyedLemmas.{same_eq}
 use Rattle.cil_shared_lines.proofs.ended.cut.Goals as goal

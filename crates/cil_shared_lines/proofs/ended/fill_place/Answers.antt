@@ -1,5 +1,5 @@
 use Rattle.cil_shared_lines.proofs.EndedLemmas.{taken_both, taken_none}
-use Rattle.cil_shared_lines.proofs.Common.{◌≡◌, ◌∙◌, arith, refl}
+use Rattle.cil_shared_lines.proofs.Common.{◌∙◌, arith, refl}
 use Rattle.cil_shared_lines.proofs.ended.fill_place.Goals as goal
 
 pub loop-names-init : goal.loop-names-init

@@ -1,4 +1,4 @@
-use Rattle.cil_shared_lines.proofs.Common.{◌≡◌, ◌+◌, arith, length, subst, IsDistinct, is_key}
+use Rattle.cil_shared_lines.proofs.Common.{subst, IsDistinct, is_key}
 use Rattle.cil_shared_lines.proofs.EndedLemmas.{taken_out}
 use Rattle.cil_keyed_lines.proofs.KeyedLemmas.{same_eq}
 use Rattle.cil_shared_lines.proofs.ended.take_out.Goals as goal

@@ -1,5 +1,5 @@
 use Rattle.cil_shared_lines.proofs.EndedLemmas.{has_less, taken_both, taken_none}
-use Rattle.cil_shared_lines.proofs.Common.{◌≡◌, ◌≢◌, ◌∙◌, ap, arith, name_now, sym}
+use Rattle.cil_shared_lines.proofs.Common.{◌≢◌, ◌∙◌, ap, arith, name_now, sym}
 use Rattle.cil_shared_lines.proofs.ended.take_out_unnamed.Goals as goal
 
 pub loop-change-init : goal.loop-change-init

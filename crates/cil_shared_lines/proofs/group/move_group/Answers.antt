@@ -1,4 +1,4 @@
-use Rattle.cil_shared_lines.proofs.Common.{false, true, ◌≡◌, ◌∙◌, rules}
+use Rattle.cil_shared_lines.proofs.Common.{false, true, ◌≡◌, rules}
 use Rattle.cil_shared_lines.proofs.GroupLemmas.{counted_cleared, counted_moved, lines_cleared, lines_moved, now_cleared, now_moved}
 use Rattle.cil_shared_lines.proofs.group.move_group.Goals as goal
 

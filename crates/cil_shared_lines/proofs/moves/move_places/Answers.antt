@@ -1,4 +1,4 @@
-use Rattle.cil_shared_lines.proofs.Common.{◌≡◌, ◌≤◌, ◌+◌, ◌∙◌, ap, arith, count_now, drop, length, name_now, named_at, sym, take, AreNamed}
+use Rattle.cil_shared_lines.proofs.Common.{◌≡◌, ◌≤◌, ◌∙◌, ap, arith, count_now, drop, length, name_now, named_at, sym, take, AreNamed}
 use Rattle.cil_shared_lines.proofs.RunLemmas.{above_run, named_run, names_run, now_run}
 use Rattle.cil_shared_lines.proofs.moves.move_places.Goals as goal
 

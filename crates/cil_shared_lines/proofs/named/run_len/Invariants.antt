@@ -1,4 +1,4 @@
-use Rattle.cil_shared_lines.proofs.Common.{◌≡◌, ◌-◌, ◌<◌, ◌≤◌, length, named_at, take, AreOf}
+use Rattle.cil_shared_lines.proofs.Common.{◌-◌, ◌<◌, ◌≤◌, length, named_at, take, AreOf}
 use Rattle.cil_shared_lines.proofs.named.run_len.Given as goal
 
 abbrev pub invariant-loop-len : goal.invariant-loop-len

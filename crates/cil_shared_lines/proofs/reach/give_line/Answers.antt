@@ -1,4 +1,4 @@
-use Rattle.cil_shared_lines.proofs.Common.{arith, named_at, subst, sym, name_now, one_if, times, ℕ, ◌≡◌, ◌==◌, ◌≢◌}
+use Rattle.cil_shared_lines.proofs.Common.{arith, named_at, subst, name_now, one_if, times, ℕ, ◌≡◌, ◌==◌, ◌≢◌}
 use Rattle.cil_shared_lines.proofs.ReachLemmas.{own_named}
 use Rattle.cil_shared_lines.proofs.reach.give_line.Goals as goal
 

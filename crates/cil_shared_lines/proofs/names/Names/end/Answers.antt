@@ -1,6 +1,5 @@
-use Rattle.std.proofs.Common.{arith, ◌≢◌, ◌<◌, ℕ}
+use Rattle.std.proofs.Common.{arith}
 use Rattle.cil_shared_lines.proofs.NameLemmas.{line_within}
-use Rattle.cil_shared_lines.specs.Names.{name_now}
 use Rattle.cil_shared_lines.proofs.names.Names.end.Goals as goal
 
 pub loop-end-init : goal.loop-end-init

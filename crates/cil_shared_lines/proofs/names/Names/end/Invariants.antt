@@ -1,4 +1,4 @@
-use Rattle.cil_shared_lines.proofs.Common.{◌≡◌, ◌≢◌, ◌<◌, ◌≤◌, ℕ, length, name_now}
+use Rattle.cil_shared_lines.proofs.Common.{◌≢◌, ◌<◌, ◌≤◌, ℕ, length, name_now}
 use Rattle.cil_shared_lines.proofs.names.Names.end.Given as goal
 
 abbrev pub invariant-loop-end : goal.invariant-loop-end

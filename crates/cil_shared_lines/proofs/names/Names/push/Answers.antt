@@ -1,4 +1,4 @@
-use Rattle.cil_shared_lines.proofs.Common.{◌∙◌, ap, arith, ◌≡◌, ◌++◌, ◌∷◌, [], length, Rename}
+use Rattle.cil_shared_lines.proofs.Common.{◌∙◌, ap, arith, ◌++◌, ◌∷◌, []}
 use Rattle.cil_shared_lines.proofs.NameLemmas.{before_pushed, logged_pushed}
 use Rattle.cil_shared_lines.proofs.names.Names.push.Goals as goal
 

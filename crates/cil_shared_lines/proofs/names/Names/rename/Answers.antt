@@ -1,4 +1,4 @@
-use Rattle.cil_shared_lines.proofs.Common.{◌∙◌, ap, ◌<◌, ◌≡◌, ◌++◌, ◌∷◌, [], get_or, length, reverse, slice_index, unnamed}
+use Rattle.cil_shared_lines.proofs.Common.{◌∙◌, ap, ◌<◌, ◌≡◌, ◌++◌, ◌∷◌, [], get_or, length}
 use Rattle.std.proofs.lemmas.List.{get_or_default}
 use Rattle.cil_shared_lines.proofs.NameLemmas.{before_renamed, names_renamed}
 use Rattle.cil_shared_lines.proofs.names.Names.rename.Goals as goal

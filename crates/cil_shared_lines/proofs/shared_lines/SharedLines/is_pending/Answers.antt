@@ -1,4 +1,4 @@
-use Rattle.cil_shared_lines.proofs.Common.{◌≡◌, arith, length, rules, steps_in}
+use Rattle.cil_shared_lines.proofs.Common.{◌≡◌, length, rules, steps_in}
 use Rattle.cil_shared_lines.proofs.SharedLemmas.{quiet_before, quiet_counted}
 use Rattle.cil_shared_lines.proofs.shared_lines.SharedLines.is_pending.Goals as goal
 

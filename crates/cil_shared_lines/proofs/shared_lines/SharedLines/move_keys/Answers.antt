@@ -1,4 +1,4 @@
-use Rattle.cil_shared_lines.proofs.Common.{◌≡◌, ◌≤◌, ◌*◌, ◌+◌, ◌∙◌, ap, arith, came, count_by, index_of, now_in, subst, sym, times, went, AreShared, SymbolKey, ℕ}
+use Rattle.cil_shared_lines.proofs.Common.{came, went, AreShared}
 use Rattle.cil_keyed_lines.proofs.KeyedLemmas.{count_same}
 use Rattle.cil_shared_lines.proofs.KeyLemmas.{above_places, before_moved, keys_bounded, keys_moved, shared_moved}
 use Rattle.cil_lines.proofs.DigitLemmas.{OnOk-map}

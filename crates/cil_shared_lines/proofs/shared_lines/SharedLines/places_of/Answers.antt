@@ -1,4 +1,4 @@
-use Rattle.cil_shared_lines.proofs.Common.{[], ◌≡◌, ◌<◌, ◌≤◌, ◌∙◌, ap, arith, cases_lt, get_or, inl, inr, refl, times, index_of, is_key, length, listed, subst, sym, take, All, IsDistinct, Names, SymbolKey}
+use Rattle.cil_shared_lines.proofs.Common.{◌≡◌, ◌<◌, ◌∙◌, ap, arith, cases_lt, get_or, inl, inr, refl, times, index_of, length, listed, sym, take, Names, SymbolKey}
 use Rattle.cil_text.specs.declared.statement.RuleKind.TheVariants.{Allow}
 use Rattle.cil_shared_lines.proofs.KeyLemmas.{all_names, all_within, times_key, times_once}
 use Rattle.std.proofs.lemmas.List.{take_all}

@@ -1,6 +1,6 @@
-use Rattle.cil_shared_lines.proofs.Common.{◌≡◌, ◌∙◌, arith, ap, false, length, list_any, is_key, rules, sym}
+use Rattle.cil_shared_lines.proofs.Common.{◌≡◌, false, list_any, is_key, rules}
 use Rattle.cil_keyed_lines.proofs.EndLemmas.{placed_new}
-use Rattle.cil_shared_lines.proofs.KeyLemmas.{before_grown, before_kept, grown_len, places_kept, places_more, shared_names, stays_grown, stays_kept}
+use Rattle.cil_shared_lines.proofs.KeyLemmas.{before_grown, before_kept, places_kept, places_more, shared_names, stays_grown, stays_kept}
 use Rattle.cil_shared_lines.proofs.shared_lines.SharedLines.reach_key.Goals as goal
 
 pub invariant_of-self : goal.invariant_of-self

@@ -1,4 +1,4 @@
-use Rattle.cil_shared_lines.proofs.Common.{◌≡◌, ◌≢◌, ◌≤◌, ◌<◌, ◌∙◌, ap, arith, count_before, count_now, get_or, has_place, length, lines_in, name_now, sym, ℕ}
+use Rattle.cil_shared_lines.proofs.Common.{◌≡◌, ◌∙◌, ap, arith, count_now, get_or, has_place, length, lines_in, sym, ℕ}
 use Rattle.cil_shared_lines.proofs.EndedLemmas.{among_take}
 use Rattle.cil_shared_lines.proofs.SharedLemmas.{all_counted, counted_left, counts_kept, lined_left, same_before}
 use Rattle.std.proofs.lemmas.List.{get_or_past}

@@ -1,7 +1,6 @@
-use Rattle.cil_shared_lines.proofs.Common.{◌≡◌, ◌≤◌, ◌*◌, ◌+◌, ◌∙◌, ap, arith, came, has_key, index_of, of_keys, one_if, subst, times, went, SymbolKey, ℕ}
-use Rattle.cil_lines.proofs.DigitLemmas.{OnOk-map}
+use Rattle.cil_shared_lines.proofs.Common.{◌≡◌, ◌≤◌, ◌*◌, ◌+◌, ◌∙◌, ap, arith, came, has_key, index_of, one_if, subst, times, went, SymbolKey}
 use Rattle.cil_shared_lines.proofs.KeyLemmas.{listed_once}
-use Rattle.cil_shared_lines.proofs.SharedLemmas.{above_keys, bounded_keys, bounded_none, moved_keys}
+use Rattle.cil_shared_lines.proofs.SharedLemmas.{above_keys, bounded_keys, moved_keys}
 use Rattle.cil_shared_lines.specs.Shared.{count_now}
 use Rattle.cil_shared_lines.proofs.shared_lines.SharedLines.shift.Goals as goal
 
