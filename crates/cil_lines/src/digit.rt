@@ -123,6 +123,16 @@ impl<A: Allocator + Copy> Digit<A> {
         })
     }
 
+    /// A digit with the same bits and places.
+    pub fn copied(&self, alloc: A) -> Result<Self, AllocError>
+        ensures { IfOk result (λ digit. digit ≡ self.now) }
+    {
+        Ok(Digit {
+            dense: Vec::from_slice(alloc, &self.dense)?,
+            sparse: Vec::from_slice(alloc, &self.sparse)?,
+        })
+    }
+
     /// Makes a place for a word, so that `put` takes no memory. No bit changes.
     pub fn make_place(&mut self, alloc: A, word: usize) -> Result<(), AllocError>
         requires { word < 2 ^ 58 }

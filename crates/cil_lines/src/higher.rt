@@ -74,6 +74,21 @@ pub fn earlier(first: Option<usize>, second: Option<usize>) -> Option<usize>
     }
 }
 
+/// Digits with the same bits and places.
+pub fn copied<A: Allocator + Copy>(
+    digits: &[Digit<A>],
+    alloc: A,
+) -> Result<Vec<Digit<A>, A>, AllocError>
+    ensures { IfOk result (λ copies. copies.items ≡ digits.now) }
+{
+    let mut copies = Vec::with_capacity(alloc, digits.len())?;
+    for i in 0..digits.len() {
+        let copy = digits[i].copied(alloc)?;
+        copies.push(copy)?;
+    }
+    Ok(copies)
+}
+
 /// Makes places for what a mask carries into each digit, and answers what it carries out of the last.
 fn make_places<A: Allocator + Copy>(
     digits: &mut [Digit<A>],

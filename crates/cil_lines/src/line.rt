@@ -56,6 +56,16 @@ impl<A: Allocator + Copy> Line<A> {
         })
     }
 
+    /// A line with the same counters, and with room as far as this one has it.
+    pub fn copied(&self, alloc: A) -> Result<Self, AllocError>
+        ensures { IfOk result (λ line. line ≡ self.now) }
+    {
+        Ok(Line {
+            lowest: self.lowest.copied(alloc)?,
+            higher: higher::copied(&self.higher, alloc)?,
+        })
+    }
+
     /// Adds 1 to the counter of each target of a word that its mask has.
     pub fn add(&mut self, alloc: A, word: usize, mask: u64) -> Result<(), AllocError>
         requires { word < 2 ^ 58 }

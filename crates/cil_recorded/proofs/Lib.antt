@@ -3,3 +3,4 @@ pub mod LogLemmas
 pub mod TurnLemmas
 pub mod PlaceLemmas
 pub mod EndLemmas
+pub mod CopyLemmas

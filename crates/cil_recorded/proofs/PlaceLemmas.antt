@@ -9,7 +9,7 @@ no_step = record { line = 0; word = 0; mask = 0; turned = 0; up = false; clears 
 abbrev None : List Step → ℕ → ℕ → Type 0
 None ss l w = (k : ℕ) → k < length ss → (get_or ss k no_step).line ≡ l → (get_or ss k no_step).word ≡ w → ⊥
 
-taken_same : (s : Step) (f : ℕ → ℕ → ℕ) (l t : ℕ) → hit_at s.line s.word s.mask l t ≡ 0 → taken_back s f l t ≡ f l t
+pub taken_same : (s : Step) (f : ℕ → ℕ → ℕ) (l t : ℕ) → hit_at s.line s.word s.mask l t ≡ 0 → taken_back s f l t ≡ f l t
 taken_same s f l t none = by s.up
   where
     by : (up : Bool) → (if up then f l t - hit_at s.line s.word s.mask l t else f l t + hit_at s.line s.word s.mask l t) ≡ f l t

@@ -1,6 +1,6 @@
 //! Lines of counters with a log of the steps since the last settling.
 
-ghost use Rattle.std.specs.Prelude.{◌≡◌, ◌↔◌, ℕ, ◌+◌, ◌-◌, ◌*◌, ◌<◌, ◌≤◌, ◌^◌, false, min, count_ones, IsTrue, MatchOption, OnErr, OnOk};
+ghost use Rattle.std.specs.Prelude.{◌≡◌, ◌≢◌, ◌↔◌, ℕ, ◌+◌, ◌-◌, ◌*◌, ◌<◌, ◌≤◌, ◌^◌, false, min, count_ones, IsTrue, MatchOption, OnErr, OnOk};
 ghost use Rattle.cil_lines.specs.Line.{IsPresence, IsSingle, IsNextPresent, NonePresent};
 ghost use Rattle.cil_lines.specs.Limit.{CanLower, CanRaise};
 ghost use Rattle.cil_recorded.specs.Log.{falls, hit_at, IsTurned};
@@ -63,6 +63,24 @@ impl<A: Allocator + Copy> RecordedLines<A> {
         ensures limits { (l w : ℕ) → limit_now self.old l w ≤ limit_now self.new l w }
     {
         self.lines.push(Line::new(alloc))?;
+        Ok(())
+    }
+
+    /// Puts in a copy of a line as it is now, behind the others. It is no step.
+    pub fn put_copy(&mut self, alloc: A, line: usize) -> Result<(), AllocError>
+        requires line { line < lines_in self.old }
+        ensures ok { OnOk result (lines_in self.new ≡ lines_in self.old + 1) }
+        ensures err { OnErr result (lines_in self.new ≡ lines_in self.old) }
+        ensures log { self.new.log ≡ self.old.log }
+        ensures steps { steps_in self.new ≡ steps_in self.old }
+        ensures spare { spare self.new ≡ spare self.old }
+        ensures copy { OnOk result ((t : ℕ) → count_now self.new (lines_in self.old) t ≡ count_now self.old line t) }
+        ensures now { (l t : ℕ) → l ≢ lines_in self.old → count_now self.new l t ≡ count_now self.old l t }
+        ensures before { (l t : ℕ) → l ≢ lines_in self.old → count_before self.new l t ≡ count_before self.old l t }
+        ensures limits { (l w : ℕ) → limit_now self.old l w ≤ limit_now self.new l w }
+    {
+        let copy = self.lines[line].copied(alloc)?;
+        self.lines.push(copy)?;
         Ok(())
     }
 
