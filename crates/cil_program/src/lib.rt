@@ -4,3 +4,6 @@
 pub mod command_line;
 
 pub use cil_session as script;
+pub use cil_session::outcome::{SessionFault, Status};
+pub use cil_session::session::session;
+pub use command_line::command;

@@ -7,7 +7,7 @@ use crate::moves::PolicyRule;
 use crate::policy::Policy;
 use crate::same_permits::same_permits;
 use cil_matching::RuleMatching;
-use cil_resolve::ResolvedPermissions;
+use cil_resolve::{Resolved, ResolvedPermissions};
 use std::alloc::{AllocError, Allocator, Global};
 use std::marker::Model;
 
@@ -25,6 +25,11 @@ impl<A: Allocator> Model for StayingSets<A> {
     ghost Value = { List (Option Bool) };
 
     ghost view = { λ s. s.answers.items };
+}
+
+/// Whether no permission set of a policy gives anything: then there is little to learn, and no rule is gone over for it.
+fn gives_no_set<A: Allocator>(resolved: &Resolved<A>) -> bool {
+    resolved.permission_sets_len() == 0
 }
 
 /// Whether nothing is known of a set that has a place.
@@ -91,6 +96,9 @@ impl<A: Allocator + Copy> StayingSets<A> {
         ensures { IfOk result (AreStaying old.now new.now) }
     {
         let mut answers = vec![in alloc; None; new.resolved.names_len()]?;
+        if gives_no_set(old.resolved) || gives_no_set(new.resolved) {
+            return Ok(StayingSets { answers });
+        }
         for j in 0..new.resolved.rules().len() {
             if let Some(i) = matching.old_place(j) {
                 let was = PolicyRule {
