@@ -39,6 +39,12 @@ fn named<'p>(parsed: &'p ParsedModule, found: Option<(Table, NumberedWord)>) -> 
     Some((table, text_of(parsed, word.text as usize)))
 }
 
+// The same of the reference of an index.
+fn referred<'p>(parsed: &'p ParsedModule, view: &StatementView<'_>, k: usize) -> Option<Named<'p>> {
+    let (table, word) = view.reference(k)?;
+    Some((table, text_of(parsed, word.text as usize)))
+}
+
 // A statement: the offset and the line of its place, the numbers of its block and its optional, and how many words and nodes it has.
 type Shape = (u32, u32, u32, u32, usize, usize);
 
@@ -140,7 +146,7 @@ fn shape_seen(view: &StatementView<'_>) -> Shape {
 fn is_told(parsed: &ParsedModule, view: &StatementView<'_>, told: &Told) -> bool {
     let (shape, kind, declared, references, permission) = *told;
     for k in 0..4usize {
-        if named(parsed, view.reference(k)) != references.get(k).copied() {
+        if referred(parsed, view, k) != references.get(k).copied() {
             return false;
         }
     }

@@ -16,7 +16,7 @@ pub lead-found-requires-clause-text : goal.lead-found-requires-clause-text
 lead-found-requires-clause-text g c =
     let texts = texts_of c.args.«module».now in
     let it = c.in-Some.ensures.some texts c.requires.shown.0 c.requires.shown.1 in
-    read-within texts c.in-Some.word it.0 it.2
+    read-within texts c.in-Some.word.now it.0 it.2
 
 pub loop-k-preserved-in_default : goal.loop-k-preserved-in_default
 loop-k-preserved-in_default g c = record {
@@ -38,7 +38,7 @@ loop-k-preserved g c = record {
       let namespace = namespace_at names c.args.lookup.now.namespaces c.args.namespace in
       let it = c.in-Some.ensures.some texts f shown in
       subst (AreLeads policy namespace (take (c.loop-k.k + 1) (references f.form))) (sym (ap (λ p. p.1) c.in_ok-push.ensures.ok))
-      (leads-next policy namespace (references f.form) c.loop-k.k c.loop-k.bound.1 (table_of c.in-Some.table) it.0 texts c.in-Some.word c.lead-found.result (c.loop-k.invariant.leads_are names policy f knows nums remembers shown) it.1 it.2
+      (leads-next policy namespace (references f.form) c.loop-k.k c.loop-k.bound.1 (table_of c.in-Some.table) it.0 texts c.in-Some.word.now c.lead-found.result (c.loop-k.invariant.leads_are names policy f knows nums remembers shown) it.1 it.2
       (c.lead-found.ensures.lead names policy knows nums (c.loop-k.invariant.remembers names policy knows nums remembers)));
 }
 

@@ -38,7 +38,7 @@ is_plain-plain-requires g c =
     let m = c.args.«module».now in
     let r = c.requires.ready in
     let seen = seen-of p r.0 m r.1 c.args.i r.2 c.index-row.result.now c.statement-view.result c.get-bound.result.now r.3 r.4 r.5 c.index-row.ensures c.statement-view.ensures c.get-bound.ensures in
-    (reference-of p m r.1 c.args.i r.2 c.statement-view.result c.get-bound.result.now c.loop-k.k c.in-Some._table c.in-Some.word (get_or c.get-bound.result.now c.loop-k.k None) seen
+    (reference-of p m r.1 c.args.i r.2 c.statement-view.result c.get-bound.result.now c.loop-k.k c.in-Some._table c.in-Some.word.now (get_or c.get-bound.result.now c.loop-k.k None) seen
     (c.in-Some.ensures.some (texts_of m) seen.f seen.shown) refl).low
 
 pub meeting-node-requires : goal.meeting-node-requires
@@ -47,7 +47,7 @@ meeting-node-requires g c =
     let m = c.args.«module».now in
     let r = c.requires.ready in
     let seen = seen-of p r.0 m r.1 c.args.i r.2 c.index-row.result.now c.statement-view.result c.get-bound.result.now r.3 r.4 r.5 c.index-row.ensures c.statement-view.ensures c.get-bound.ensures in
-    let is = reference-of p m r.1 c.args.i r.2 c.statement-view.result c.get-bound.result.now c.loop-k.k c.in-Some._table c.in-Some.word (get_or c.get-bound.result.now c.loop-k.k None) seen
+    let is = reference-of p m r.1 c.args.i r.2 c.statement-view.result c.get-bound.result.now c.loop-k.k c.in-Some._table c.in-Some.word.now (get_or c.get-bound.result.now c.loop-k.k None) seen
     (c.in-Some.ensures.some (texts_of m) seen.f seen.shown) refl in
     (r.0, r.1, table_of c.in-Some._table, leads r.1 (table_of c.in-Some._table) r.2.namespace is.word.text, r.3, is.lead)
 
@@ -57,7 +57,7 @@ loop-k-preserved g c = λ parsed all s ready at of.
     let m = c.args.«module».now in
     let found = get_or c.get-bound.result.now c.loop-k.k None in
     let seen = seen-of p parsed m all c.args.i s c.index-row.result.now c.statement-view.result c.get-bound.result.now ready at of c.index-row.ensures c.statement-view.ensures c.get-bound.ensures in
-    let is = reference-of p m all c.args.i s c.statement-view.result c.get-bound.result.now c.loop-k.k c.in-Some._table c.in-Some.word found seen (c.in-Some.ensures.some (texts_of m) seen.f seen.shown) refl in
+    let is = reference-of p m all c.args.i s c.statement-view.result c.get-bound.result.now c.loop-k.k c.in-Some._table c.in-Some.word.now found seen (c.in-Some.ensures.some (texts_of m) seen.f seen.shown) refl in
     let table = table_of c.in-Some._table in
     let long = rows-length p.names p.lookup.namespaces p.rows.items all ready.bound.stands.rows_are in
     let one = (row-one p m c.args.i s c.index-row.result.now of c.index-row.ensures).1 in
@@ -67,7 +67,7 @@ loop-k-preserved g c = λ parsed all s ready at of.
     (asks-need all (optional_at p c.args.i) (λ set. are_found (restricted set all) s.namespace (take c.loop-k.k (references s.form))) (λ set. not (is_unfound (restricted set all) s.namespace (table, is.word)))
     c.meeting-node.result c.args.needs.now.items c.loop-k.needs.items c.add_need.new.needs.items
     (subst (λ n. IfSome c.meeting-node.result (λ k. k < n + n + 1)) long c.meeting-node.ensures.below)
-    (reference-met p parsed all s c.loop-k.k table is.word (get_or (texts_of m) c.in-Some.word.text []) found c.is_plain-plain.result c.meeting-node.result ready is.there is.text c.is_plain-plain.ensures
+    (reference-met p parsed all s c.loop-k.k table is.word (get_or (texts_of m) c.in-Some.word.now.text []) found c.is_plain-plain.result c.meeting-node.result ready is.there is.text c.is_plain-plain.ensures
     (c.meeting-node.ensures.meets parsed all table (leads all table s.namespace is.word.text) ready is.lead))
     (subst (λ o. AddsNeed c.loop-k.needs.items c.add_need.new.needs.items o c.meeting-node.result) (sym one) c.in_ok-add_need.ensures)
     (c.loop-k.invariant parsed all s ready at of))
