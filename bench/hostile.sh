@@ -1,7 +1,7 @@
 #!/bin/sh
 # Prints time and peak memory of one install of texts that could make a compiler multiply two of their counts, each at two sizes.
-# Two shapes are asked for violations too. Where both grow as the text does, nothing is multiplied. Build the program
-# first: `make run`; GNU time is needed.
+# Two shapes are asked for violations too. Where both grow as the text does, nothing is multiplied. A first word of the command names
+# the shapes to try, all where there is none. Build the program first: `make run`; GNU time is needed.
 set -eu
 cd "$(dirname "$0")/.."
 . bench/session.sh
@@ -156,7 +156,27 @@ turns() {
     large_sets "$1" v
 }
 
-for shape in common commons blocks sets repeats brackets dotted chain statements nots named many idle shared turns; do
+# one rule of an attribute of all types to itself, with as many permissions as a class may have
+themselves() {
+    awk -v k="$1" 'BEGIN {
+        for (j = 0; j < 32; j++) permissions = permissions "p" j " "
+        printf "(class c (%s))(typeattribute a)(typeattributeset a all)\n", permissions
+        for (i = 0; i < 1000 * k; i++) printf "(type t%d)\n", i
+        printf "(allow a a (c (%s)))\n", permissions
+    }'
+}
+
+# attributes that each have one type more than the last, and a rule of each to itself
+growing() {
+    awk -v k="$1" 'BEGIN {
+        print "(class c (p))(typeattribute a0)"
+        for (i = 1; i <= 250 * k; i++) {
+            printf "(type t%d)(typeattribute a%d)(typeattributeset a%d (a%d t%d))(allow a%d a%d (c (p)))\n", i, i, i, i - 1, i, i, i
+        }
+    }'
+}
+
+for shape in ${1:-common commons blocks sets repeats brackets dotted chain statements nots named many idle shared turns themselves growing}; do
     for k in 1 4; do
         "$shape" "$k" > "$folder/text"
         script_of_text
