@@ -1,239 +1,375 @@
-//! Lines of counters by their keys.
+//! Prototype: lines of counters that keys share.
 
-ghost use Rattle.std.specs.Prelude.{◌≡◌, ◌≢◌, ◌↔◌, ℕ, ◌+◌, ◌-◌, ◌<◌, ◌≤◌, ◌^◌, ◌==◌, false, length, min, bit_and, bit_xor, count_ones, position, slice_get, Some, if◌then◌else◌, IfOk, IsTrue, MatchOption, OnErr, OnOk};
-ghost use Rattle.std.specs.Int.{bit_not, w64};
-ghost use Rattle.std.specs.List.{list_any};
-ghost use Rattle.std.specs.Option.{is_some};
-ghost use Rattle.cil_lines.specs.Line.{IsPresence, IsNextPresent, NonePresent};
-ghost use Rattle.cil_lines.specs.Limit.{CanLower, CanRaise};
-ghost use Rattle.cil_recorded.specs.Differences.{appeared_at, change_key, gone_at, Ascends};
-ghost use Rattle.cil_recorded.specs.Log.{IsTurned};
-ghost use Rattle.cil_recorded.specs.Recorded.{count_before as recorded_before, count_now as recorded_now, limit_now, spare};
-ghost use Rattle.cil_keyed_lines.specs.Keyed.{before_at, count_before, count_now, hit_of, is_key, now_at, steps_in, with_key, AllCounted, AreAmong, AreKeyed, IsLineOf, IsNoLine, NoneCounted};
-
-use crate::ended_lines::end;
-use crate::line_steps;
-use crate::read_ahead::ReadAhead;
 use crate::symbol_key::SymbolKey;
 use cil_recorded::{Change, RecordedLines, Step};
 use indexmap::IndexSet;
 use std::alloc::{AllocError, Allocator, Global};
 use std::hash::{BuildHasherDefault, FoldHasher};
-use std::marker::Model;
 
-/// Makes room for a step down and one up of a word of the line of a key whose place is told, if it has one, and answers the place. A key
-/// that has none gets a line.
-fn reach<A: Allocator + Copy>(
-    keys: &mut IndexSet<SymbolKey, BuildHasherDefault<FoldHasher>, A>,
-    lines: &mut RecordedLines<A>,
-    alloc: A,
-    key: SymbolKey,
-    found: Option<usize>,
-    word: usize,
-    come: u64,
-) -> Result<usize, AllocError>
-    requires keyed { AreKeyed keys.old.keys lines.old }
-    requires found { found ≡ position (is_key key) keys.old.keys }
-    requires listed { is_some found ≡ list_any (is_key key) keys.old.keys }
-    requires word { word < 2 ^ 58 }
-    ensures place { IfOk result (λ i. position (is_key key) keys.new.keys ≡ Some i) }
-    ensures others { IfOk result (λ i. (l : ℕ) → l < length keys.new.keys → l ≢ i → l < length keys.old.keys) }
-    ensures room { IfOk result (λ i. CanRaise (recorded_now lines.new i) (limit_now lines.new i) word come) }
-    ensures spare { OnOk result (2 ≤ spare lines.new) }
-    ensures keys { OnOk result (keys.new.keys ≡ with_key keys.old.keys key) }
-    ensures kept { OnErr result (keys.new.keys ≡ keys.old.keys) }
-    ensures keyed { AreKeyed keys.new.keys lines.new }
-    ensures log { lines.new.log ≡ lines.old.log }
-    ensures now { (l t : ℕ) → recorded_now lines.new l t ≡ recorded_now lines.old l t }
-    ensures before { (l t : ℕ) → recorded_before lines.new l t ≡ recorded_before lines.old l t }
-{
-    if let Some(place) = found {
-        line_steps::make_room(lines, alloc, place, word, come)?;
-        return Ok(place);
-    }
-    let place = keys.len();
-    line_steps::make_room(lines, alloc, place, word, come)?;
-    keys.insert_full(key)?;
-    Ok(place)
+#[derive(Clone, Copy)]
+pub struct Moved {
+    pub word: usize,
+    pub gone: u64,
+    pub come: u64,
 }
 
-/// Lines of counters, each found by its key. They are changed in steps, which `undo` takes back and `settle` keeps. The place of a
-/// key's line stays while other keys come. At the end of the steps, keys are taken out whose lines have no counter above 0.
+#[derive(Clone, Copy, PartialEq, Eq, PartialOrd, Ord)]
+pub struct Named {
+    pub line: u32,
+    pub place: u32,
+}
+
 #[derive(Drop)]
 pub struct KeyedLines<A: Allocator = Global> {
     keys: IndexSet<SymbolKey, BuildHasherDefault<FoldHasher>, A>,
+    named: Vec<u32, A>,
+    users: Vec<u32, A>,
     lines: RecordedLines<A>,
-    /// The place that the last step reached. The next step is often of the same key, or of that behind it: the keys of a source and a
-    /// class often came together.
+    free: Vec<u32, A>,
+    renames: Vec<Named, A>,
+    came: Vec<u32, A>,
     hint: usize,
-    /// Lines that were read ahead of their changes. No contract tells of it.
-    ahead: ReadAhead,
-    /// The room of the log while keys are taken out, and nothing otherwise.
     ended: Vec<Step, A>,
-}
-
-impl<A: Allocator> Model for KeyedLines<A> {
-    ghost use Rattle.cil_keyed_lines.specs.Keyed.{AreHeld, Keyed};
-
-    ghost Value = { Keyed };
-
-    ghost view = { λ k. record { keys = k.keys.keys; lines = k.lines } };
-
-    ghost invariant = { λ k. AreHeld k.keys.keys k.lines };
+    group: Vec<Named, A>,
 }
 
 impl<A: Allocator + Copy> KeyedLines<A> {
-    /// No line and no step.
-    pub fn new(alloc: A) -> Self
-        ensures keys { length result.keys ≡ 0 }
-        ensures steps { steps_in result ≡ 0 }
-        ensures now { (key : SymbolKey) (t : ℕ) → count_now result key t ≡ 0 }
-        ensures before { (key : SymbolKey) (t : ℕ) → count_before result key t ≡ 0 }
-    {
+    pub fn new(alloc: A) -> Self {
         KeyedLines {
             keys: IndexSet::new(alloc),
+            named: Vec::new(alloc),
+            users: Vec::new(alloc),
             lines: RecordedLines::new(alloc),
+            free: Vec::new(alloc),
+            renames: Vec::new(alloc),
+            came: Vec::new(alloc),
             hint: 0,
-            ahead: ReadAhead::new(),
             ended: Vec::new(alloc),
+            group: Vec::new(alloc),
         }
     }
 
-    /// A rule gave the targets `was` of a word in the line of a key, and gives those of `is` now: takes 1 from the counter of each
-    /// that goes, adds 1 to that of each that comes, and answers how many counters moved. All memory is taken before a counter
-    /// changes.
-    pub fn shift(
-        &mut self,
-        alloc: A,
-        key: SymbolKey,
-        word: usize,
-        was: u64,
-        is: u64,
-    ) -> Result<u32, AllocError>
-        requires word { word < 2 ^ 58 }
-        requires above { CanLower (count_now self.old key) word (bit_and was (bit_not w64 is)) }
-        ensures moved { IfOk result (λ n. n ≡ count_ones (bit_xor was is)) }
-        ensures now { OnOk result ((k : SymbolKey) (t : ℕ) → count_now self.new k t + hit_of key word was k t ≡ count_now self.old k t + hit_of key word is k t) }
-        ensures steps { OnOk result (steps_in self.new ≡ steps_in self.old + min 1 (bit_and was (bit_not w64 is)) + min 1 (bit_and is (bit_not w64 was))) }
-        ensures keys { OnOk result (self.new.keys ≡ (if was == is then self.old.keys else with_key self.old.keys key)) }
-        ensures kept { OnErr result ((k : SymbolKey) (t : ℕ) → count_now self.new k t ≡ count_now self.old k t) }
-        ensures kept_steps { OnErr result (steps_in self.new ≡ steps_in self.old) }
-        ensures places { (i : ℕ) (k : SymbolKey) → slice_get self.old.keys i ≡ Some k → slice_get self.new.keys i ≡ Some k }
-        ensures before { (k : SymbolKey) (t : ℕ) → count_before self.new k t ≡ count_before self.old k t }
-    {
-        if was == is {
-            return Ok(0);
-        }
+    fn put_key(&mut self, key: SymbolKey, logs: bool) -> Result<usize, AllocError> {
         let found = self.place_of(key);
-        let come = is & !was;
-        let place = reach(
-            &mut self.keys,
-            &mut self.lines,
-            alloc,
-            key,
-            found,
-            word,
-            come,
-        )?;
+        let place = match found {
+            Some(place) => place,
+            None => {
+                let place = self.keys.len();
+                self.keys.insert_full(key)?;
+                self.named.push(0)?;
+                if logs {
+                    self.renames.push(Named { line: 0, place: place as u32 })?;
+                }
+                place
+            }
+        };
         self.hint = place;
-        self.ahead = self.ahead.read(&self.lines, place, word);
-        line_steps::shift(&mut self.lines, place, word, was & !is, come);
-        Ok((was ^ is).count_ones())
+        Ok(place)
     }
 
-    /// Adds 1 to the counters of the targets of a word in the line of a key that a mask has, where there is no step to take back, and logs
-    /// none. After an out of memory no counter has changed.
-    pub fn add(
-        &mut self,
-        alloc: A,
-        key: SymbolKey,
-        word: usize,
-        mask: u64,
-    ) -> Result<(), AllocError>
-        requires word { word < 2 ^ 58 }
-        requires settled { steps_in self.old ≡ 0 }
-        ensures settled { steps_in self.new ≡ 0 }
-        ensures now { OnOk result ((k : SymbolKey) (t : ℕ) → count_now self.new k t ≡ count_now self.old k t + hit_of key word mask k t) }
-        ensures kept { OnErr result ((k : SymbolKey) (t : ℕ) → count_now self.new k t ≡ count_now self.old k t) }
-        ensures before { (k : SymbolKey) (t : ℕ) → count_before self.new k t ≡ count_now self.new k t }
-    {
-        if mask == 0 {
-            return Ok(());
+    fn find_groups(&mut self, keys: &[SymbolKey], logs: bool) -> Result<(), AllocError> {
+        self.group.clear();
+        let mut sorted = true;
+        let mut last: u32 = 0;
+        for key in keys {
+            let place = self.put_key(*key, logs)?;
+            let line = self.named[place];
+            if line < last {
+                sorted = false;
+            }
+            last = line;
+            self.group.push(Named { line, place: place as u32 })?;
         }
-        let found = self.place_of(key);
-        let place = reach(
-            &mut self.keys,
-            &mut self.lines,
-            alloc,
-            key,
-            found,
-            word,
-            mask,
-        )?;
-        self.hint = place;
-        self.lines.add(place, word, mask);
+        if !sorted {
+            self.group.sort_unstable();
+        }
         Ok(())
     }
 
-    /// Which targets appeared and which went since the last settling, by the place of the line and by word. A word where none
-    /// did is left out.
-    pub fn changes(&self, alloc: A) -> Result<Vec<Change, A>, AllocError>
-        ensures order { IfOk result (λ v. Ascends change_key 0 v.items) }
-        ensures appeared { IfOk result (λ v. (i t : ℕ) → appeared_at v.items i t ≡ min 1 (now_at self.now i t) - min 1 (before_at self.now i t)) }
-        ensures gone { IfOk result (λ v. (i t : ℕ) → gone_at v.items i t ≡ min 1 (before_at self.now i t) - min 1 (now_at self.now i t)) }
-    {
-        self.lines.changes(alloc)
+    fn copy_of(&mut self, alloc: A, line: u32, logs: bool) -> Result<u32, AllocError> {
+        if self.lines.len() == 0 {
+            self.lines.put_in(alloc)?;
+            self.users.push(0)?;
+        }
+        let copy = match self.free.pop() {
+            Some(copy) => {
+                self.lines.copy_into(alloc, line as usize, copy as usize)?;
+                self.users[copy as usize] = 0;
+                copy
+            }
+            None => {
+                let copy = self.lines.len() as u32;
+                self.lines.put_copy(alloc, line as usize)?;
+                self.users.push(0)?;
+                copy
+            }
+        };
+        if logs {
+            self.came.push(copy)?;
+        }
+        Ok(copy)
+    }
+
+    fn rename_group(&mut self, from: usize, to: usize, line: u32, logs: bool) -> Result<(), AllocError> {
+        for i in from..to {
+            let member = self.group[i];
+            let place = member.place as usize;
+            let was = self.named[place];
+            if logs {
+                self.renames.push(Named { line: was, place: member.place })?;
+            }
+            if was != 0 {
+                self.users[was as usize] -= 1;
+            }
+            if line != 0 {
+                self.users[line as usize] += 1;
+            }
+            self.named[place] = line;
+        }
+        Ok(())
+    }
+
+    fn move_group(&mut self, alloc: A, from: usize, to: usize, moved: &[Moved], logs: bool) -> Result<(), AllocError> {
+        let line = self.group[from].line;
+        let mut own = line;
+        if line == 0 || self.users[line as usize] as usize != to - from {
+            own = self.copy_of(alloc, line, logs)?;
+            self.rename_group(from, to, own, logs)?;
+        }
+        for step in moved {
+            self.lines.make_room(alloc, own as usize, step.word, step.come)?;
+        }
+        if logs {
+            self.lines.reserve(moved.len() * 2)?;
+        }
+        let mut near = 0;
+        for step in moved {
+            near = step.word;
+            if logs {
+                if step.gone != 0 {
+                    self.lines.lower(own as usize, step.word, step.gone);
+                }
+                if step.come != 0 {
+                    self.lines.raise(own as usize, step.word, step.come);
+                }
+            } else {
+                self.lines.add(own as usize, step.word, step.come);
+            }
+        }
+        if logs && self.lines.is_clear(own as usize, near) {
+            self.rename_group(from, to, 0, logs)?;
+        }
+        Ok(())
+    }
+
+    fn move_all(&mut self, alloc: A, keys: &[SymbolKey], moved: &[Moved], logs: bool) -> Result<(), AllocError> {
+        if moved.is_empty() || keys.is_empty() {
+            return Ok(());
+        }
+        self.find_groups(keys, logs)?;
+        let count = self.group.len();
+        let mut from = 0;
+        while from < count {
+            let line = self.group[from].line;
+            let mut to = from + 1;
+            while to < count && self.group[to].line == line {
+                to += 1;
+            }
+            self.move_group(alloc, from, to, moved, logs)?;
+            from = to;
+        }
+        Ok(())
+    }
+
+    pub fn shift(&mut self, alloc: A, keys: &[SymbolKey], moved: &[Moved]) -> Result<u128, AllocError> {
+        self.move_all(alloc, keys, moved, true)?;
+        let mut ones: u128 = 0;
+        for step in moved {
+            ones += (step.gone.count_ones() + step.come.count_ones()) as u128;
+        }
+        Ok(ones * keys.len() as u128)
+    }
+
+    pub fn add(&mut self, alloc: A, keys: &[SymbolKey], moved: &[Moved]) -> Result<(), AllocError> {
+        self.move_all(alloc, keys, moved, false)
+    }
+
+    fn before(&self, turned: &[Change], line: u32, word: usize) -> u64 {
+        let now = if line == 0 { 0 } else { self.lines.present(line as usize, word) };
+        let found = turned.binary_search_by(|c| (c.line, c.word).cmp(&(line as usize, word)));
+        match found {
+            Ok(i) => (now & !turned[i].appeared) | turned[i].gone,
+            Err(_) => now,
+        }
+    }
+
+    fn next_before(&self, turned: &[Change], line: u32, from: usize) -> Option<usize> {
+        // the words that the line has now, or that turned
+        let now = if line == 0 { None } else { self.lines.next_present_word(line as usize, from) };
+        let at = turned.partition_point(|c| (c.line, c.word) < (line as usize, from));
+        let turn = match turned.get(at) {
+            Some(c) => if c.line == line as usize { Some(c.word) } else { None },
+            None => None,
+        };
+        match (now, turn) {
+            (Some(a), Some(b)) => Some(a.min(b)),
+            (Some(a), None) => Some(a),
+            (None, b) => b,
+        }
+    }
+
+    /// The words in which a line before differs from a line now.
+    fn difference(&self, alloc: A, turned: &[Change], was: u32, is: u32) -> Result<Vec<Change, A>, AllocError> {
+        let mut list = Vec::new(alloc);
+        let mut from = 0;
+        loop {
+            let a = self.next_before(turned, was, from);
+            let b = if is == 0 { None } else { self.lines.next_present_word(is as usize, from) };
+            let word = match (a, b) {
+                (Some(a), Some(b)) => a.min(b),
+                (Some(a), None) => a,
+                (None, Some(b)) => b,
+                (None, None) => return Ok(list),
+            };
+            let before = self.before(turned, was, word);
+            let now = if is == 0 { 0 } else { self.lines.present(is as usize, word) };
+            if before != now {
+                list.push(Change { line: 0, word, appeared: now & !before, gone: before & !now })?;
+            }
+            from = word + 1;
+        }
+    }
+
+    /// For each place that was renamed, the line before and the line now, in order of these: (was, is, place).
+    fn renamed(&self, alloc: A) -> Result<Vec<(u32, u32, u32), A>, AllocError> {
+        let mut firsts = Vec::with_capacity(alloc, self.renames.len())?;
+        for i in 0..self.renames.len() {
+            firsts.push((self.renames[i].place, i as u32))?;
+        }
+        firsts.sort_unstable();
+        let mut list = Vec::new(alloc);
+        let mut last: u32 = 4294967295;
+        for (place, i) in firsts.as_slice() {
+            if *place != last {
+                last = *place;
+                list.push((self.renames[*i as usize].line, self.named[*place as usize], *place))?;
+            }
+        }
+        list.sort_unstable();
+        Ok(list)
+    }
+
+    pub fn count_changes(&self, alloc: A) -> Result<(u128, u128), AllocError> {
+        let turned = self.lines.changes(alloc)?;
+        let renamed = self.renamed(alloc)?;
+        let mut added: u128 = 0;
+        let mut removed: u128 = 0;
+        let mut came_to = vec![in alloc; 0u32; self.users.len()]?;
+        let mut i = 0;
+        while i < renamed.len() {
+            let (was, is, _) = renamed[i];
+            let mut j = i;
+            while j < renamed.len() && renamed[j].0 == was && renamed[j].1 == is {
+                j += 1;
+            }
+            if is != 0 {
+                came_to[is as usize] += (j - i) as u32;
+            }
+            let d = self.difference(alloc, &turned, was, is)?;
+            for c in d.as_slice() {
+                added += c.appeared.count_ones() as u128 * (j - i) as u128;
+                removed += c.gone.count_ones() as u128 * (j - i) as u128;
+            }
+            i = j;
+        }
+        for c in turned.as_slice() {
+            if self.users[c.line] == 4294967295 {
+                continue;
+            }
+            let n = (self.users[c.line] - came_to[c.line]) as u128;
+            added += c.appeared.count_ones() as u128 * n;
+            removed += c.gone.count_ones() as u128 * n;
+        }
+        Ok((added, removed))
+    }
+
+    pub fn changes(&self, alloc: A) -> Result<Vec<Change, A>, AllocError> {
+        let turned = self.lines.changes(alloc)?;
+        let renamed = self.renamed(alloc)?;
+        let mut list: Vec<Change, A> = Vec::new(alloc);
+        let mut is_renamed = vec![in alloc; false; self.named.len()]?;
+        let mut i = 0;
+        while i < renamed.len() {
+            let (was, is, _) = renamed[i];
+            let d = self.difference(alloc, &turned, was, is)?;
+            while i < renamed.len() && renamed[i].0 == was && renamed[i].1 == is {
+                let place = renamed[i].2 as usize;
+                is_renamed[place] = true;
+                for c in d.as_slice() {
+                    list.push(Change { line: place, word: c.word, appeared: c.appeared, gone: c.gone })?;
+                }
+                i += 1;
+            }
+        }
+        if !turned.is_empty() {
+            for place in 0..self.named.len() {
+                let line = self.named[place] as usize;
+                if line != 0 && !is_renamed[place] {
+                    let mut at = turned.partition_point(|c| c.line < line);
+                    while at < turned.len() && turned[at].line == line {
+                        let c = turned[at];
+                        list.push(Change { line: place, word: c.word, appeared: c.appeared, gone: c.gone })?;
+                        at += 1;
+                    }
+                }
+            }
+        }
+        list.sort_unstable_by(|a, b| (a.line, a.word).cmp(&(b.line, b.word)));
+        Ok(list)
+    }
+
+    pub fn count_accesses(&self) -> u128 {
+        let mut count: u128 = 0;
+        for line in 1..self.lines.len() {
+            let n = self.users[line] as u128;
+            if n == 0 || n == 4294967295 {
+                continue;
+            }
+            let mut from = 0;
+            while let Some(word) = self.lines.next_present_word(line, from) {
+                count += self.lines.present(line, word).count_ones() as u128 * n;
+                from = word + 1;
+            }
+        }
+        count
     }
 }
 
 impl<A: Allocator> KeyedLines<A> {
-    /// The steps since the last settling, from the oldest on, by the places of lines. Each line of a step that turned a target is that of a
-    /// key.
-    pub fn log(&self) -> &[Step]
-        ensures log { result.now ≡ self.now.lines.log }
-        ensures turned { IsTurned self.now.lines.log (now_at self.now) (before_at self.now) }
-        ensures keyed { AreKeyed self.now.keys self.now.lines }
-    {
-        self.lines.log()
+    pub fn shared(&self) -> usize {
+        self.lines.len()
     }
 
-    /// How many keys have a line.
-    pub fn len(&self) -> usize
-        ensures { result ≡ length self.now.keys }
-    {
+    pub fn len(&self) -> usize {
         self.keys.len()
     }
 
-    /// Whether no key has a line.
-    pub fn is_empty(&self) -> bool
-        ensures { IsTrue result ↔ (length self.now.keys ≡ 0) }
-    {
+    pub fn is_empty(&self) -> bool {
         self.keys.is_empty()
     }
 
-    /// The place of a key's line.
-    pub fn find(&self, key: SymbolKey) -> Option<usize>
-        ensures place { result ≡ position (is_key key) self.now.keys }
-        ensures line { MatchOption result (NoneCounted self.now key) (λ i. IsLineOf self.now i key) }
-    {
+    pub fn find(&self, key: SymbolKey) -> Option<usize> {
         self.place_of(key)
     }
 
-    /// Whether the line of a place is that of a key.
-    fn is_at(&self, place: usize, key: SymbolKey) -> bool
-        ensures { IsTrue result → slice_get self.now.keys place ≡ Some key }
-    {
+    fn is_at(&self, place: usize, key: SymbolKey) -> bool {
         match self.keys.get_index(place) {
             Some(found) => *found == key,
             None => false,
         }
     }
 
-    /// The place of a key's line: that of the hint, or the one behind it. Where both are of other keys, it is looked up by the key's hash.
-    fn place_of(&self, key: SymbolKey) -> Option<usize>
-        ensures place { result ≡ position (is_key key) self.now.keys }
-        ensures found { is_some result ≡ list_any (is_key key) self.now.keys }
-    {
+    fn place_of(&self, key: SymbolKey) -> Option<usize> {
         if self.is_at(self.hint, key) {
             return Some(self.hint);
         }
@@ -244,68 +380,86 @@ impl<A: Allocator> KeyedLines<A> {
         self.keys.get_index_of(&key)
     }
 
-    /// The key whose line has a place.
-    pub fn at(&self, place: usize) -> Option<SymbolKey>
-        ensures { MatchOption result (IsNoLine self.now place) (IsLineOf self.now place) }
-    {
+    pub fn at(&self, place: usize) -> Option<SymbolKey> {
         self.keys.get_index(place).copied()
     }
 
-    /// The counter of a target in the line of a key, or the greatest `u64` where it is greater.
-    pub fn count(&self, key: SymbolKey, target: usize) -> u64
-        ensures { result ≡ min (count_now self.now key target) (2 ^ 64 - 1) }
-    {
-        match self.find(key) {
-            Some(place) => self.lines.count(place, target),
+    fn line(&self, place: usize) -> usize {
+        match self.named.get(place) {
+            Some(line) => *line as usize,
             None => 0,
         }
     }
 
-    /// The targets of a word in the line of a place whose counters are at least 1.
-    pub fn present(&self, place: usize, word: usize) -> u64
-        ensures { IsPresence (now_at self.now place) word result }
-    {
-        self.lines.present(place, word)
+    pub fn count(&self, key: SymbolKey, target: usize) -> u64 {
+        match self.find(key) {
+            Some(place) => self.lines.count(self.line(place), target),
+            None => 0,
+        }
     }
 
-    /// The first word of the line of a place, from one on, with a target whose counter is at least 1.
-    pub fn next_present_word(&self, place: usize, from: usize) -> Option<usize>
-        ensures { MatchOption result (NonePresent (now_at self.now place) from) (IsNextPresent (now_at self.now place) from) }
-    {
-        self.lines.next_present_word(place, from)
+    pub fn present(&self, place: usize, word: usize) -> u64 {
+        self.lines.present(self.line(place), word)
     }
 
-    /// Whether there are steps that `undo` would take back. Where there are none, each line has a counter above 0.
-    pub fn is_pending(&self) -> bool
-        ensures counted { result ≡ false → AllCounted self.now }
-        ensures steps { IsTrue result ↔ (0 < steps_in self.now) }
-        ensures none { result ≡ false → (k : SymbolKey) (t : ℕ) → count_before self.now k t ≡ count_now self.now k t }
-    {
-        self.lines.is_pending()
+    pub fn next_present_word(&self, place: usize, from: usize) -> Option<usize> {
+        self.lines.next_present_word(self.line(place), from)
     }
 
-    /// Takes the steps back, and takes out the keys whose lines are left without counters: those that came. It takes no memory.
-    pub fn undo(&mut self)
-        ensures keys { AreAmong self.new.keys self.old.keys }
-        ensures counted { AllCounted self.new }
-        ensures steps { steps_in self.new ≡ 0 }
-        ensures now { (k : SymbolKey) (t : ℕ) → count_now self.new k t ≡ count_before self.old k t }
-        ensures before { (k : SymbolKey) (t : ℕ) → count_before self.new k t ≡ count_before self.old k t }
-    {
+    pub fn is_pending(&self) -> bool {
+        self.lines.is_pending() || !self.renames.is_empty()
+    }
+
+    fn give_up(&mut self, line: u32) {
+        if line != 0 && self.users[line as usize] == 0 {
+            if self.lines.give_up_line(line as usize) {
+                self.users[line as usize] = 4294967295;
+                let _ = self.free.push(line);
+            }
+        }
+    }
+
+    fn take_out(&mut self) {
+        // places that name line 0, from the last on
+        while let Some(r) = self.renames.pop() {
+            let mut place = r.place as usize;
+            self.give_up(r.line);
+            // what comes from the end may name none, too
+            while place < self.named.len() && self.named[place] == 0 {
+                self.keys.swap_remove_index(place);
+                self.named.swap_remove(place);
+            }
+        }
+        while let Some(line) = self.came.pop() {
+            self.give_up(line);
+        }
+    }
+
+    pub fn undo(&mut self) {
         self.lines.undo_into(&mut self.ended);
-        end(&mut self.keys, &mut self.lines, &mut self.ended);
+        let mut left = self.renames.len();
+        while left > 0 {
+            left -= 1;
+            let r = self.renames[left];
+            let place = r.place as usize;
+            let is = self.named[place];
+            if is != 0 {
+                self.users[is as usize] -= 1;
+            }
+            if r.line != 0 {
+                self.users[r.line as usize] += 1;
+            }
+            self.named[place] = r.line;
+        }
+        self.lines.give_up_words(&mut self.ended);
+        self.ended.clear();
+        self.take_out();
     }
 
-    /// Keeps the steps, so that they can't be taken back any more, and takes out the keys whose lines are left without counters. It
-    /// takes no memory, and looks at no line that no step took from.
-    pub fn settle(&mut self)
-        ensures keys { AreAmong self.new.keys self.old.keys }
-        ensures counted { AllCounted self.new }
-        ensures steps { steps_in self.new ≡ 0 }
-        ensures now { (k : SymbolKey) (t : ℕ) → count_now self.new k t ≡ count_now self.old k t }
-        ensures before { (k : SymbolKey) (t : ℕ) → count_before self.new k t ≡ count_now self.old k t }
-    {
+    pub fn settle(&mut self) {
         self.lines.settle_into(&mut self.ended);
-        end(&mut self.keys, &mut self.lines, &mut self.ended);
+        self.lines.give_up_words(&mut self.ended);
+        self.ended.clear();
+        self.take_out();
     }
 }

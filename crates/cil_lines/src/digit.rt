@@ -188,6 +188,11 @@ impl<A: Allocator + Copy> Digit<A> {
 }
 
 impl<A: Allocator> Digit<A> {
+    pub fn empty(&mut self) {
+        self.dense.clear();
+        self.sparse.clear();
+    }
+
     /// The bits of a word.
     pub fn bits(&self, word: usize) -> u64
         ensures { result ≡ bits_of self.now word }

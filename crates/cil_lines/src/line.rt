@@ -82,6 +82,12 @@ impl<A: Allocator + Copy> Line<A> {
 }
 
 impl<A: Allocator> Line<A> {
+    pub fn empty(&mut self) -> bool {
+        self.lowest.empty();
+        self.higher.clear();
+        true
+    }
+
     /// The counter of a target, or the greatest `u64` where it is greater.
     pub fn count(&self, target: usize) -> u64
         ensures { result ≡ min (count_of self.now target) (2 ^ 64 - 1) }

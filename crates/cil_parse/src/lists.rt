@@ -3,14 +3,16 @@
 ghost use Rattle.std.specs.Prelude.{◌≡◌, ◌<◌, ◌≤◌, ◌-◌, ◌++◌, ◌∷◌, [], length, take, drop, slice_index_or, OnOk, OnErr, IfOk};
 ghost use Rattle.cil_parse.specs.Lists.{start_of};
 
+use cil_names::in_32_bits;
 use std::alloc::{AllocError, Allocator, Global};
 use std::marker::Model;
 
 /// Lists of items in one vector, and behind them one list that is still open. Contracts see it as the closed lists and the open one.
+/// Where each list ends is a number of 32 bits, since the ends of all words of a policy are gone over at each edit.
 #[derive(Drop)]
 pub struct Lists<T: Copy, A: Allocator = Global> {
     items: Vec<T, A>,
-    ends: Vec<usize, A>,
+    ends: Vec<u32, A>,
 }
 
 impl<T: Copy, A: Allocator> Model for Lists<T, A> {
@@ -53,12 +55,12 @@ impl<T: Copy, A: Allocator + Copy> Lists<T, A> {
         Ok(())
     }
 
-    /// Closes the open list.
+    /// Closes the open list. Lists of 2^32 items or more are answered as out of memory.
     pub fn close(&mut self) -> Result<(), AllocError>
         ensures ok { OnOk result (self.new ≡ (self.old.0 ++ self.old.1 ∷ [], [])) }
         ensures err { OnErr result (self.new ≡ self.old) }
     {
-        self.ends.push(self.items.len())?;
+        self.ends.push(in_32_bits(self.items.len())?)?;
         Ok(())
     }
 }
@@ -78,20 +80,20 @@ impl<T: Copy, A: Allocator> Lists<T, A> {
     {
         let ends = self.ends.as_slice();
         let start = start_at(ends, n);
-        let end = ends[n];
+        let end = ends[n] as usize;
         part(self.items.as_slice(), start, end)
     }
 }
 
 /// Where the list of a number starts, by the ends of the lists.
-fn start_at(ends: &[usize], n: usize) -> usize
+fn start_at(ends: &[u32], n: usize) -> usize
     requires { n < length ends.now }
     ensures { result ≡ start_of 0 ends.now n }
 {
     if n == 0 {
         return 0;
     }
-    ends[n - 1]
+    ends[n - 1] as usize
 }
 
 /// The items from one offset up to another.

@@ -78,13 +78,13 @@ impl<'p> StatementView<'p> {
     }
 
     /// The reference of an index and its table. They stand in the order of the text.
-    pub fn reference(&self, k: usize) -> Option<(Table, NumberedWord)>
-        ensures some { IfSome result (λ found. (texts : List (List ℕ)) (f : FlatStatement) → IsShown texts self.now f → (word : Word) × (slice_get (references f.form) k ≡ Some (table_of found.0, word)) × (read texts found.1 ≡ Some word)) }
+    pub fn reference(&self, k: usize) -> Option<(Table, &'p NumberedWord)>
+        ensures some { IfSome result (λ found. (texts : List (List ℕ)) (f : FlatStatement) → IsShown texts self.now f → (word : Word) × (slice_get (references f.form) k ≡ Some (table_of found.0, word)) × (read texts found.1.now ≡ Some word)) }
         ensures none { IfNone result ((texts : List (List ℕ)) (f : FlatStatement) → IsShown texts self.now f → slice_get (references f.form) k ≡ None) }
     {
         let table = self.kind.referring(k)?;
         let word = self.words.get(k)?;
-        Some((table, *word))
+        Some((table, word))
     }
 
     /// The permissions that the statement names, in the order of the text.

@@ -84,6 +84,12 @@ impl<A: Allocator + Copy> RecordedLines<A> {
         Ok(())
     }
 
+    pub fn copy_into(&mut self, alloc: A, from: usize, to: usize) -> Result<(), AllocError> {
+        let copy = self.lines[from].copied(alloc)?;
+        self.lines[to] = copy;
+        Ok(())
+    }
+
     /// Makes room to raise each target of a mask once. No counter changes. The log needs room by itself.
     pub fn make_room(
         &mut self,
@@ -120,6 +126,10 @@ impl<A: Allocator> RecordedLines<A> {
         ensures { IsTrue result ↔ (lines_in self.now ≡ 0) }
     {
         self.lines.is_empty()
+    }
+
+    pub fn give_up_line(&mut self, line: usize) -> bool {
+        self.lines[line].empty()
     }
 
     /// Makes room in the log for more steps. No counter changes.

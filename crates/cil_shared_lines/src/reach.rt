@@ -109,6 +109,28 @@ pub fn rename_all<A: Allocator>(names: &mut Names<A>, group: &[Named], line: usi
     }
 }
 
+/// Lets the places of a group name a line that no other place names, unless they do. It takes no memory.
+fn give_line<A: Allocator>(names: &mut Names<A>, group: &[Named], line: usize)
+    requires some { 0 < length group.now }
+    requires named { AreNamed group.now names.old }
+    requires same { AreOf (named_at group.now 0).line group.now }
+    requires line { line < names.old.lines }
+    requires own { (p : ℕ) → times group.now p ≡ 0 → name_now names.old p ≢ line }
+    requires room { 2 * length group.now ≤ names.old.room }
+    ensures len { length names.new.named ≡ length names.old.named }
+    ensures lines { names.new.lines ≡ names.old.lines }
+    ensures room { length group.now ≤ names.new.room }
+    ensures own { (p : ℕ) → times group.now p ≡ one_if (name_now names.new p == line) }
+    ensures others { (p : ℕ) → times group.now p ≡ 0 → name_now names.new p ≡ name_now names.old p }
+    ensures before { (p : ℕ) → name_before names.new p ≡ name_before names.old p }
+    ensures logged { AreLogged names.old → AreLogged names.new }
+{
+    if line == group[0].line {
+        return;
+    }
+    rename_all(names, group, line);
+}
+
 /// Makes the places of a group the only ones that name their line, which has room to move its counters, and answers the
 /// line. No counter of a place changes. The places can be renamed once more without memory.
 pub fn reach<A: Allocator + Copy>(
@@ -143,8 +165,6 @@ pub fn reach<A: Allocator + Copy>(
     names.reserve(changes)?;
     let line = own_line(names, lines, alloc, group)?;
     make_room(lines, alloc, line, moved)?;
-    if line != group[0].line {
-        rename_all(names, group, line);
-    }
+    give_line(names, group, line);
     Ok(line)
 }
