@@ -26,7 +26,8 @@ fn take_out<A: Allocator>(
     ensures paired { ArePaired keys.new.keys names.new }
     ensures taken { AreTaken keys.old.keys names.old keys.new.keys names.new }
     ensures len { length keys.new.keys < length keys.old.keys }
-    ensures others { (p : ℕ) → p ≢ place → p < length keys.new.keys → name_now names.new p ≡ name_now names.old p }
+    ensures others { (p : ℕ) → p ≢ place → p < length keys.new.keys → name_now names.new p
+        ≡ name_now names.old p }
 {
     keys.swap_remove_index(place);
     names.swap_remove(place);
@@ -44,7 +45,8 @@ fn fill_place<A: Allocator>(
     ensures taken { AreTaken keys.old.keys names.old keys.new.keys names.new }
     ensures len { length keys.new.keys ≤ length keys.old.keys }
     ensures here { place < length keys.new.keys → name_now names.new place ≢ 0 }
-    ensures others { (p : ℕ) → p ≢ place → p < length keys.new.keys → name_now names.new p ≡ name_now names.old p }
+    ensures others { (p : ℕ) → p ≢ place → p < length keys.new.keys → name_now names.new p
+        ≡ name_now names.old p }
 {
     while place < keys.len() && names.line(place) == 0 {
         take_out(keys, names, place);
@@ -59,7 +61,8 @@ pub fn take_out_unnamed<A: Allocator>(
     changes: &mut Vec<Rename, A>,
 )
     requires paired { ArePaired keys.old.keys names.old }
-    requires logged { (p : ℕ) → p < length keys.old.keys → name_now names.old p ≡ 0 → has_place changes.old.items p ≡ true }
+    requires logged { (p : ℕ) → p < length keys.old.keys → name_now names.old p ≡ 0
+        → has_place changes.old.items p ≡ true }
     ensures paired { ArePaired keys.new.keys names.new }
     ensures taken { AreTaken keys.old.keys names.old keys.new.keys names.new }
     ensures named { (p : ℕ) → p < length keys.new.keys → name_now names.new p ≢ 0 }
@@ -87,7 +90,9 @@ pub fn cut<A: Allocator>(
     ensures keys { keys.new.keys ≡ take places keys.old.keys }
     ensures log { names.new.log ≡ [] }
     ensures steps { steps_in lines.new ≡ 0 }
-    ensures now { (k : SymbolKey) (t : ℕ) → count_by (now_in names.new lines.new) keys.new.keys k t ≡ count_by (now_in names.old lines.old) keys.old.keys k t }
+    ensures now { (k : SymbolKey) (t : ℕ)
+        → count_by (now_in names.new lines.new) keys.new.keys k t
+        ≡ count_by (now_in names.old lines.old) keys.old.keys k t }
 {
     let end = names.end();
     keys.truncate(places);

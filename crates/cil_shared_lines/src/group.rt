@@ -38,17 +38,21 @@ pub fn move_group<A: Allocator + Copy>(
     requires named { AreNamed group.now names.old }
     requires line { AreOf (named_at group.now 0).line group.now }
     requires moved { AreMoves moved.now }
-    requires above { (t : ℕ) → went moved.now t ≤ count_now lines.old (named_at group.now 0).line t }
+    requires above { (t : ℕ)
+        → went moved.now t ≤ count_now lines.old (named_at group.now 0).line t }
     ensures lined { AreLines names.new lines.new }
     ensures counted { AreCounted names.new lines.new }
     ensures lines { lines_in lines.old ≤ lines_in lines.new }
     ensures len { length names.new.named ≡ length names.old.named }
-    ensures now { OnOk result ((p t : ℕ) → now_in names.new lines.new p t + times group.now p * went moved.now t
+    ensures now { OnOk result ((p t : ℕ)
+        → now_in names.new lines.new p t + times group.now p * went moved.now t
         ≡ now_in names.old lines.old p t + times group.now p * came moved.now t) }
-    ensures kept { OnErr result ((p t : ℕ) → now_in names.new lines.new p t ≡ now_in names.old lines.old p t) }
+    ensures kept { OnErr result ((p t : ℕ) → now_in names.new lines.new p t
+        ≡ now_in names.old lines.old p t) }
     ensures others { (p : ℕ) → times group.now p ≡ 0 → name_now names.new p ≡ name_now names.old p }
     ensures names_before { (p : ℕ) → name_before names.new p ≡ name_before names.old p }
-    ensures before { (l t : ℕ) → l < lines_in lines.old → count_before lines.new l t ≡ count_before lines.old l t }
+    ensures before { (l t : ℕ) → l < lines_in lines.old → count_before lines.new l t
+        ≡ count_before lines.old l t }
     ensures logged { AreLogged names.old → AreLogged names.new }
 {
     let line = reach(names, lines, alloc, group, moved)?;

@@ -58,7 +58,8 @@ fn lower<A: Allocator>(lines: &mut RecordedLines<A>, line: usize, word: usize, m
     requires above { CanLower (count_now lines.old line) word mask }
     ensures lines { lines_in lines.new ≡ lines_in lines.old }
     ensures spare { spare lines.old ≤ spare lines.new + 1 }
-    ensures now { (l t : ℕ) → count_now lines.new l t + hit_at line word mask l t ≡ count_now lines.old l t }
+    ensures now { (l t : ℕ) → count_now lines.new l t + hit_at line word mask l t
+        ≡ count_now lines.old l t }
     ensures before { (l t : ℕ) → count_before lines.new l t ≡ count_before lines.old l t }
     ensures limits { (l w : ℕ) → limit_now lines.old l w ≤ limit_now lines.new l w }
 {
@@ -75,7 +76,8 @@ fn raise<A: Allocator>(lines: &mut RecordedLines<A>, line: usize, word: usize, m
     requires room { CanRaise (count_now lines.old line) (limit_now lines.old line) word mask }
     ensures lines { lines_in lines.new ≡ lines_in lines.old }
     ensures spare { spare lines.old ≤ spare lines.new + 1 }
-    ensures now { (l t : ℕ) → count_now lines.new l t ≡ count_now lines.old l t + hit_at line word mask l t }
+    ensures now { (l t : ℕ) → count_now lines.new l t
+        ≡ count_now lines.old l t + hit_at line word mask l t }
     ensures before { (l t : ℕ) → count_before lines.new l t ≡ count_before lines.old l t }
     ensures limits { (l w : ℕ) → limit_now lines.old l w ≤ limit_now lines.new l w }
 {
@@ -94,7 +96,8 @@ pub fn move_line<A: Allocator>(lines: &mut RecordedLines<A>, line: usize, moved:
     requires room { HasRoomTo lines.old line moved.now (length moved.now) }
     requires spare { 2 * length moved.now ≤ spare lines.old }
     ensures lines { lines_in lines.new ≡ lines_in lines.old }
-    ensures now { (l t : ℕ) → count_now lines.new l t + in_line line (went moved.now) l t ≡ count_now lines.old l t + in_line line (came moved.now) l t }
+    ensures now { (l t : ℕ) → count_now lines.new l t + in_line line (went moved.now) l t
+        ≡ count_now lines.old l t + in_line line (came moved.now) l t }
     ensures before { (l t : ℕ) → count_before lines.new l t ≡ count_before lines.old l t }
 {
     for step in moved {

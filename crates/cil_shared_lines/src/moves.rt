@@ -26,16 +26,20 @@ pub fn move_places<A: Allocator + Copy>(
     requires counted { AreCounted names.old lines.old }
     requires named { AreNamed places.now names.old }
     requires moved { AreMoves moved.now }
-    requires above { (p t : ℕ) → times places.now p * went moved.now t ≤ now_in names.old lines.old p t }
+    requires above { (p t : ℕ)
+        → times places.now p * went moved.now t ≤ now_in names.old lines.old p t }
     ensures lined { AreLines names.new lines.new }
     ensures counted { AreCounted names.new lines.new }
     ensures lines { lines_in lines.old ≤ lines_in lines.new }
     ensures len { length names.new.named ≡ length names.old.named }
-    ensures now { OnOk result ((p t : ℕ) → now_in names.new lines.new p t + times places.now p * went moved.now t
+    ensures now { OnOk result ((p t : ℕ)
+        → now_in names.new lines.new p t + times places.now p * went moved.now t
         ≡ now_in names.old lines.old p t + times places.now p * came moved.now t) }
-    ensures bounded { (p t : ℕ) → now_in names.new lines.new p t ≤ now_in names.old lines.old p t + times places.now p * came moved.now t }
+    ensures bounded { (p t : ℕ)
+        → now_in names.new lines.new p t ≤ now_in names.old lines.old p t + times places.now p * came moved.now t }
     ensures names_before { (p : ℕ) → name_before names.new p ≡ name_before names.old p }
-    ensures before { (l t : ℕ) → l < lines_in lines.old → count_before lines.new l t ≡ count_before lines.old l t }
+    ensures before { (l t : ℕ) → l < lines_in lines.old → count_before lines.new l t
+        ≡ count_before lines.old l t }
     ensures logged { AreLogged names.old → AreLogged names.new }
 {
     let mut from = 0;

@@ -30,7 +30,8 @@ fn log_rename<A: Allocator>(log: &mut Vec<Rename, A>, change: Rename)
 fn leave<A: Allocator>(users: &mut Vec<usize, A>, line: usize)
     requires { line ≢ 0 → 0 < slice_index users.old.items line }
     ensures len { length users.new.items ≡ length users.old.items }
-    ensures users { (l : ℕ) → l ≢ 0 → slice_index users.new.items l + one_if (line == l) ≡ slice_index users.old.items l }
+    ensures users { (l : ℕ) → l ≢ 0 → slice_index users.new.items l + one_if (line == l)
+        ≡ slice_index users.old.items l }
 {
     if line != 0 && line < users.len() {
         users[line] -= 1;
@@ -42,7 +43,8 @@ fn join<A: Allocator>(users: &mut Vec<usize, A>, line: usize)
     requires line { line ≢ 0 → line < length users.old.items }
     requires fits { line ≢ 0 → slice_index users.old.items line < 2 ^ 63 }
     ensures len { length users.new.items ≡ length users.old.items }
-    ensures users { (l : ℕ) → l ≢ 0 → slice_index users.new.items l ≡ slice_index users.old.items l + one_if (line == l) }
+    ensures users { (l : ℕ) → l ≢ 0 → slice_index users.new.items l
+        ≡ slice_index users.old.items l + one_if (line == l) }
 {
     if line != 0 {
         users[line] += 1;
@@ -190,10 +192,12 @@ impl<A: Allocator> Names<A> {
         ensures len { length self.new.named ≡ length self.old.named }
         ensures lines { self.new.lines ≡ self.old.lines }
         ensures room { self.old.room ≤ self.new.room + 1 }
-        ensures now { (p : ℕ) → name_now self.new p ≡ (if p == place then line else name_now self.old p) }
+        ensures now { (p : ℕ) → name_now self.new p
+            ≡ (if p == place then line else name_now self.old p) }
         ensures before { (p : ℕ) → name_before self.new p ≡ name_before self.old p }
         ensures here { has_place self.new.log place ≡ true }
-        ensures logged { (p : ℕ) → has_place self.old.log p ≡ true → has_place self.new.log p ≡ true }
+        ensures logged { (p : ℕ) → has_place self.old.log p ≡ true → has_place self.new.log p
+            ≡ true }
     {
         let change = Rename {
             place,
@@ -250,8 +254,10 @@ impl<A: Allocator> Names<A> {
         ensures len { length self.new.named + 1 ≡ length self.old.named }
         ensures lines { self.new.lines ≡ self.old.lines }
         ensures log { self.new.log ≡ [] }
-        ensures moved { place < length self.new.named → name_now self.new place ≡ name_now self.old (length self.new.named) }
-        ensures others { (p : ℕ) → p ≢ place → p < length self.new.named → name_now self.new p ≡ name_now self.old p }
+        ensures moved { place < length self.new.named → name_now self.new place
+            ≡ name_now self.old (length self.new.named) }
+        ensures others { (p : ℕ) → p ≢ place → p < length self.new.named → name_now self.new p
+            ≡ name_now self.old p }
     {
         self.named.swap_remove(place);
     }

@@ -46,12 +46,16 @@ fn put_copy<A: Allocator + Copy>(
 ) -> Result<usize, AllocError>
     requires lined { AreLines names.old lines.old }
     requires line { line ≢ 0 → line < lines_in lines.old }
-    ensures place { IfOk result (λ l. (l ≢ 0) × (lines_in lines.old ≤ l) × (l < lines_in lines.new)) }
-    ensures copy { IfOk result (λ l. (t : ℕ) → count_now lines.new l t ≡ count_now lines.old line t) }
+    ensures place { IfOk result (λ l. (l ≢ 0) × (lines_in lines.old ≤ l)
+        × (l < lines_in lines.new)) }
+    ensures copy { IfOk result (λ l. (t : ℕ) → count_now lines.new l t
+        ≡ count_now lines.old line t) }
     ensures lined { AreLines names.new lines.new }
     ensures lines { lines_in lines.old ≤ lines_in lines.new }
-    ensures now { (l t : ℕ) → l < lines_in lines.old → count_now lines.new l t ≡ count_now lines.old l t }
-    ensures before { (l t : ℕ) → l < lines_in lines.old → count_before lines.new l t ≡ count_before lines.old l t }
+    ensures now { (l t : ℕ) → l < lines_in lines.old → count_now lines.new l t
+        ≡ count_now lines.old l t }
+    ensures before { (l t : ℕ) → l < lines_in lines.old → count_before lines.new l t
+        ≡ count_before lines.old l t }
     ensures named { names.new.named ≡ names.old.named }
     ensures log { names.new.log ≡ names.old.log }
     ensures room { names.new.room ≡ names.old.room }
@@ -76,11 +80,14 @@ fn own_line<A: Allocator + Copy>(
     requires line { AreOf (named_at group.now 0).line group.now }
     ensures line { IfOk result (λ l. (l ≢ 0) × (l < lines_in lines.new)) }
     ensures own { IfOk result (λ l. (p : ℕ) → times group.now p ≡ 0 → name_now names.new p ≢ l) }
-    ensures copy { IfOk result (λ l. (t : ℕ) → count_now lines.new l t ≡ count_now lines.old (named_at group.now 0).line t) }
+    ensures copy { IfOk result (λ l. (t : ℕ) → count_now lines.new l t
+        ≡ count_now lines.old (named_at group.now 0).line t) }
     ensures lined { AreLines names.new lines.new }
     ensures lines { lines_in lines.old ≤ lines_in lines.new }
-    ensures now { (l t : ℕ) → l < lines_in lines.old → count_now lines.new l t ≡ count_now lines.old l t }
-    ensures before { (l t : ℕ) → l < lines_in lines.old → count_before lines.new l t ≡ count_before lines.old l t }
+    ensures now { (l t : ℕ) → l < lines_in lines.old → count_now lines.new l t
+        ≡ count_now lines.old l t }
+    ensures before { (l t : ℕ) → l < lines_in lines.old → count_before lines.new l t
+        ≡ count_before lines.old l t }
     ensures named { names.new.named ≡ names.old.named }
     ensures log { names.new.log ≡ names.old.log }
     ensures room { names.new.room ≡ names.old.room }
@@ -100,7 +107,8 @@ pub fn rename_all<A: Allocator>(names: &mut Names<A>, group: &[Named], line: usi
     ensures len { length names.new.named ≡ length names.old.named }
     ensures lines { names.new.lines ≡ names.old.lines }
     ensures room { names.old.room ≤ names.new.room + length group.now }
-    ensures now { (p : ℕ) → name_now names.new p ≡ (if times group.now p == 0 then name_now names.old p else line) }
+    ensures now { (p : ℕ) → name_now names.new p
+        ≡ (if times group.now p == 0 then name_now names.old p else line) }
     ensures before { (p : ℕ) → name_before names.new p ≡ name_before names.old p }
     ensures logged { AreLogged names.old → AreLogged names.new }
 {
@@ -146,15 +154,19 @@ pub fn reach<A: Allocator + Copy>(
     requires line { AreOf (named_at group.now 0).line group.now }
     requires moved { AreMoves moved.now }
     ensures line { IfOk result (λ l. (l ≢ 0) × (l < lines_in lines.new)) }
-    ensures own { IfOk result (λ l. (p : ℕ) → times group.now p ≡ one_if (name_now names.new p == l)) }
-    ensures copy { IfOk result (λ l. (t : ℕ) → count_now lines.new l t ≡ count_now lines.old (named_at group.now 0).line t) }
+    ensures own { IfOk result (λ l. (p : ℕ) → times group.now p
+        ≡ one_if (name_now names.new p == l)) }
+    ensures copy { IfOk result (λ l. (t : ℕ) → count_now lines.new l t
+        ≡ count_now lines.old (named_at group.now 0).line t) }
     ensures digits { IfOk result (λ l. HasRoomTo lines.new l moved.now (length moved.now)) }
     ensures spare { OnOk result (2 * length moved.now ≤ spare lines.new) }
     ensures room { OnOk result (length group.now ≤ names.new.room) }
     ensures lined { AreLines names.new lines.new }
     ensures lines { lines_in lines.old ≤ lines_in lines.new }
-    ensures now { (l t : ℕ) → l < lines_in lines.old → count_now lines.new l t ≡ count_now lines.old l t }
-    ensures before { (l t : ℕ) → l < lines_in lines.old → count_before lines.new l t ≡ count_before lines.old l t }
+    ensures now { (l t : ℕ) → l < lines_in lines.old → count_now lines.new l t
+        ≡ count_now lines.old l t }
+    ensures before { (l t : ℕ) → l < lines_in lines.old → count_before lines.new l t
+        ≡ count_before lines.old l t }
     ensures len { length names.new.named ≡ length names.old.named }
     ensures kept { OnErr result (names.new.named ≡ names.old.named) }
     ensures others { (p : ℕ) → times group.now p ≡ 0 → name_now names.new p ≡ name_now names.old p }

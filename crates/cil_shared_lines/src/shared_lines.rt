@@ -123,11 +123,13 @@ impl<A: Allocator + Copy> SharedLines<A> {
     /// The place of a key, which is put in where it has none. No counter changes.
     fn reach_key(&mut self, key: SymbolKey) -> Result<usize, AllocError>
         ensures place { IfOk result (λ i. position (is_key key) self.new.keys ≡ Some i) }
-        ensures within { IfOk result (λ i. (i < length self.new.keys) × (i < length self.new.names.named)) }
+        ensures within { IfOk result (λ i. (i < length self.new.keys)
+            × (i < length self.new.names.named)) }
         ensures grown { OnOk result (self.new.keys ≡ with_key self.old.keys key) }
         ensures distinct { IsDistinct is_key self.new.keys }
         ensures longer { length self.old.keys ≤ length self.new.keys }
-        ensures places { (i : ℕ) (k : SymbolKey) → slice_get self.old.keys i ≡ Some k → slice_get self.new.keys i ≡ Some k }
+        ensures places { (i : ℕ) (k : SymbolKey) → slice_get self.old.keys i ≡ Some k
+            → slice_get self.new.keys i ≡ Some k }
         ensures more { length self.old.names.named ≤ length self.new.names.named }
         ensures names { (p : ℕ) → name_now self.new.names p ≡ name_now self.old.names p }
         ensures now { Stays self.old self.new }
@@ -145,8 +147,10 @@ impl<A: Allocator + Copy> SharedLines<A> {
     fn places_of(&mut self, alloc: A, keys: &[SymbolKey]) -> Result<Vec<Named, A>, AllocError>
         requires { IsDistinct is_key keys.now }
         ensures named { IfOk result (λ v. AreNamed v.items self.new.names) }
-        ensures times { IfOk result (λ v. (k : SymbolKey) → times v.items (index_of self.new.keys k) ≡ listed keys.now k) }
-        ensures places { (i : ℕ) (k : SymbolKey) → slice_get self.old.keys i ≡ Some k → slice_get self.new.keys i ≡ Some k }
+        ensures times { IfOk result (λ v. (k : SymbolKey)
+            → times v.items (index_of self.new.keys k) ≡ listed keys.now k) }
+        ensures places { (i : ℕ) (k : SymbolKey) → slice_get self.old.keys i ≡ Some k
+            → slice_get self.new.keys i ≡ Some k }
         ensures now { Stays self.old self.new }
         ensures before { StaysBefore self.old self.new }
     {
@@ -170,11 +174,14 @@ impl<A: Allocator + Copy> SharedLines<A> {
     ) -> Result<u128, AllocError>
         requires keys { IsDistinct is_key keys.now }
         requires moved { AreMoves moved.now }
-        requires above { (k : SymbolKey) (t : ℕ) → of_keys keys.now (went moved.now) k t ≤ count_now self.old k t }
-        ensures moved { IfOk result (λ n. n ≡ min (length keys.now * ones_of moved.now) (2 ^ 128 - 1)) }
+        requires above { (k : SymbolKey) (t : ℕ)
+            → of_keys keys.now (went moved.now) k t ≤ count_now self.old k t }
+        ensures moved { IfOk result
+            (λ n. n ≡ min (length keys.now * ones_of moved.now) (2 ^ 128 - 1)) }
         ensures now { OnOk result (AreMoved self.old self.new (of_keys keys.now (went moved.now)) (of_keys keys.now (came moved.now))) }
         ensures bounded { RiseAtMost self.old self.new (of_keys keys.now (came moved.now)) }
-        ensures places { (i : ℕ) (k : SymbolKey) → slice_get self.old.keys i ≡ Some k → slice_get self.new.keys i ≡ Some k }
+        ensures places { (i : ℕ) (k : SymbolKey) → slice_get self.old.keys i ≡ Some k
+            → slice_get self.new.keys i ≡ Some k }
         ensures before { StaysBefore self.old self.new }
     {
         let mut places = self.places_of(alloc, keys)?;
@@ -187,10 +194,13 @@ impl<A: Allocator + Copy> SharedLines<A> {
     fn move_keys(&mut self, alloc: A, places: &[Named], moved: &[Moved]) -> Result<(), AllocError>
         requires named { AreNamed places.now self.old.names }
         requires moved { AreMoves moved.now }
-        requires above { (k : SymbolKey) (t : ℕ) → times places.now (index_of self.old.keys k) * went moved.now t ≤ count_now self.old k t }
-        ensures now { OnOk result ((k : SymbolKey) (t : ℕ) → count_now self.new k t + times places.now (index_of self.old.keys k) * went moved.now t
+        requires above { (k : SymbolKey) (t : ℕ)
+            → times places.now (index_of self.old.keys k) * went moved.now t ≤ count_now self.old k t }
+        ensures now { OnOk result ((k : SymbolKey) (t : ℕ)
+            → count_now self.new k t + times places.now (index_of self.old.keys k) * went moved.now t
             ≡ count_now self.old k t + times places.now (index_of self.old.keys k) * came moved.now t) }
-        ensures bounded { (k : SymbolKey) (t : ℕ) → count_now self.new k t ≤ count_now self.old k t + times places.now (index_of self.old.keys k) * came moved.now t }
+        ensures bounded { (k : SymbolKey) (t : ℕ)
+            → count_now self.new k t ≤ count_now self.old k t + times places.now (index_of self.old.keys k) * came moved.now t }
         ensures keys { self.new.keys ≡ self.old.keys }
         ensures before { StaysBefore self.old self.new }
     {
@@ -201,13 +211,16 @@ impl<A: Allocator + Copy> SharedLines<A> {
     pub fn add(&mut self, alloc: A, keys: &[SymbolKey], moved: &[Moved]) -> Result<u128, AllocError>
         requires keys { IsDistinct is_key keys.now }
         requires moved { AreMoves moved.now }
-        requires above { (k : SymbolKey) (t : ℕ) → of_keys keys.now (went moved.now) k t ≤ count_now self.old k t }
+        requires above { (k : SymbolKey) (t : ℕ)
+            → of_keys keys.now (went moved.now) k t ≤ count_now self.old k t }
         requires settled { changes_in self.old ≡ 0 }
         ensures settled { changes_in self.new ≡ 0 }
-        ensures moved { IfOk result (λ n. n ≡ min (length keys.now * ones_of moved.now) (2 ^ 128 - 1)) }
+        ensures moved { IfOk result
+            (λ n. n ≡ min (length keys.now * ones_of moved.now) (2 ^ 128 - 1)) }
         ensures now { OnOk result (AreMoved self.old self.new (of_keys keys.now (went moved.now)) (of_keys keys.now (came moved.now))) }
         ensures kept { OnErr result (Stays self.old self.new) }
-        ensures before { (k : SymbolKey) (t : ℕ) → count_before self.new k t ≡ count_now self.new k t }
+        ensures before { (k : SymbolKey) (t : ℕ) → count_before self.new k t
+            ≡ count_now self.new k t }
     {
         let pending = self.is_pending();
         prove!(!pending);
@@ -250,7 +263,8 @@ impl<A: Allocator> SharedLines<A> {
     /// The place of a key.
     pub fn find(&self, key: SymbolKey) -> Option<usize>
         ensures place { result ≡ position (is_key key) self.now.keys }
-        ensures line { MatchOption result (NoneCounted self.now key) (λ i. IsPlaceOf self.now i key) }
+        ensures line { MatchOption result (NoneCounted self.now key)
+            (λ i. IsPlaceOf self.now i key) }
     {
         self.place_of(key)
     }
@@ -297,7 +311,8 @@ impl<A: Allocator> SharedLines<A> {
     pub fn is_pending(&self) -> bool
         ensures counted { result ≡ false → AllCounted self.now }
         ensures changes { IsTrue result ↔ (0 < changes_in self.now) }
-        ensures none { result ≡ false → (k : SymbolKey) (t : ℕ) → count_before self.now k t ≡ count_now self.now k t }
+        ensures none { result ≡ false → (k : SymbolKey) (t : ℕ) → count_before self.now k t
+            ≡ count_now self.now k t }
     {
         if self.names.is_pending() {
             return true;
@@ -311,7 +326,8 @@ impl<A: Allocator> SharedLines<A> {
         ensures counted { AllCounted self.new }
         ensures changes { changes_in self.new ≡ 0 }
         ensures now { (k : SymbolKey) (t : ℕ) → count_now self.new k t ≡ count_before self.old k t }
-        ensures before { (k : SymbolKey) (t : ℕ) → count_before self.new k t ≡ count_before self.old k t }
+        ensures before { (k : SymbolKey) (t : ℕ) → count_before self.new k t
+            ≡ count_before self.old k t }
     {
         self.names.undo();
         self.lines.undo_into(&mut self.steps);
@@ -333,7 +349,8 @@ impl<A: Allocator> SharedLines<A> {
         ensures counted { AllCounted self.new }
         ensures changes { changes_in self.new ≡ 0 }
         ensures now { (k : SymbolKey) (t : ℕ) → count_now self.new k t ≡ count_now self.old k t }
-        ensures before { (k : SymbolKey) (t : ℕ) → count_before self.new k t ≡ count_now self.old k t }
+        ensures before { (k : SymbolKey) (t : ℕ) → count_before self.new k t
+            ≡ count_now self.old k t }
     {
         self.lines.settle_into(&mut self.steps);
         self.lines.give_up_words(&mut self.steps);
