@@ -95,11 +95,7 @@ impl<A: Allocator> Namespaces<A> {
         ensures within { IfSome result (λ m. m < n) }
         ensures none { IfNone result (slice_index_or self.now n [] ≡ []) }
     {
-        let blocks = self.blocks.as_slice();
-        if n == 0 {
-            return None;
-        }
-        Some(blocks[n as usize - 1].outer)
+        Some(self.opened_by(n)?.outer)
     }
 
     /// The block that opens a namespace; none opens the global one.

@@ -1,5 +1,5 @@
 -- What stands apart in its module stands in no optional of the joined policy.
-use Rattle.cil_specs.proofs.Common.{◌≡◌, ℕ, Bool, true, false, not, ◌&&◌, ◌||◌, List, [], ◌∷◌, refl, sym, ap, ◌∙◌, AllByRecursion, Place, Form, block, optional, type_name, type_alias, alias_actual, type_attribute, attribute_set, common, class, class_common, class_order, class_permission, class_permission_set, rule, Statements, no_more, statement, is_optional, stands_apart, are_apart, Module, Placed, namespace_inside, optionals_inside, placed, joined, AreApart}
+use Rattle.cil_specs.proofs.Common.{◌≡◌, ℕ, Bool, true, false, not, ◌&&◌, ◌||◌, List, [], ◌∷◌, refl, sym, ap, ◌∙◌, AllByRecursion, Place, Form, optional, Statements, no_more, statement, is_optional, stands_apart, are_apart, Module, Placed, namespace_inside, optionals_inside, placed, joined, AreApart}
 use Rattle.std.proofs.Common.{true≢false}
 use Rattle.cil_specs.proofs.Runs.{first_true, second_true}
 use Rattle.cil_specs.proofs.NamesLemmas.{all-append, all-contained}
@@ -21,20 +21,8 @@ neither-second false c e = e
 
 -- what is no optional stands around nothing as one
 same-inside : (form : Form) (at : Place) (optionals : List ℕ) → is_optional form ≡ false → optionals_inside form at optionals ≡ optionals
-same-inside (block id) at optionals none = refl
 same-inside (optional id) at optionals none = absurd (true≢false none)
-same-inside (type_name id) at optionals none = refl
-same-inside (type_alias id) at optionals none = refl
-same-inside (alias_actual alias actual) at optionals none = refl
-same-inside (type_attribute id) at optionals none = refl
-same-inside (attribute_set attribute expr) at optionals none = refl
-same-inside (common id permissions) at optionals none = refl
-same-inside (class id permissions) at optionals none = refl
-same-inside (class_common the_class the_common) at optionals none = refl
-same-inside (class_order classes) at optionals none = refl
-same-inside (class_permission id) at optionals none = refl
-same-inside (class_permission_set set the_class permissions) at optionals none = refl
-same-inside (rule kind source target permissions) at optionals none = refl
+same-inside _ at optionals none = refl
 
 -- the statements of a module, or those inside one of its statements
 placed-apart : (name : List ℕ) (namespace : List (List ℕ)) (optionals : List ℕ) (inside : Bool) (statements : Statements) → (inside ≡ false → optionals ≡ []) → are_apart inside statements ≡ true

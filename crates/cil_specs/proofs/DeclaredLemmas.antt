@@ -1,5 +1,5 @@
 -- Where no name is declared twice, each stands in one statement, and is found in a set of optionals if that one stands within it.
-use Rattle.cil_specs.proofs.Common.{◌≡◌, ℕ, Bool, true, false, not, ◌&&◌, ◌||◌, cond, List, [], ◌∷◌, ◌++◌, Option, Some, None, is_some, bytes_eq, refl, sym, ap, ◌∙◌, subst, append_assoc, if◌then◌else◌, find, list_any, none-some, bytes_eq-Decides, and-true, Word, Form, block, optional, type_name, type_alias, alias_actual, type_attribute, attribute_set, common, class, class_common, class_order, class_permission, class_permission_set, rule, is_optional, Placed, Optionals, is_within, restricted, Table, types, classes, commons, permission_sets, scopes, declared_in, is_word, same_namespace, declares, declaration, holds_of, PolicyFault, twice, is_again, twice_words, IsFaultOf}
+use Rattle.cil_specs.proofs.Common.{◌≡◌, ℕ, Bool, true, false, not, ◌&&◌, ◌||◌, cond, List, [], ◌∷◌, ◌++◌, Option, Some, None, is_some, bytes_eq, refl, sym, ap, ◌∙◌, subst, append_assoc, if◌then◌else◌, find, list_any, none-some, bytes_eq-Decides, and-true, Word, Form, optional, is_optional, Placed, Optionals, is_within, restricted, Table, types, classes, commons, permission_sets, scopes, declared_in, is_word, same_namespace, declares, declaration, holds_of, PolicyFault, twice, is_again, twice_words, IsFaultOf}
 use Rattle.std.proofs.Common.{filter, Contains, true≢false}
 use Rattle.cil_specs.proofs.Runs.{first_true, second_true}
 use Rattle.cil_specs.proofs.NamesLemmas.{contains-first}
@@ -38,19 +38,7 @@ not-optional classes (optional id) w other e = absurd (none-some w e)
 not-optional commons (optional id) w other e = absurd (none-some w e)
 not-optional permission_sets (optional id) w other e = absurd (none-some w e)
 not-optional scopes (optional id) w other e = absurd (other refl)
-not-optional table (block id) w other e = refl
-not-optional table (type_name id) w other e = refl
-not-optional table (type_alias id) w other e = refl
-not-optional table (alias_actual alias actual) w other e = refl
-not-optional table (type_attribute id) w other e = refl
-not-optional table (attribute_set attribute expr) w other e = refl
-not-optional table (common id permissions) w other e = refl
-not-optional table (class id permissions) w other e = refl
-not-optional table (class_common the_class the_common) w other e = refl
-not-optional table (class_order the_classes) w other e = refl
-not-optional table (class_permission id) w other e = refl
-not-optional table (class_permission_set set the_class permissions) w other e = refl
-not-optional table (rule kind source target permissions) w other e = refl
+not-optional table _ w other e = refl
 
 -- the word of a name that a statement declares
 record Named (name : List ℕ) (o : Option Word) : Type 0 where

@@ -10,12 +10,7 @@ same_word v w p q = λ i. record { at = p i; text = q i }
 abbrev pub IsWordExpr : Place → List ℕ → WordExpr → Type 0
 IsWordExpr at text every = text ≡ codes "all"
 IsWordExpr at text (named w) = (at ≡ w.at) × (text ≡ w.text) × (w.text ≢ codes "all")
-IsWordExpr at text (opposite x) = ⊥
-IsWordExpr at text (both x y) = ⊥
-IsWordExpr at text (either x y) = ⊥
-IsWordExpr at text (one_of x y) = ⊥
-IsWordExpr at text nothing = ⊥
-IsWordExpr at text (elements x more) = ⊥
+IsWordExpr at text _ = ⊥
 
 pub word_is : (at : Place) (text : List ℕ) (rest after : Trees) (f : WordExpr) → Expresses (a_word at text rest) f after → IsWordExpr at text f × (rest ≡ after)
 word_is at text rest after every (inl h) = (cc h.1, cc h.1)

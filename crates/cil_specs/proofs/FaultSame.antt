@@ -155,16 +155,7 @@ kind_of_code n =
 
 kind-of-code : (kind : TextFaultKind) → kind_of_code (code_of kind) ≡ kind
 kind-of-code bad_byte = refl
-kind-of-code unbalanced = refl
-kind-of-code unclosed = refl
-kind-of-code unclosed_string = refl
-kind-of-code too_deep = refl
-kind-of-code bare_word = refl
-kind-of-code unsupported = refl
-kind-of-code misshapen = refl
-kind-of-code bad_name = refl
-kind-of-code reserved = refl
-kind-of-code not_in_optional = refl
+kind-of-code _ = refl
 
 -- of two faults neither of which is later the offset and the kind are one
 same_rank : (f g : TextFault) → IsNoLater f g → IsNoLater g f → (f.at.offset ≡ g.at.offset) × (f.kind ≡ g.kind)

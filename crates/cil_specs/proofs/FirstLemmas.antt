@@ -21,14 +21,8 @@ faulty_words too_many_permissions policy before s = too_many_words policy s
 faulty_words circular policy before s = circular_words policy s
 
 pub faulty-listed : (kind : PolicyFaultKind) (policy before : List Placed) (s : Placed) (word : Word) → Contains (faulty_words kind policy before s) word ↔ IsFaulty kind policy before s word
-faulty-listed twice policy before s word = (λ c. c, λ c. c)
-faulty-listed missing policy before s word = (λ c. c, λ c. c)
-faulty-listed wrong_kind policy before s word = (λ c. c, λ c. c)
-faulty-listed alias_twice policy before s word = (λ c. c, λ c. c)
-faulty-listed alias_unset policy before s word = (λ c. c, λ c. c)
-faulty-listed second_common policy before s word = (λ c. c, λ c. c)
-faulty-listed too_many_permissions policy before s word = (λ c. c, λ c. c)
 faulty-listed circular policy before s word = circular-listed policy s word
+faulty-listed _ policy before s word = (λ c. c, λ c. c)
 
 abbrev fault_at : PolicyFaultKind → Placed → Word → PolicyFault
 fault_at kind s word = record { kind = kind; module_name = s.module_name; at = word.at; word = word.text }

@@ -1,5 +1,5 @@
 -- How the operands of a statement's first word fit its form.
-use Rattle.cil_specs.proofs.Common.{◌≡◌, ℕ, List, ap, subst, refl, codes, IsTrue, Place, Word, Trees, none, a_word, are_lists, Expresses, rule_word, Form, block, optional, type_name, type_alias, alias_actual, type_attribute, attribute_set, common, class, class_common, class_order, class_permission, class_permission_set, rule, ClassPermissions, anonymous, by_name, put_word, Begins, IsWordList, IsTargetThen, IsClassList, IsClassAndPermissions, ArePermissions, Fits}
+use Rattle.cil_specs.proofs.Common.{◌≡◌, ℕ, List, ap, subst, refl, codes, IsTrue, Place, Word, Trees, none, a_word, are_lists, Expresses, rule_word, Form, block, optional, type_name, type_alias, alias_actual, type_attribute, attribute_set, common, class, class_common, class_order, class_permission, class_permission_set, rule, put_word, Begins, IsWordList, IsTargetThen, IsClassList, IsClassAndPermissions, ArePermissions, Fits}
 
 -- the first word of a statement of the form
 abbrev pub first_word : Form → List ℕ
@@ -62,20 +62,13 @@ begins_with place word operands given same = (place, ap (a_word place word) same
 
 -- the first word of a form and fitting operands fit it
 pub fits_from : (place : Place) (operands : Trees) (form : Form) (inner : Trees) → OperandsFit operands form inner → Fits (a_word place (first_word form) operands) form inner
-fits_from place operands (block id) inner h = (begins_with place _ operands _ h.0, h.1)
-fits_from place operands (optional id) inner h = (begins_with place _ operands _ h.0, h.1)
-fits_from place operands (type_name id) inner h = (begins_with place _ operands _ h.0, h.1)
-fits_from place operands (type_alias id) inner h = (begins_with place _ operands _ h.0, h.1)
-fits_from place operands (alias_actual alias actual) inner h = (begins_with place _ operands _ h.0, h.1)
-fits_from place operands (type_attribute id) inner h = (begins_with place _ operands _ h.0, h.1)
 fits_from place operands (attribute_set attribute expr) inner h = (h.0.0, begins_with place _ operands _ h.0.1, h.0.2, h.1)
 fits_from place operands (common id permissions) inner h = (h.0.0, begins_with place _ operands _ h.0.1, h.0.2, h.1)
 fits_from place operands (class id permissions) inner h = (h.0.0, begins_with place _ operands _ h.0.1, h.0.2, h.1)
-fits_from place operands (class_common the_class the_common) inner h = (begins_with place _ operands _ h.0, h.1)
 fits_from place operands (class_order classes) inner h = (operands, begins_with place _ operands _ refl, h.0, h.1)
-fits_from place operands (class_permission id) inner h = (begins_with place _ operands _ h.0, h.1)
 fits_from place operands (class_permission_set set the_class permissions) inner h = (h.0.0, begins_with place _ operands _ h.0.1, h.0.2, h.1)
 fits_from place operands (rule kind source target permissions) inner h = (h.0.0, h.0.1, begins_with place _ operands _ h.0.2, h.0.3, h.0.4, h.1)
+fits_from place operands _ inner h = (begins_with place _ operands _ h.0, h.1)
 
 -- a fitting list that begins with this word
 pub fits_parts : (place : Place) (text : List ℕ) (operands : Trees) (form : Form) (inner : Trees) → Fits (a_word place text operands) form inner → (text ≡ first_word form) × OperandsFit operands form inner

@@ -103,20 +103,8 @@ no_class_order operands inner _ other is h = apart _ _ refl is
 
 -- a form that begins with a rule's word is a rule of that kind
 abbrev pub IsRuleOf : RuleKind → Form → Type 0
-IsRuleOf kind (block id) = ⊥
-IsRuleOf kind (optional id) = ⊥
-IsRuleOf kind (type_name id) = ⊥
-IsRuleOf kind (type_alias id) = ⊥
-IsRuleOf kind (alias_actual v w) = ⊥
-IsRuleOf kind (type_attribute id) = ⊥
-IsRuleOf kind (attribute_set attribute expr) = ⊥
-IsRuleOf kind (common id permissions) = ⊥
-IsRuleOf kind (class id permissions) = ⊥
-IsRuleOf kind (class_common v w) = ⊥
-IsRuleOf kind (class_order classes) = ⊥
-IsRuleOf kind (class_permission id) = ⊥
-IsRuleOf kind (class_permission_set set the_class permissions) = ⊥
 IsRuleOf kind (rule other source target permissions) = kind ≡ other
+IsRuleOf kind _ = ⊥
 
 rule_of : (kind : RuleKind) (form : Form) → rule_word kind ≡ first_word form → IsRuleOf kind form
 rule_of kind (rule other source target permissions) h = rule_word_same kind other h

@@ -7,91 +7,22 @@ use Rattle.cil_specs.proofs.RestrictedLemmas.{filter-yes, filter-no}
 pub table_in : Form → Table
 table_in (block id) = scopes
 table_in (optional id) = scopes
-table_in (type_name id) = types
-table_in (type_alias id) = types
-table_in (alias_actual alias actual) = types
-table_in (type_attribute id) = types
-table_in (attribute_set attribute expr) = types
 table_in (common id permissions) = commons
 table_in (class id permissions) = classes
-table_in (class_common the_class the_common) = types
-table_in (class_order the_classes) = types
 table_in (class_permission id) = permission_sets
-table_in (class_permission_set set the_class permissions) = types
-table_in (rule kind source target permissions) = types
+table_in _ = types
 
 pub table-in : (table : Table) (form : Form) (w : Word) → declared_in table form ≡ Some w → table ≡ table_in form
 unfolding table_in
-table-in types (block id) w e = absurd (none-some w e)
-table-in types (optional id) w e = absurd (none-some w e)
 table-in types (type_name id) w e = refl
 table-in types (type_alias id) w e = refl
-table-in types (alias_actual alias actual) w e = absurd (none-some w e)
 table-in types (type_attribute id) w e = refl
-table-in types (attribute_set attribute expr) w e = absurd (none-some w e)
-table-in types (common id permissions) w e = absurd (none-some w e)
-table-in types (class id permissions) w e = absurd (none-some w e)
-table-in types (class_common the_class the_common) w e = absurd (none-some w e)
-table-in types (class_order the_classes) w e = absurd (none-some w e)
-table-in types (class_permission id) w e = absurd (none-some w e)
-table-in types (class_permission_set set the_class permissions) w e = absurd (none-some w e)
-table-in types (rule kind source target permissions) w e = absurd (none-some w e)
-table-in classes (block id) w e = absurd (none-some w e)
-table-in classes (optional id) w e = absurd (none-some w e)
-table-in classes (type_name id) w e = absurd (none-some w e)
-table-in classes (type_alias id) w e = absurd (none-some w e)
-table-in classes (alias_actual alias actual) w e = absurd (none-some w e)
-table-in classes (type_attribute id) w e = absurd (none-some w e)
-table-in classes (attribute_set attribute expr) w e = absurd (none-some w e)
-table-in classes (common id permissions) w e = absurd (none-some w e)
 table-in classes (class id permissions) w e = refl
-table-in classes (class_common the_class the_common) w e = absurd (none-some w e)
-table-in classes (class_order the_classes) w e = absurd (none-some w e)
-table-in classes (class_permission id) w e = absurd (none-some w e)
-table-in classes (class_permission_set set the_class permissions) w e = absurd (none-some w e)
-table-in classes (rule kind source target permissions) w e = absurd (none-some w e)
-table-in commons (block id) w e = absurd (none-some w e)
-table-in commons (optional id) w e = absurd (none-some w e)
-table-in commons (type_name id) w e = absurd (none-some w e)
-table-in commons (type_alias id) w e = absurd (none-some w e)
-table-in commons (alias_actual alias actual) w e = absurd (none-some w e)
-table-in commons (type_attribute id) w e = absurd (none-some w e)
-table-in commons (attribute_set attribute expr) w e = absurd (none-some w e)
 table-in commons (common id permissions) w e = refl
-table-in commons (class id permissions) w e = absurd (none-some w e)
-table-in commons (class_common the_class the_common) w e = absurd (none-some w e)
-table-in commons (class_order the_classes) w e = absurd (none-some w e)
-table-in commons (class_permission id) w e = absurd (none-some w e)
-table-in commons (class_permission_set set the_class permissions) w e = absurd (none-some w e)
-table-in commons (rule kind source target permissions) w e = absurd (none-some w e)
-table-in permission_sets (block id) w e = absurd (none-some w e)
-table-in permission_sets (optional id) w e = absurd (none-some w e)
-table-in permission_sets (type_name id) w e = absurd (none-some w e)
-table-in permission_sets (type_alias id) w e = absurd (none-some w e)
-table-in permission_sets (alias_actual alias actual) w e = absurd (none-some w e)
-table-in permission_sets (type_attribute id) w e = absurd (none-some w e)
-table-in permission_sets (attribute_set attribute expr) w e = absurd (none-some w e)
-table-in permission_sets (common id permissions) w e = absurd (none-some w e)
-table-in permission_sets (class id permissions) w e = absurd (none-some w e)
-table-in permission_sets (class_common the_class the_common) w e = absurd (none-some w e)
-table-in permission_sets (class_order the_classes) w e = absurd (none-some w e)
 table-in permission_sets (class_permission id) w e = refl
-table-in permission_sets (class_permission_set set the_class permissions) w e = absurd (none-some w e)
-table-in permission_sets (rule kind source target permissions) w e = absurd (none-some w e)
 table-in scopes (block id) w e = refl
 table-in scopes (optional id) w e = refl
-table-in scopes (type_name id) w e = absurd (none-some w e)
-table-in scopes (type_alias id) w e = absurd (none-some w e)
-table-in scopes (alias_actual alias actual) w e = absurd (none-some w e)
-table-in scopes (type_attribute id) w e = absurd (none-some w e)
-table-in scopes (attribute_set attribute expr) w e = absurd (none-some w e)
-table-in scopes (common id permissions) w e = absurd (none-some w e)
-table-in scopes (class id permissions) w e = absurd (none-some w e)
-table-in scopes (class_common the_class the_common) w e = absurd (none-some w e)
-table-in scopes (class_order the_classes) w e = absurd (none-some w e)
-table-in scopes (class_permission id) w e = absurd (none-some w e)
-table-in scopes (class_permission_set set the_class permissions) w e = absurd (none-some w e)
-table-in scopes (rule kind source target permissions) w e = absurd (none-some w e)
+table-in _ _ w e = absurd (none-some w e)
 
 -- the words that a statement declares, by a test for each table
 abbrev chosen : (Table → Word → Bool) → Form → List Word
@@ -100,20 +31,13 @@ chosen again form = flat_map (λ table. filter (again table) (option_to_list (de
 -- a statement declares a name in one table alone
 chosen-in : (again : Table → Word → Bool) (form : Form) → chosen again form ≡ filter (again (table_in form)) (option_to_list (declared_in (table_in form) form))
 unfolding table_in
-chosen-in again (block id) = append-nil _
-chosen-in again (optional id) = append-nil _
-chosen-in again (type_name id) = append-nil _
-chosen-in again (type_alias id) = append-nil _
 chosen-in again (alias_actual alias actual) = refl
-chosen-in again (type_attribute id) = append-nil _
 chosen-in again (attribute_set attribute expr) = refl
-chosen-in again (common id permissions) = append-nil _
-chosen-in again (class id permissions) = append-nil _
 chosen-in again (class_common the_class the_common) = refl
 chosen-in again (class_order the_classes) = refl
-chosen-in again (class_permission id) = append-nil _
 chosen-in again (class_permission_set set the_class permissions) = refl
 chosen-in again (rule kind source target permissions) = refl
+chosen-in again _ = append-nil _
 
 chosen-some : (again : Table → Word → Bool) (table : Table) (form : Form) (w : Word) → declared_in table form ≡ Some w → chosen again form ≡ (if again table w then w ∷ [] else [])
 chosen-some again table form w e =

@@ -8,13 +8,8 @@ size (part ∷ parts) = length (spelling part) + size parts
 
 -- a part has a byte at least
 pub size-some : (part : Part) → IsPart part → 0 < length (spelling part)
-size-some (white b) is = omega arith
-size-some (comment bytes) is = omega arith
 size-some (word []) is = absurd (is.0 refl)
-size-some (word (b ∷ bytes)) is = omega arith
-size-some (string bytes) is = omega arith
-size-some opening is = omega arith
-size-some closing is = omega arith
+size-some _ is = omega arith
 
 pub splits-size : (bytes : List ℕ) (parts : List Part) (rest : List ℕ) → Splits bytes parts rest → length bytes ≡ size parts + length rest
 splits-size bytes [] rest splits = let e : length bytes ≡ length rest = ap length splits in omega (arith, e)
@@ -43,11 +38,7 @@ nests-push lists at (p ∷ ps) mid part new nests moves =
 
 told-cons : (bytes : List ℕ) (at : ℕ) (p : Part) (ps : List Part) → told bytes at (p ∷ ps) ≡ told bytes at (p ∷ []) ++ told bytes (at + length (spelling p)) ps
 told-cons bytes at (white b) ps = refl
-told-cons bytes at (comment text) ps = refl
-told-cons bytes at (word text) ps = refl
-told-cons bytes at (string text) ps = refl
-told-cons bytes at opening ps = refl
-told-cons bytes at closing ps = refl
+told-cons bytes at _ ps = refl
 
 pub told-push : (bytes : List ℕ) (at : ℕ) (parts : List Part) (part : Part) → told bytes at (parts ++ part ∷ []) ≡ told bytes at parts ++ told bytes (at + size parts) (part ∷ [])
 told-push bytes at [] part = ap (λ n. told bytes n (part ∷ [])) (let e : at ≡ at + 0 = omega arith in e)

@@ -1,6 +1,5 @@
 -- Places from one byte to a later one.
 use Rattle.cil_specs.proofs.Common.{suc, zero, ◌≡◌, ℕ, ◌+◌, ◌-◌, ◌<◌, ◌≤◌, false, not, List, length, take, get_or, ap, ◌∙◌, arith, suffix_len, count_by_more_no, count_by-le-length, suffix_len-take_yes, suffix_len-le-length, length-take-le, Place, is_line_feed, place_at}
-use Rattle.std.proofs.Common.{count_by}
 
 -- a place further right on its line
 abbrev pub to_right : Place → ℕ → Place

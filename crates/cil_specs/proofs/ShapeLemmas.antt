@@ -1,5 +1,5 @@
 -- Statements and shape faults: trees have not both, and where the faults stand.
-use Rattle.cil_specs.proofs.Common.{◌≡◌, ℕ, ◌+◌, ◌-◌, ◌<◌, ◌⊎◌, inl, inr, Bool, true, false, ◌||◌, List, [], ◌∷◌, ◌++◌, length, map, get_or, zero, suc, Some, sym, ◌∙◌, ap, subst, refl, bytes_eq, IsTrue, not, ◌&&◌, arith, list_any, AllByRecursion, true≢false, or_cases, bytes_eq-Decides, Place, TextFaultKind, TextFault, Word, Role, name_fault, Trees, none, a_word, a_list, are_lists, in_order, allow, auditallow, dontaudit, neverallow, Form, block, optional, type_name, type_alias, alias_actual, type_attribute, attribute_set, common, class, class_common, class_order, class_permission, class_permission_set, rule, words_of, is_optional, stands_apart, Statements, no_more, statement, are_apart, statement_offsets, Fits, keywords, outside_optionals, is_among, IsGoodWord, IsAllowed, Shapes, IsWordFault, no_keyword, no_fit, in_optional, no_name, IsListFault, IsShapeFault, IsInnerFault, IsBodyFault}
+use Rattle.cil_specs.proofs.Common.{◌≡◌, ℕ, ◌+◌, ◌-◌, ◌<◌, ◌⊎◌, inl, inr, Bool, true, false, ◌||◌, List, [], ◌∷◌, ◌++◌, length, map, get_or, zero, suc, Some, sym, ◌∙◌, ap, subst, refl, bytes_eq, IsTrue, not, ◌&&◌, arith, list_any, AllByRecursion, true≢false, or_cases, bytes_eq-Decides, Place, TextFaultKind, TextFault, Word, Role, name_fault, Trees, none, a_word, a_list, are_lists, in_order, allow, auditallow, dontaudit, neverallow, Form, block, optional, common, class, class_common, class_order, rule, words_of, is_optional, stands_apart, Statements, no_more, statement, are_apart, statement_offsets, Fits, keywords, outside_optionals, is_among, IsGoodWord, IsAllowed, Shapes, IsWordFault, no_keyword, no_fit, in_optional, no_name, IsListFault, IsShapeFault, IsInnerFault, IsBodyFault}
 use Rattle.std.proofs.Common.{Contains}
 use Rattle.cil_specs.proofs.FormLemmas.{first_word, OperandsFit, fits_begin, fits_parts}
 use Rattle.cil_specs.proofs.FormSame.{fits_same}
@@ -15,22 +15,7 @@ all_at P (x ∷ xs) (suc k) d within h = all_at P xs k d (omega arith) h.1
 -- each form's first word is a keyword
 pub keyword_of : (form : Form) → is_among keywords (first_word form) ≡ true
 keyword_of (rule allow source target permissions) = refl
-keyword_of (rule auditallow source target permissions) = refl
-keyword_of (rule dontaudit source target permissions) = refl
-keyword_of (rule neverallow source target permissions) = refl
-keyword_of (class_permission id) = refl
-keyword_of (class_permission_set set the_class permissions) = refl
-keyword_of (block id) = refl
-keyword_of (optional id) = refl
-keyword_of (type_name id) = refl
-keyword_of (type_alias id) = refl
-keyword_of (alias_actual v w) = refl
-keyword_of (type_attribute id) = refl
-keyword_of (attribute_set attribute expr) = refl
-keyword_of (common id permissions) = refl
-keyword_of (class id permissions) = refl
-keyword_of (class_common v w) = refl
-keyword_of (class_order classes) = refl
+keyword_of _ = refl
 
 -- the first word of a list that fits is a keyword
 pub fits_keyword : (place : Place) (text : List ℕ) (operands : Trees) (form : Form) (inner : Trees) → Fits (a_word place text operands) form inner → is_among keywords text ≡ true
@@ -151,19 +136,11 @@ shapes_rise (statement at form body more) inside trees low high h order =
 form_apart : (inside : Bool) (form : Form) → (IsTrue inside → is_among outside_optionals (first_word form) ≡ false) → not (inside && stands_apart form) ≡ true
 form_apart false form allowed = refl
 form_apart true (block id) allowed = absurd (true≢false (allowed refl))
-form_apart true (optional id) allowed = refl
-form_apart true (type_name id) allowed = refl
-form_apart true (type_alias id) allowed = refl
-form_apart true (alias_actual alias actual) allowed = refl
-form_apart true (type_attribute id) allowed = refl
-form_apart true (attribute_set attribute expr) allowed = refl
 form_apart true (common id permissions) allowed = absurd (true≢false (allowed refl))
 form_apart true (class id permissions) allowed = absurd (true≢false (allowed refl))
 form_apart true (class_common the_class the_common) allowed = absurd (true≢false (allowed refl))
 form_apart true (class_order classes) allowed = absurd (true≢false (allowed refl))
-form_apart true (class_permission id) allowed = refl
-form_apart true (class_permission_set set the_class permissions) allowed = refl
-form_apart true (rule kind source target permissions) allowed = refl
+form_apart _ _ allowed = refl
 
 -- what may stand in no optional stands in none
 pub shapes_apart : (statements : Statements) (inside : Bool) (trees : Trees) → Shapes inside trees statements → are_apart inside statements ≡ true

@@ -85,37 +85,17 @@ words_of (rule kind source target permissions) = as_referred source ∷ (map as_
 
 -- whether a statement is an optional
 abbrev pub is_optional : Form → Bool
-is_optional (block id) = false
 is_optional (optional id) = true
-is_optional (type_name id) = false
-is_optional (type_alias id) = false
-is_optional (alias_actual alias actual) = false
-is_optional (type_attribute id) = false
-is_optional (attribute_set attribute expr) = false
-is_optional (common id permissions) = false
-is_optional (class id permissions) = false
-is_optional (class_common the_class the_common) = false
-is_optional (class_order classes) = false
-is_optional (class_permission id) = false
-is_optional (class_permission_set set the_class permissions) = false
-is_optional (rule kind source target permissions) = false
+is_optional _ = false
 
 -- whether a statement may stand in no optional: a block, and what declares classes and commons or says more of them
 abbrev pub stands_apart : Form → Bool
 stands_apart (block id) = true
-stands_apart (optional id) = false
-stands_apart (type_name id) = false
-stands_apart (type_alias id) = false
-stands_apart (alias_actual alias actual) = false
-stands_apart (type_attribute id) = false
-stands_apart (attribute_set attribute expr) = false
 stands_apart (common id permissions) = true
 stands_apart (class id permissions) = true
 stands_apart (class_common the_class the_common) = true
 stands_apart (class_order classes) = true
-stands_apart (class_permission id) = false
-stands_apart (class_permission_set set the_class permissions) = false
-stands_apart (rule kind source target permissions) = false
+stands_apart _ = false
 
 -- whether these do stand in no optional, where the statements do or don't stand in one
 abbrev pub are_apart : Bool → Statements → Bool
