@@ -40,23 +40,10 @@ there-kind policy namespace kind word place b led is =
 
 -- statements by their kinds
 pub form-set : (form : Form) → kind_of form ≡ kinds.TypeAttributeSet → (attribute : Word) × (expr : WordExpr) × (form ≡ attribute_set attribute expr)
-form-set (block id) is = cc
-form-set (optional id) is = cc
-form-set (type_name id) is = cc
-form-set (type_alias id) is = cc
-form-set (alias_actual alias actual) is = cc
-form-set (type_attribute id) is = cc
 form-set (attribute_set attribute expr) is = (attribute, expr, refl)
-form-set (common id permissions) is = cc
-form-set (class id permissions) is = cc
-form-set (class_common the_class the_common) is = cc
-form-set (class_order the_classes) is = cc
-form-set (class_permission id) is = cc
-form-set (class_permission_set set the_class permissions) is = cc
 form-set (rule kind source itself (anonymous the_class permissions)) is = cc
-form-set (rule kind source itself (by_name set)) is = cc
 form-set (rule kind source (the_named word) (anonymous the_class permissions)) is = cc
-form-set (rule kind source (the_named word) (by_name set)) is = cc
+form-set _ is = cc
 
 -- a rule with this target, whatever its permissions are
 pub record IsRuleTo (form : Form) (target : Target) : Type 0 where
@@ -97,74 +84,22 @@ nowhere-unset policy namespace word found led is = ap (holds_of (λ s. is_alias 
 
 -- a statement of another kind gives it to nothing
 pub none-given : (g : Association) (form : Form) → given_kind g (kind_of form) ≡ false → given_word g form ≡ None
-none-given Actual (block w) not_given = refl
-none-given Common (block w) not_given = refl
-none-given Actual (optional w) not_given = refl
-none-given Common (optional w) not_given = refl
-none-given Actual (type_name w) not_given = refl
-none-given Common (type_name w) not_given = refl
-none-given Actual (type_alias w) not_given = refl
-none-given Common (type_alias w) not_given = refl
 none-given Actual (alias_actual x y) not_given = absurd (true≢false not_given)
-none-given Common (alias_actual x y) not_given = refl
-none-given Actual (type_attribute w) not_given = refl
-none-given Common (type_attribute w) not_given = refl
-none-given Actual (attribute_set w e) not_given = refl
-none-given Common (attribute_set w e) not_given = refl
-none-given Actual (common w l) not_given = refl
-none-given Common (common w l) not_given = refl
-none-given Actual (class w l) not_given = refl
-none-given Common (class w l) not_given = refl
-none-given Actual (class_common x y) not_given = refl
 none-given Common (class_common x y) not_given = absurd (true≢false not_given)
-none-given Actual (class_order l) not_given = refl
-none-given Common (class_order l) not_given = refl
-none-given Actual (class_permission w) not_given = refl
-none-given Common (class_permission w) not_given = refl
-none-given Actual (class_permission_set x y e) not_given = refl
-none-given Common (class_permission_set x y e) not_given = refl
-none-given Actual (rule k x itself (anonymous y e)) not_given = refl
-none-given Actual (rule k x itself (by_name y)) not_given = refl
-none-given Actual (rule k x (the_named z) (anonymous y e)) not_given = refl
-none-given Actual (rule k x (the_named z) (by_name y)) not_given = refl
-none-given Common (rule k x itself (anonymous y e)) not_given = refl
-none-given Common (rule k x itself (by_name y)) not_given = refl
-none-given Common (rule k x (the_named z) (anonymous y e)) not_given = refl
-none-given Common (rule k x (the_named z) (by_name y)) not_given = refl
+none-given Actual (rule kind source itself (anonymous the_class permissions)) not_given = refl
+none-given Actual (rule kind source (the_named word) (anonymous the_class permissions)) not_given = refl
+none-given Common (rule kind source itself (anonymous the_class permissions)) not_given = refl
+none-given Common (rule kind source (the_named word) (anonymous the_class permissions)) not_given = refl
+none-given _ _ not_given = refl
 
 pub none-lead : (g : Association) (policy : List Placed) (s : Placed) → given_kind g (kind_of s.form) ≡ false → IsLead (association_table g) policy None (given_lead g policy s)
 none-lead g policy s not_given = record { is = ap (option_and_then (λ w. leads policy (association_table g) s.namespace w.text)) (sym (none-given g s.form not_given)); within = tt; first = tt }
 
 -- the word of what a statement gives something to is its first
 given-first : (g : Association) (form : Form) (word : Word) → given_word g form ≡ Some word → slice_get (words_in form) 0 ≡ Some word
-given-first Actual (block id) word is = cc
-given-first Actual (optional id) word is = cc
-given-first Actual (type_name id) word is = cc
-given-first Actual (type_alias id) word is = cc
 given-first Actual (alias_actual alias actual) word is = is
-given-first Actual (type_attribute id) word is = cc
-given-first Actual (attribute_set attribute expr) word is = cc
-given-first Actual (common id permissions) word is = cc
-given-first Actual (class id permissions) word is = cc
-given-first Actual (class_common the_class the_common) word is = cc
-given-first Actual (class_order the_classes) word is = cc
-given-first Actual (class_permission id) word is = cc
-given-first Actual (class_permission_set set the_class permissions) word is = cc
-given-first Actual (rule kind source target permissions) word is = cc
-given-first Common (block id) word is = cc
-given-first Common (optional id) word is = cc
-given-first Common (type_name id) word is = cc
-given-first Common (type_alias id) word is = cc
-given-first Common (alias_actual alias actual) word is = cc
-given-first Common (type_attribute id) word is = cc
-given-first Common (attribute_set attribute expr) word is = cc
-given-first Common (common id permissions) word is = cc
-given-first Common (class id permissions) word is = cc
 given-first Common (class_common the_class the_common) word is = is
-given-first Common (class_order the_classes) word is = cc
-given-first Common (class_permission id) word is = cc
-given-first Common (class_permission_set set the_class permissions) word is = cc
-given-first Common (rule kind source target permissions) word is = cc
+given-first _ _ word is = cc
 
 -- the word to which a statement gives something, where a test passes
 abbrev pub first_if : {A : Type 0} → Seen A → Bool → Option NumberedWord

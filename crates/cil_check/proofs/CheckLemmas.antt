@@ -46,13 +46,7 @@ kind_at n = if n == 41 then twice else if n == 42 then missing else if n == 43 t
 
 at-code : (kind : spec.PolicyFaultKind) → kind_at (code_of kind) ≡ kind
 at-code twice = refl
-at-code missing = refl
-at-code wrong_kind = refl
-at-code alias_twice = refl
-at-code alias_unset = refl
-at-code second_common = refl
-at-code too_many_permissions = refl
-at-code circular = refl
+at-code _ = refl
 
 same-code : (a b : spec.PolicyFaultKind) → code_of a ≡ code_of b → a ≡ b
 same-code a b e = sym (at-code a) ∙ ap kind_at e ∙ at-code b
@@ -62,25 +56,14 @@ none-first policy once fault is less = once fault (subst (λ k. IsFaultOf k poli
   where
     below : (kind : spec.PolicyFaultKind) → code_of kind < 42 + 0 → kind ≡ twice
     below twice less = refl
-    below missing less = absurd (omega (arith, less))
-    below wrong_kind less = absurd (omega (arith, less))
-    below alias_twice less = absurd (omega (arith, less))
-    below alias_unset less = absurd (omega (arith, less))
-    below second_common less = absurd (omega (arith, less))
-    below too_many_permissions less = absurd (omega (arith, less))
-    below circular less = absurd (omega (arith, less))
+    below _ less = absurd (omega (arith, less))
 
 abbrev pub checked : List PolicyFaultKind
 checked = Missing ∷ WrongKind ∷ AliasTwice ∷ AliasUnset ∷ SecondCommon ∷ TooManyPermissions ∷ []
 
 pub checked-code : (n : ℕ) → n < 6 → code_of (policy_kind_of (get_or checked n Twice)) ≡ 42 + n
-checked-code zero less = refl
-checked-code (suc zero) less = refl
-checked-code (suc (suc zero)) less = refl
-checked-code (suc (suc (suc zero))) less = refl
-checked-code (suc (suc (suc (suc zero)))) less = refl
-checked-code (suc (suc (suc (suc (suc zero))))) less = refl
 checked-code (suc (suc (suc (suc (suc (suc n)))))) less = absurd (omega (arith, less))
+checked-code _ less = refl
 
 pub checked-once : (n : ℕ) → n < 6 → get_or checked n Twice ≡ Twice → ⊥
 checked-once n less e = let code : 41 ≡ 42 + n = sym (ap (λ k. code_of (policy_kind_of k)) e) ∙ checked-code n less in omega (arith, code)
@@ -136,14 +119,8 @@ pub circular-alone : (policy : List Placed) → NoneBelow policy 6 → (fault : 
 circular-alone policy so_far fault is = by fault.kind (so_far fault is)
   where
     by : (kind : spec.PolicyFaultKind) → (code_of kind < 42 + 6 → ⊥) → kind ≡ circular
-    by twice none = absurd (none (omega arith))
-    by missing none = absurd (none (omega arith))
-    by wrong_kind none = absurd (none (omega arith))
-    by alias_twice none = absurd (none (omega arith))
-    by alias_unset none = absurd (none (omega arith))
-    by second_common none = absurd (none (omega arith))
-    by too_many_permissions none = absurd (none (omega arith))
     by circular none = refl
+    by _ none = absurd (none (omega arith))
 
 pub none-all : (policy : List Placed) → AreFoundInside policy → NoneBelow policy 6 → ((fault : spec.PolicyFault) → IsFaultOf circular policy fault → ⊥) → IsFaultless policy
 none-all policy inside so_far straight = record {
@@ -153,13 +130,7 @@ none-all policy inside so_far straight = record {
   where
     below : (kind : spec.PolicyFaultKind) → code_of kind < 42 + 7
     below twice = omega arith
-    below missing = omega arith
-    below wrong_kind = omega arith
-    below alias_twice = omega arith
-    below alias_unset = omega arith
-    below second_common = omega arith
-    below too_many_permissions = omega arith
-    below circular = omega arith
+    below _ = omega arith
 
     none : (fault : spec.PolicyFault) → IsFaultIn policy fault → ⊥
     none fault is = none-next policy 6 circular refl straight so_far fault is (below fault.kind)

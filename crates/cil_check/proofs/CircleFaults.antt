@@ -1,10 +1,10 @@
 -- The first attribute that depends on itself is the first fault of its kind.
-use Rattle.cil_check.proofs.Common.{◌≡◌, ℕ, ◌<◌, true, cond, List, [], ◌∷◌, take, filter, Option, Some, Vec, Contains, refl, sym, ap, ◌∙◌, subst, Word, type_attribute, Placed, types, declared_name, is_attribute, PolicyFault, circular, IsCircular, IsFaultOf, sets_of, DependsOn, attribute-word, attribute_words, circular_words, circular-listed, depends_on, depends-decided, no-elements, contains-middle, IsOnce, words_in, NumberedWord, AreOrdered, IsLeast, HaveOneNames, AreNodes, Leads, attribute_count, IsNumbered, IsGraphOf, IsSeen, Reads, fault_at, Seen}
+use Rattle.cil_check.proofs.Common.{◌≡◌, ℕ, ◌<◌, MatchOption, length, get_or, arith, HaveNumbers, true, cond, List, [], ◌∷◌, take, filter, Option, Some, Vec, Contains, refl, sym, ap, ◌∙◌, subst, Word, type_attribute, Placed, types, declared_name, is_attribute, PolicyFault, circular, IsCircular, IsFaultOf, sets_of, DependsOn, attribute-word, attribute_words, circular_words, circular-listed, depends_on, depends-decided, no-elements, contains-middle, IsOnce, words_in, NumberedWord, AreOrdered, IsLeast, HaveOneNames, AreNodes, Leads, attribute_count, IsNumbered, IsGraphOf, IsSeen, Reads, fault_at, Seen}
 use Rattle.std.proofs.Common.{slice_get}
 use Rattle.cil_dependence.specs.Dependence.{IsStraight, IsFirst}
 use Rattle.cil_check.proofs.CircleLemmas.{leads-depends}
 use Rattle.cil_check.proofs.DeclaredLemmas.{contains-at}
-use Rattle.cil_check.proofs.GraphLemmas.{number-within}
+use Rattle.cil_check.proofs.GraphLemmas.{number-within, places-many, place-numbered}
 use Rattle.cil_check.proofs.LeastLemmas.{NoneFaultyBelow, least-at}
 use Rattle.cil_check.proofs.MentionLemmas.{led-to}
 use Rattle.cil_check.proofs.NumberLemmas.{count-rises}
@@ -55,3 +55,18 @@ pub attribute-read : {B : Type 0} (seen : Seen B) (policy : List Placed) (s : Pl
 attribute-read seen policy s found is declares read =
     let (id, form) = attribute-word s.form declares in
     (id, form, subst (λ o. Reads seen o (Some id)) (sym read) (seen-word seen policy s 0 id is (ap (λ f. slice_get (words_in f) 0) form)))
+
+-- the first node that leads to itself is an attribute's, and this is its statement
+module _ {A : Type 0} (policy : List Placed) (numbers places : List ℕ) (made graph : List (Vec ℕ A)) (o : Option ℕ) (number : ℕ) where
+  pub circle-within : HaveNumbers policy (length policy) numbers places → IsGraphOf policy made → graph ≡ made → MatchOption o (IsStraight graph) (IsFirst graph) → o ≡ Some number → number < length places
+  circle-within have is same told found =
+      let first = subst (λ x. MatchOption x (IsStraight graph) (IsFirst graph)) found told in
+      let within = first.is.within in
+      let nodes = is.nodes in
+      let many = places-many policy numbers places have in
+      let long = ap length same in
+      omega (arith, within, nodes, many, long)
+
+  pub circle-at : HaveNumbers policy (length policy) numbers places → IsGraphOf policy made → graph ≡ made → MatchOption o (IsStraight graph) (IsFirst graph) → o ≡ Some number
+      → (place : ℕ) → place ≡ get_or places number place → (s : Placed) × IsNumbered policy number place s
+  circle-at have is same told found place read = place-numbered policy numbers places number place have (circle-within have is same told found) read

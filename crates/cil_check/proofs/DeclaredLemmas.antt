@@ -1,5 +1,5 @@
 -- Types, aliases and attributes of a policy that declares none twice: each full name tells its statement.
-use Rattle.cil_check.proofs.Common.{◌≡◌, ℕ, zero, suc, Bool, true, List, [], ◌∷◌, length, get_or, Contains, Option, Some, None, is_some, position, refl, sym, ap, ◌∙◌, true≢false, IfSome, none-some, same_Some, slice_get_within, slice_get_read, slice_get-get_or, get_or_from_slice_get, position-Some, bytes_eq-Decides, Word, Placed, types, scopes, declared_in, declared_name, word_text, is_word, same_namespace, declares, is_same, both_true, IsOnce, any-contained, IsName, HaveOneNames, any-position}
+use Rattle.cil_check.proofs.Common.{◌≡◌, ℕ, zero, suc, Bool, true, List, [], ◌∷◌, length, get_or, Contains, Option, Some, None, is_some, position, refl, sym, ap, ◌∙◌, true≢false, IfSome, none-some, same_Some, slice_get_within, slice_get_read, slice_get-get_or, get_or_from_slice_get, position-Some, bytes_eq-Decides, Word, Placed, Table, types, scopes, declared_in, declared_name, word_text, is_word, same_namespace, declares, is_same, both_true, IsOnce, any-contained, IsName, HaveOneNames, any-position}
 use Rattle.std.proofs.Common.{slice_get}
 use Rattle.cil_specs.proofs.DeclaredLemmas.{AtMostOne, declared-once}
 use Rattle.cil_check.proofs.FullNameLemmas.{full-name-same, full-name-some}
@@ -29,20 +29,24 @@ spelt-text : (o : Option Word) → is_some o ≡ true → IfSome o (λ w. IsName
 spelt-text None some spelt = absurd (true≢false (sym some))
 spelt-text (Some w) some spelt = spelt
 
+-- of one full name in a table, the second declares what the first does
+pub alike : (table : Table) (policy : List Placed) → HaveOneNames policy → ((s : Placed) → Contains policy s → IfSome (declared_in table s.form) (λ w. IsName w.text))
+    → (s t : Placed) → Contains policy s → Contains policy t → is_some (declared_in table s.form) ≡ true → is_some (declared_in table t.form) ≡ true
+    → declared_name table s ≡ declared_name table t → is_same table s t ≡ true
+alike table policy named spelt s t there too declares also same =
+    let text = word_text (declared_in table s.form) in
+    let parts = full-name-same s.namespace t.namespace text (word_text (declared_in table t.form)) (named s there).blocks (named t too).blocks
+    (spelt-text (declared_in table s.form) declares (spelt s there)) (spelt-text (declared_in table t.form) also (spelt t too)) same in
+    both_true (is_word text (declared_in table t.form)) (same_namespace t.namespace s.namespace)
+    (ap (λ x. is_word x (declared_in table t.form)) parts.1 ∙ word-itself (declared_in table t.form) also)
+    (ap (same_namespace t.namespace) parts.0 ∙ same-itself t.namespace)
+
 no-scopes : types ≡ scopes → ⊥
 no-scopes e = cc
 
 module _ (policy : List Placed) (once : IsOnce policy) (named : HaveOneNames policy) where
-  -- of one full name, the second declares what the first does
-  alike : (s t : Placed) → Contains policy s → Contains policy t → is_some (declared_in types s.form) ≡ true → is_some (declared_in types t.form) ≡ true
-      → declared_name types s ≡ declared_name types t → is_same types s t ≡ true
-  alike s t there too declares also same =
-      let text = word_text (declared_in types s.form) in
-      let parts = full-name-same s.namespace t.namespace text (word_text (declared_in types t.form)) (named s there).blocks (named t too).blocks
-      (spelt-text (declared_in types s.form) declares (named s there).declared) (spelt-text (declared_in types t.form) also (named t too).declared) same in
-      both_true (is_word text (declared_in types t.form)) (same_namespace t.namespace s.namespace)
-      (ap (λ x. is_word x (declared_in types t.form)) parts.1 ∙ word-itself (declared_in types t.form) also)
-      (ap (same_namespace t.namespace) parts.0 ∙ same-itself t.namespace)
+  spelt : (s : Placed) → Contains policy s → IfSome (declared_in types s.form) (λ w. IsName w.text)
+  spelt s there = (named s there).declared
 
   -- so it is the same
   pub same-place : (i k : ℕ) (s t : Placed) → slice_get policy i ≡ Some s → slice_get policy k ≡ Some t → is_some (declared_in types s.form) ≡ true → is_some (declared_in types t.form) ≡ true
@@ -51,7 +55,7 @@ module _ (policy : List Placed) (once : IsOnce policy) (named : HaveOneNames pol
       let here = at-contains policy i s at in
       let too = at-contains policy k t there in
       one-place (is_same types s) policy i k s t (declared-once policy once types no-scopes s.namespace (word_text (declared_in types s.form)))
-      at (alike s s here here declares declares refl) there (alike s t here too declares also same)
+      at (alike types policy named spelt s s here here declares declares refl) there (alike types policy named spelt s t here too declares also same)
 
   -- what a statement declares it is the first to declare
   pub first-place : (i : ℕ) (s : Placed) → slice_get policy i ≡ Some s → is_some (declared_in types s.form) ≡ true → position (is_same types s) policy ≡ Some i
@@ -61,7 +65,7 @@ module _ (policy : List Placed) (once : IsOnce policy) (named : HaveOneNames pol
       here = at-contains policy i s at
 
       itself : is_same types s s ≡ true
-      itself = alike s s here here declares declares refl
+      itself = alike types policy named spelt s s here here declares declares refl
 
       by : (o : Option ℕ) → position (is_same types s) policy ≡ o → position (is_same types s) policy ≡ Some i
       by None none = absurd (true≢false (sym (any-contained (is_same types s) policy s here itself) ∙ any-position (is_same types s) policy ∙ ap is_some none))

@@ -3,6 +3,7 @@ use Rattle.cil_check.proofs.Common.{◌≡◌, inl, inr, ℕ, ◌+◌, ◌<◌, 
 use Rattle.std.proofs.Common.{length-append, slice_get}
 use Rattle.cil_check.proofs.PermissionLemmas.{number-same}
 use Rattle.cil_check.proofs.WordLemmas.{has-fold}
+use Rattle.cil_bind.proofs.WordLemmas.{numbers-long}
 
 -- where there is no room nothing is taken up
 pub fold-over : (keys numbers : List ℕ) → nat_lt 32 (length keys) ≡ true → fold with_number keys numbers ≡ keys
@@ -22,9 +23,6 @@ number-has names n x distinct at (k ∷ keys) (y ∷ list) are =
     ap (λ b. b || list_any (λ j. n == j) keys) (number-same names n k y distinct (slice_get_within names n x at) head ∙ ap (λ l. bytes_eq l y) (get_or_from_slice_get names n x [] at))
     ∙ ap (λ b. bytes_eq x y || b) (number-has names n x distinct at keys list rest)
 
-as-long : (names : List (List ℕ)) (keys : List ℕ) (list : List (List ℕ)) → AreNumbersOf names keys list → length keys ≡ length list
-as-long names keys list are = sym (length-map keys (slice_get names)) ∙ ap length are ∙ length-map list Some
-
 -- one more name
 count-one : (names : List (List ℕ)) (keys : List ℕ) (list : List (List ℕ)) (n : ℕ) (x : List ℕ) → IsDistinct bytes_eq names → slice_get names n ≡ Some x → AreNumbersOf names keys (take 33 list)
     → AreNumbersOf names (with_number keys n) (take 33 (with_name list x))
@@ -32,14 +30,14 @@ count-one names keys list n x distinct at are = elim (cases_lt (length list) 33)
   | inl less ↦
       let all : take 33 list ≡ list = take_all 33 list (omega arith) in
       let full : AreNumbersOf names keys list = are ∙ ap (map Some) all in
-      let long = as-long names keys list full in
+      let long = numbers-long names keys list full in
       let room : nat_lt 32 (length keys) ≡ false = le-ltb 32 (length keys) (omega (arith, less, long)) in
       ap (λ b. map (slice_get names) (if b || list_any (λ k. n == k) keys then keys else keys ++ n ∷ [])) room
       ∙ ap (λ b. map (slice_get names) (if b then keys else keys ++ n ∷ [])) (number-has names n x distinct at keys list full)
       ∙ by (has_name list x) full less
   | inr past ↦
       let size : length (take 33 list) ≡ 33 = length-take-le 33 list past in
-      let long = as-long names keys (take 33 list) are in
+      let long = numbers-long names keys (take 33 list) are in
       let over : nat_lt 32 (length keys) ≡ true = lt-ltb 32 (length keys) (omega (arith, size, long)) in
       ap (λ b. map (slice_get names) (if b || list_any (λ k. n == k) keys then keys else keys ++ n ∷ [])) over ∙ are ∙ ap (map Some) (kept (has_name list x) past)
 ]
@@ -88,11 +86,11 @@ fold-distinct list more = fold-fold list [] more
 pub over-same : (names : List (List ℕ)) (keys : List ℕ) (list : List (List ℕ)) → AreNumbersOf names keys (take 33 list) → nat_lt 32 (length keys) ≡ nat_lt 32 (length list)
 over-same names keys list are = elim (cases_lt (length list) 33) [
   | inl less ↦
-      let long = as-long names keys (take 33 list) are in
+      let long = numbers-long names keys (take 33 list) are in
       let all : take 33 list ≡ list = take_all 33 list (omega arith) in
       ap (nat_lt 32) (long ∙ ap length all)
   | inr past ↦
-      let long = as-long names keys (take 33 list) are in
+      let long = numbers-long names keys (take 33 list) are in
       let size : length (take 33 list) ≡ 33 = length-take-le 33 list past in
       lt-ltb 32 (length keys) (omega (arith, long, size)) ∙ sym (lt-ltb 32 (length list) (omega (arith, past)))
 ]

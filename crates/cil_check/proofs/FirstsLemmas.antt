@@ -14,33 +14,8 @@ gives-lead association policy s t = by association t.form
     by : (association : Association) (form : Form) → gives association policy s (record { module_name = t.module_name; at = t.at; form = form; namespace = t.namespace; optionals = t.optionals })
         ≡ holds_of (is_same (association_table association) s) (option_and_then (λ w. leads policy (association_table association) t.namespace w.text) (given_word association form))
     by Actual (block id) = refl
-    by Actual (optional id) = refl
-    by Actual (type_name id) = refl
-    by Actual (type_alias id) = refl
-    by Actual (alias_actual alias actual) = refl
-    by Actual (type_attribute id) = refl
-    by Actual (attribute_set attribute expr) = refl
-    by Actual (common id permissions) = refl
-    by Actual (class id permissions) = refl
-    by Actual (class_common the_class the_common) = refl
-    by Actual (class_order the_classes) = refl
-    by Actual (class_permission id) = refl
-    by Actual (class_permission_set set the_class permissions) = refl
-    by Actual (rule kind source target permissions) = refl
     by Common (block id) = refl
-    by Common (optional id) = refl
-    by Common (type_name id) = refl
-    by Common (type_alias id) = refl
-    by Common (alias_actual alias actual) = refl
-    by Common (type_attribute id) = refl
-    by Common (attribute_set attribute expr) = refl
-    by Common (common id permissions) = refl
-    by Common (class id permissions) = refl
-    by Common (class_common the_class the_common) = refl
-    by Common (class_order the_classes) = refl
-    by Common (class_permission id) = refl
-    by Common (class_permission_set set the_class permissions) = refl
-    by Common (rule kind source target permissions) = refl
+    by _ _ = refl
 
 word-text : (name : List ℕ) (o : Option Word) → is_word name o ≡ true → word_text o ≡ name
 word-text name None e = absurd (true≢false (sym e))

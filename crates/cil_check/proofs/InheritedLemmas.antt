@@ -89,35 +89,11 @@ given-lead policy s t = ap (λ b. if b then common_permissions policy t.namespac
 common-lead : (policy : List Placed) (namespace : List (List ℕ)) (form : Form) → common_permissions policy namespace form
     ≡ listed_by (option_and_then (λ w. leads policy commons namespace w.text) (common_word form))
 common-lead policy namespace (block id) = refl
-common-lead policy namespace (optional id) = refl
-common-lead policy namespace (type_name id) = refl
-common-lead policy namespace (type_alias id) = refl
-common-lead policy namespace (alias_actual alias actual) = refl
-common-lead policy namespace (type_attribute id) = refl
-common-lead policy namespace (attribute_set attribute expr) = refl
-common-lead policy namespace (common id permissions) = refl
-common-lead policy namespace (class id permissions) = refl
-common-lead policy namespace (class_common the_class the_common) = refl
-common-lead policy namespace (class_order the_classes) = refl
-common-lead policy namespace (class_permission id) = refl
-common-lead policy namespace (class_permission_set set the_class permissions) = refl
-common-lead policy namespace (rule kind source target permissions) = refl
+common-lead policy namespace _ = refl
 
 given-form : (form : Form) (word : Word) → given_word Common form ≡ Some word → (the_common : Word) × (form ≡ class_common word the_common)
-given-form (block id) word is = cc
-given-form (optional id) word is = cc
-given-form (type_name id) word is = cc
-given-form (type_alias id) word is = cc
-given-form (alias_actual alias actual) word is = cc
-given-form (type_attribute id) word is = cc
-given-form (attribute_set attribute expr) word is = cc
-given-form (common id permissions) word is = cc
-given-form (class id permissions) word is = cc
 given-form (class_common the_class the_common) word is = (the_common, ap (λ w. class_common w the_common) (same_Some the_class word is))
-given-form (class_order the_classes) word is = cc
-given-form (class_permission id) word is = cc
-given-form (class_permission_set set the_class permissions) word is = cc
-given-form (rule kind source target permissions) word is = cc
+given-form _ word is = cc
 
 -- the second word of a statement that gives something to a class leads to its common
 pub common-led : {A : Type 0} (seen : Seen A) (policy : List Placed) (t : Placed) (owner : ℕ) → IsSeen seen policy t → IsLead classes policy (Some owner) (given_lead Common policy t)

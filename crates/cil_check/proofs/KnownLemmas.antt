@@ -50,19 +50,12 @@ plain-silent (block id) is = record { quiet = record { kinds = refl; aliases = r
 plain-silent (optional id) is = record { quiet = record { kinds = refl; aliases = refl; commons = refl; class_names = refl }; refs = refl; permissions = refl; elements = refl }
 plain-silent (type_name id) is = record { quiet = record { kinds = refl; aliases = refl; commons = refl; class_names = refl }; refs = refl; permissions = refl; elements = refl }
 plain-silent (type_alias id) is = record { quiet = record { kinds = refl; aliases = refl; commons = refl; class_names = refl }; refs = refl; permissions = refl; elements = refl }
-plain-silent (alias_actual alias actual) is = absurd (true≢false (sym is))
 plain-silent (type_attribute id) is = record { quiet = record { kinds = refl; aliases = refl; commons = refl; class_names = refl }; refs = refl; permissions = refl; elements = refl }
-plain-silent (attribute_set attribute expr) is = absurd (true≢false (sym is))
 plain-silent (common id permissions) is = record { quiet = record { kinds = refl; aliases = refl; commons = refl; class_names = refl }; refs = refl; permissions = refl; elements = refl }
-plain-silent (class id permissions) is = absurd (true≢false (sym is))
-plain-silent (class_common the_class the_common) is = absurd (true≢false (sym is))
-plain-silent (class_order the_classes) is = absurd (true≢false (sym is))
 plain-silent (class_permission id) is = record { quiet = record { kinds = refl; aliases = refl; commons = refl; class_names = refl }; refs = refl; permissions = refl; elements = refl }
-plain-silent (class_permission_set set the_class permissions) is = absurd (true≢false (sym is))
 plain-silent (rule kind source itself (anonymous the_class permissions)) is = absurd (true≢false (sym is))
-plain-silent (rule kind source itself (by_name set)) is = absurd (true≢false (sym is))
 plain-silent (rule kind source (the_named word) (anonymous the_class permissions)) is = absurd (true≢false (sym is))
-plain-silent (rule kind source (the_named word) (by_name set)) is = absurd (true≢false (sym is))
+plain-silent _ is = absurd (true≢false (sym is))
 
 -- A statement is clean where its names are found, and lead to things of the kinds that are asked, and no element of it is an alias without
 -- an actual type; it gives nothing and is no class.

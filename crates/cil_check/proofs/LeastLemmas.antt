@@ -96,12 +96,7 @@ sub-permissions the_class permissions =
 
 -- the words asked of a form are words of it, in the order of the text
 sub-references : (form : Form) → IsSub (map offset (map (λ r. r.1) (references form)) ++ map offset (map (λ p. p.1) (named_permissions form))) (offsets_in form)
-sub-references (block id) = tt
-sub-references (optional id) = tt
-sub-references (type_name id) = tt
-sub-references (type_alias id) = tt
 sub-references (alias_actual alias actual) = inl (refl, inl (refl, tt))
-sub-references (type_attribute id) = tt
 sub-references (attribute_set attribute expr) =
     inl (
       refl,
@@ -109,14 +104,11 @@ sub-references (attribute_set attribute expr) =
           (sub-trans (map offset (map (λ (r : Table × Word). r.1) (map (λ w. (types, w)) (leaves expr)))) (map offset (leaves expr)) (map (λ (role, word). word.at.offset) (map as_referred (leaves expr)))
           (sub-second types (leaves expr)) (sub-referred (leaves expr))),
     )
-sub-references (common id permissions) = tt
-sub-references (class id permissions) = tt
 sub-references (class_common the_class the_common) = inl (refl, inl (refl, tt))
 sub-references (class_order the_classes) =
     sub-end (map offset (map (λ (r : Table × Word). r.1) (map (λ w. (classes, w)) the_classes))) (map (λ (role, word). word.at.offset) (map as_referred the_classes))
     (sub-trans (map offset (map (λ (r : Table × Word). r.1) (map (λ w. (classes, w)) the_classes))) (map offset the_classes) (map (λ (role, word). word.at.offset) (map as_referred the_classes))
     (sub-second classes the_classes) (sub-referred the_classes))
-sub-references (class_permission id) = tt
 sub-references (class_permission_set set the_class permissions) =
     inl (refl, inl (refl, sub-permissions the_class (leaves permissions)))
 sub-references (rule kind source itself (anonymous the_class permissions)) =
@@ -125,6 +117,7 @@ sub-references (rule kind source itself (by_name set)) = inl (refl, inl (refl, t
 sub-references (rule kind source (the_named target) (anonymous the_class permissions)) =
     inl (refl, inl (refl, inl (refl, sub-permissions the_class (leaves permissions))))
 sub-references (rule kind source (the_named target) (by_name set)) = inl (refl, inl (refl, inl (refl, tt)))
+sub-references _ = tt
 
 sub-missing : (policy : List Placed) (s : Placed) → IsSub (map offset (missing_words policy s)) (offsets_in s.form)
 sub-missing policy s =
@@ -139,86 +132,28 @@ sub-missing policy s =
     (sub-references s.form))
 
 sub-kinds : (form : Form) → IsSub (map offset (map (λ r. r.1) (kinds_asked form))) (offsets_in form)
-sub-kinds (block id) = tt
-sub-kinds (optional id) = tt
-sub-kinds (type_name id) = tt
-sub-kinds (type_alias id) = tt
 sub-kinds (alias_actual alias actual) = inl (refl, inl (refl, tt))
-sub-kinds (type_attribute id) = tt
 sub-kinds (attribute_set attribute expr) = inl (refl, tt)
-sub-kinds (common id permissions) = tt
-sub-kinds (class id permissions) = tt
-sub-kinds (class_common the_class the_common) = tt
-sub-kinds (class_order the_classes) = tt
-sub-kinds (class_permission id) = tt
-sub-kinds (class_permission_set set the_class permissions) = tt
-sub-kinds (rule kind source target permissions) = tt
+sub-kinds _ = tt
 
 sub-aliases : (form : Form) → IsSub (map offset (alias_words form)) (offsets_in form)
-sub-aliases (block id) = tt
-sub-aliases (optional id) = tt
-sub-aliases (type_name id) = tt
-sub-aliases (type_alias id) = tt
 sub-aliases (alias_actual alias actual) = inl (refl, tt)
-sub-aliases (type_attribute id) = tt
-sub-aliases (attribute_set attribute expr) = tt
-sub-aliases (common id permissions) = tt
-sub-aliases (class id permissions) = tt
-sub-aliases (class_common the_class the_common) = tt
-sub-aliases (class_order the_classes) = tt
-sub-aliases (class_permission id) = tt
-sub-aliases (class_permission_set set the_class permissions) = tt
-sub-aliases (rule kind source target permissions) = tt
+sub-aliases _ = tt
 
 sub-elements : (form : Form) → IsSub (map offset (element_words form)) (offsets_in form)
-sub-elements (block id) = tt
-sub-elements (optional id) = tt
-sub-elements (type_name id) = tt
-sub-elements (type_alias id) = tt
-sub-elements (alias_actual alias actual) = tt
-sub-elements (type_attribute id) = tt
 sub-elements (attribute_set attribute expr) =
     sub-skip (map offset (leaves expr)) attribute.at.offset (map (λ (role, word). word.at.offset) (map as_referred (leaves expr))) (sub-referred (leaves expr))
-sub-elements (common id permissions) = tt
-sub-elements (class id permissions) = tt
-sub-elements (class_common the_class the_common) = tt
-sub-elements (class_order the_classes) = tt
-sub-elements (class_permission id) = tt
-sub-elements (class_permission_set set the_class permissions) = tt
 sub-elements (rule kind source itself permissions) = inl (refl, tt)
 sub-elements (rule kind source (the_named target) permissions) = inl (refl, inl (refl, tt))
+sub-elements _ = tt
 
 sub-commons : (form : Form) → IsSub (map offset (common_words form)) (offsets_in form)
-sub-commons (block id) = tt
-sub-commons (optional id) = tt
-sub-commons (type_name id) = tt
-sub-commons (type_alias id) = tt
-sub-commons (alias_actual alias actual) = tt
-sub-commons (type_attribute id) = tt
-sub-commons (attribute_set attribute expr) = tt
-sub-commons (common id permissions) = tt
-sub-commons (class id permissions) = tt
 sub-commons (class_common the_class the_common) = inl (refl, tt)
-sub-commons (class_order the_classes) = tt
-sub-commons (class_permission id) = tt
-sub-commons (class_permission_set set the_class permissions) = tt
-sub-commons (rule kind source target permissions) = tt
+sub-commons _ = tt
 
 sub-classes : (form : Form) → IsSub (map offset (option_to_list (declared_in classes form))) (offsets_in form)
-sub-classes (block id) = tt
-sub-classes (optional id) = tt
-sub-classes (type_name id) = tt
-sub-classes (type_alias id) = tt
-sub-classes (alias_actual alias actual) = tt
-sub-classes (type_attribute id) = tt
-sub-classes (attribute_set attribute expr) = tt
-sub-classes (common id permissions) = tt
 sub-classes (class id permissions) = inl (refl, tt)
-sub-classes (class_common the_class the_common) = tt
-sub-classes (class_order the_classes) = tt
-sub-classes (class_permission id) = tt
-sub-classes (class_permission_set set the_class permissions) = tt
-sub-classes (rule kind source target permissions) = tt
+sub-classes _ = tt
 
 sub-attributes : (form : Form) → IsSub (map offset (attribute_words form)) (offsets_in form)
 sub-attributes (type_attribute id) = inl (refl, tt)

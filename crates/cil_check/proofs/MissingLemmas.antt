@@ -87,38 +87,14 @@ has-step names policy noted keys items owner n i found has have is within less t
 
 -- the permissions that a statement names of a class are all that it has
 pub named-of : (form : Form) (word : Word) → named_class form ≡ Some word → named_permissions form ≡ map (λ w. (word, w)) (permissions_in form)
-named-of (block id) word is = absurd (none-some word is)
-named-of (optional id) word is = absurd (none-some word is)
-named-of (type_name id) word is = absurd (none-some word is)
-named-of (type_alias id) word is = absurd (none-some word is)
-named-of (alias_actual alias actual) word is = absurd (none-some word is)
-named-of (type_attribute id) word is = absurd (none-some word is)
-named-of (attribute_set attribute expr) word is = absurd (none-some word is)
-named-of (common id permissions) word is = absurd (none-some word is)
-named-of (class id permissions) word is = absurd (none-some word is)
-named-of (class_common the_class the_common) word is = absurd (none-some word is)
-named-of (class_order the_classes) word is = absurd (none-some word is)
-named-of (class_permission id) word is = absurd (none-some word is)
 named-of (class_permission_set set the_class permissions) word is = ap (λ c. map (λ w. (c, w)) (leaves permissions)) (same_Some the_class word is)
-named-of (rule kind source target (by_name set)) word is = absurd (none-some word is)
 named-of (rule kind source target (anonymous the_class permissions)) word is = ap (λ c. map (λ w. (c, w)) (leaves permissions)) (same_Some the_class word is)
+named-of _ word is = absurd (none-some word is)
 
 named-none : (form : Form) → named_class form ≡ None → named_permissions form ≡ []
-named-none (block id) is = refl
-named-none (optional id) is = refl
-named-none (type_name id) is = refl
-named-none (type_alias id) is = refl
-named-none (alias_actual alias actual) is = refl
-named-none (type_attribute id) is = refl
-named-none (attribute_set attribute expr) is = refl
-named-none (common id permissions) is = refl
-named-none (class id permissions) is = refl
-named-none (class_common the_class the_common) is = refl
-named-none (class_order the_classes) is = refl
-named-none (class_permission id) is = refl
 named-none (class_permission_set set the_class permissions) is = absurd (none-some the_class (sym is))
-named-none (rule kind source target (by_name set)) is = refl
 named-none (rule kind source target (anonymous the_class permissions)) is = absurd (none-some the_class (sym is))
+named-none _ is = refl
 
 pub second-of : (p : Word × Word → Bool) (word : Word) (words : List Word) → map (λ r. r.1) (filter p (map (λ w. (word, w)) words)) ≡ filter (λ w. p (word, w)) words
 second-of p word [] = refl

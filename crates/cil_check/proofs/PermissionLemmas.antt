@@ -3,6 +3,8 @@ use Rattle.cil_check.proofs.Common.{◌≡◌, ℕ, zero, suc, ◌+◌, ◌<◌,
 use Rattle.std.proofs.Common.{slice_get}
 use Rattle.indexmap.specs.IndexSet.{insert_key}
 use Rattle.cil_check.specs.contracts.permissions.ListedPartialEq.TheImpl as listed_eq
+pub use Rattle.cil_bind.proofs.PermissionLemmas.{as-many, names-next, none-listed, own-listed, spread, texts-last, word-read}
+use Rattle.cil_bind.proofs.PositionLemmas.{any-last}
 use Rattle.cil_check.proofs.WordLemmas.{has-distinct}
 
 pub derived-listed : (l : Listed) → (listed_eq.eq-value).it l ≡ is_listed l.owner l.word
@@ -47,22 +49,6 @@ number-same names n m text distinct less at = by (n == m) (bytes_eq (word_at nam
     by false false e f = refl
     by true false e f = sym ((bytes_eq-Decides (word_at names n) text).1 (ap (word_at names) (eqb-true n m e) ∙ here)) ∙ f
     by false true e f = sym e ∙ eq-eqb n m (distinct-place names n m distinct less (slice_get_within names m text at) (bytes_eq-true (word_at names n) text f ∙ sym here))
-
-any-last : {X : Type 0} (p : X → Bool) (xs : List X) (x : X) → list_any p (xs ++ x ∷ []) ≡ (list_any p xs || p x)
-any-last p xs x = list_any-append p xs (x ∷ []) ∙ ap (λ b. list_any p xs || b) (or-false (p x))
-
-texts-last : (words : List Word) (w : Word) → texts (words ++ w ∷ []) ≡ texts words ++ w.text ∷ []
-texts-last [] w = refl
-texts-last (v ∷ words) w = ap (λ l. v.text ∷ l) (texts-last words w)
-
-pub names-next : (list : List Word) (i : ℕ) (w : Word) (name : List ℕ) → slice_get list i ≡ Some w → has_name (texts (take (i + 1) list)) name ≡ (has_name (texts (take i list)) name || bytes_eq name w.text)
-names-next list i w name at =
-    ap (λ k. has_name (texts (take k list)) name) (add-one i) ∙ ap (λ l. has_name (texts l) name) (take-next list i w at) ∙ ap (λ l. has_name l name) (texts-last (take i list) w) ∙ any-last (bytes_eq name) (texts (take i list)) w.text
-
-spread : (a e h b : Bool) → ((a || (e && h)) || (e && b)) ≡ (a || (e && (h || b)))
-spread true e h b = refl
-spread false true h b = refl
-spread false false h b = refl
 
 -- one word more
 pub words-next : (names : List (List ℕ)) (list : List Word) (i : ℕ) (w : Word) (m owner k n : ℕ) (first old new : Bool) → IsDistinct bytes_eq names → n < length names → slice_get list i ≡ Some w → slice_get names m ≡ Some w.text
@@ -114,61 +100,14 @@ open-next names list i w m owner first keys old new at numbered none so_far is b
         map-append (slice_get names) old (m ∷ []) ∙ ap (λ l. l ++ slice_get names m ∷ []) before ∙ ap (λ o. map Some (distinct earlier) ++ o ∷ []) numbered
         ∙ sym (map-append Some (distinct earlier) (w.text ∷ []))
 
--- a word that is read
 -- what is read behind the end of the words
 abbrev pub no_word : NumberedWord
 no_word = record { at = record { offset = 0; line = 0; column = 0 }; text = 0 }
-
-pub word-read : (texts : List (List ℕ)) (shown : List NumberedWord) (list : List Word) (i : ℕ) (d : NumberedWord) → map (read texts) shown ≡ map Some list → i < length shown
-    → (w : Word) × (slice_get list i ≡ Some w) × (read texts (get_or shown i d) ≡ Some w)
-word-read texts [] list i d is less = absurd (omega (arith, less))
-word-read texts (y ∷ shown) [] i d is less = cc
-word-read texts (y ∷ shown) (w ∷ list) zero d is less = (w, refl, (let head : read texts y ≡ Some w = cc in head))
-word-read texts (y ∷ shown) (w ∷ list) (suc i) d is less = let rest : map (read texts) shown ≡ map {A = Word} Some list = cc in word-read texts shown list i d rest (omega (arith, less))
-
-pub as-many : (texts : List (List ℕ)) (shown : List NumberedWord) (list : List Word) → map (read texts) shown ≡ map Some list → length list ≡ length shown
-as-many texts shown list is = sym (length-map list Some) ∙ ap length (sym is) ∙ length-map shown (read texts)
 
 pub one-name-at : (list : List Word) (i : ℕ) (w : Word) → AllByRecursion IsOneName list → slice_get list i ≡ Some w → IsOneName w
 one-name-at [] i w all at = absurd (none-some w at)
 one-name-at (v ∷ list) zero w all at = subst IsOneName (same_Some v w at) all.0
 one-name-at (v ∷ list) (suc i) w all at = one-name-at list i w all.1 at
-
--- what a statement lists is its own where its kind lists any
-pub own-listed : (form : Form) → lists_own (kind_of form) ≡ true → permissions_in form ≡ own_permissions form
-own-listed (block id) is = cc
-own-listed (optional id) is = cc
-own-listed (type_name id) is = cc
-own-listed (type_alias id) is = cc
-own-listed (alias_actual alias actual) is = cc
-own-listed (type_attribute id) is = cc
-own-listed (attribute_set attribute expr) is = cc
-own-listed (common id permissions) is = refl
-own-listed (class id permissions) is = refl
-own-listed (class_common the_class the_common) is = cc
-own-listed (class_order the_classes) is = cc
-own-listed (class_permission id) is = cc
-own-listed (class_permission_set set the_class permissions) is = cc
-own-listed (rule kind source itself (anonymous the_class permissions)) is = cc
-own-listed (rule kind source itself (by_name set)) is = cc
-own-listed (rule kind source (the_named word) (anonymous the_class permissions)) is = cc
-own-listed (rule kind source (the_named word) (by_name set)) is = cc
-
-pub none-listed : (form : Form) → lists_own (kind_of form) ≡ false → own_permissions form ≡ []
-none-listed (block id) is = refl
-none-listed (optional id) is = refl
-none-listed (type_name id) is = refl
-none-listed (type_alias id) is = refl
-none-listed (alias_actual alias actual) is = refl
-none-listed (type_attribute id) is = refl
-none-listed (attribute_set attribute expr) is = refl
-none-listed (common id permissions) is = cc
-none-listed (class id permissions) is = cc
-none-listed (class_common the_class the_common) is = refl
-none-listed (class_order the_classes) is = refl
-none-listed (class_permission id) is = refl
-none-listed (class_permission_set set the_class permissions) is = refl
-none-listed (rule kind source target permissions) is = refl
 
 -- of the statements in front of a place, each lists the permissions that the keys have
 abbrev pub HaveListedBelow : List (List ℕ) → List Placed → ℕ → List Listed → Type 0

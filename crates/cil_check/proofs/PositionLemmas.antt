@@ -1,6 +1,8 @@
 -- The first place in a list at which a test passes.
 use Rattle.cil_check.proofs.Common.{◌≡◌, ℕ, ◌+◌, zero, suc, Bool, true, false, ◌||◌, List, [], ◌∷◌, ◌++◌, length, take, cond, Option, Some, None, is_some, position, refl, sym, ap, ◌∙◌, subst, add-one, find, list_any, slice_get, AllByRecursion, option_or, none-some, same_Some, at_if, position-cons, position-append, take-next, take-length}
 use Rattle.std.proofs.Common.{option_map}
+pub use Rattle.cil_parse.proofs.LexiconLemmas.{get-append}
+pub use Rattle.cil_bind.proofs.FromLemmas.{all-get as all-at}
 
 -- tests that pass alike
 pub position-same : {X : Type 0} (p q : X → Bool) → ((x : X) → p x ≡ q x) → (xs : List X) → position p xs ≡ position q xs
@@ -31,12 +33,6 @@ pub first-append : {X : Type 0} (xs ys : List X) → slice_get (xs ++ ys) 0 ≡ 
 first-append [] ys = refl
 first-append (x ∷ xs) ys = refl
 
--- an element is where it was, with more behind
-pub get-append : {X : Type 0} (xs ys : List X) (m : ℕ) (x : X) → slice_get xs m ≡ Some x → slice_get (xs ++ ys) m ≡ Some x
-get-append [] ys m x is = absurd (none-some x is)
-get-append (y ∷ xs) ys zero x is = is
-get-append (y ∷ xs) ys (suc m) x is = get-append xs ys m x is
-
 -- the last element
 pub get-last : {X : Type 0} (xs : List X) (y : X) → slice_get (xs ++ y ∷ []) (length xs) ≡ Some y
 get-last [] y = refl
@@ -60,9 +56,3 @@ position-more p (x ∷ xs) (suc n) i e = position-cons p x xs ∙ by (p x) (posi
     by true o is more e = e
     by false None is more e = absurd (none-some i (sym (ap (option_map suc) is) ∙ e))
     by false (Some m) is more e = ap (option_map suc) (more m is) ∙ sym (ap (option_map suc) is) ∙ e
-
--- what holds of each element holds of the one at a place
-pub all-at : {X : Type 0} (P : X → Type 0) (xs : List X) (i : ℕ) (x : X) → AllByRecursion P xs → slice_get xs i ≡ Some x → P x
-all-at P [] i x all at = absurd (none-some x at)
-all-at P (y ∷ ys) zero x all at = subst P (same_Some y x at) all.0
-all-at P (y ∷ ys) (suc i) x all at = all-at P ys i x all.1 at

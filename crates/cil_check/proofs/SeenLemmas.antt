@@ -9,6 +9,8 @@ use Rattle.cil_bind.specs.Binding.{AreLeads, AreBound}
 use Rattle.cil_bind.specs.Scope.{IsFrom}
 use Rattle.cil_bind.specs.declared.joined.NamedModule.{NamedModule}
 use Rattle.cil_bind.specs.declared.rows.Row.{Row}
+pub use Rattle.cil_bind.proofs.BindingLemmas.{bound-at}
+use Rattle.cil_bind.proofs.BindingLemmas.{bound-length}
 use Rattle.cil_bind.proofs.DeclareLemmas.{rows-length}
 use Rattle.cil_bind.proofs.FromLemmas.{from-at, is-there, IsThere}
 use Rattle.cil_check.specs.declared.bound.BoundPolicy.{BoundPolicy}
@@ -19,25 +21,11 @@ pub is-long : {A : Type 0} (b : BoundPolicy A) (policy : List Placed) → IsOf b
 is-long b policy is =
     rows-length b.policy.now.names b.policy.now.lookup.namespaces b.policy.now.rows.items policy is.bound.stands.rows_are
 
-bound-length : (policy statements : List Placed) (bound : List (List (Option ℕ))) → AreBound policy statements bound → length bound ≡ length statements
-bound-length policy [] [] are = refl
-bound-length policy [] (b ∷ bound) are = absurd are
-bound-length policy (s ∷ statements) [] are = absurd are
-bound-length policy (s ∷ statements) (b ∷ bound) are = ap suc (bound-length policy statements bound are.1)
-
 pub bound-long : {A : Type 0} (b : BoundPolicy A) (policy : List Placed) → IsOf b policy → length b.policy.now.bound.0 ≡ length policy
 bound-long b policy is = bound-length policy policy b.policy.now.bound.0 is.bound.bound
 
 pub kinds-long : {A : Type 0} (b : BoundPolicy A) (policy : List Placed) → IsOf b policy → length b.policy.now.kinds.items ≡ length policy
 kinds-long b policy is = ap length is.bound.kinds ∙ length-map policy (λ s. kind_of s.form)
-
--- the references of a statement are bound
-pub bound-at : (policy statements : List Placed) (bound : List (List (Option ℕ))) (i : ℕ) (s : Placed) → AreBound policy statements bound → slice_get statements i ≡ Some s
-    → AreLeads policy s.namespace (references s.form) (get_or bound i [])
-bound-at policy [] bound i s are at = absurd (none-some s at)
-bound-at policy (t ∷ statements) [] i s are at = absurd are
-bound-at policy (t ∷ statements) (b ∷ bound) zero s are at = subst (λ u. AreLeads policy u.namespace (references u.form) b) (same_Some t s at) are.0
-bound-at policy (t ∷ statements) (b ∷ bound) (suc i) s are at = bound-at policy statements bound i s are.1 at
 
 -- a reference leads where it is bound to
 pub lead-of : (policy : List Placed) (namespace : List (List ℕ)) (refs : List (Table × Word)) (bound : List (Option ℕ)) (k : ℕ) (r : Table × Word) → AreLeads policy namespace refs bound → slice_get refs k ≡ Some r
@@ -75,57 +63,13 @@ seen-word seen policy s k word is at =
 
 -- the kind of a statement tells what it declares
 pub kind-form : (kind : Kind) (form : Form) → is_kind kind (kind_of form) ≡ test_of kind form
-kind-form «Type» (block id) = refl
-kind-form «Type» (optional id) = refl
-kind-form «Type» (type_name id) = refl
-kind-form «Type» (type_alias id) = refl
-kind-form «Type» (alias_actual alias actual) = refl
-kind-form «Type» (type_attribute id) = refl
-kind-form «Type» (attribute_set attribute expr) = refl
-kind-form «Type» (common id permissions) = refl
-kind-form «Type» (class id permissions) = refl
-kind-form «Type» (class_common the_class the_common) = refl
-kind-form «Type» (class_order the_classes) = refl
-kind-form «Type» (class_permission id) = refl
-kind-form «Type» (class_permission_set set the_class permissions) = refl
 kind-form «Type» (rule kind source itself (anonymous the_class permissions)) = refl
-kind-form «Type» (rule kind source itself (by_name set)) = refl
 kind-form «Type» (rule kind source (the_named word) (anonymous the_class permissions)) = refl
-kind-form «Type» (rule kind source (the_named word) (by_name set)) = refl
-kind-form Alias (block id) = refl
-kind-form Alias (optional id) = refl
-kind-form Alias (type_name id) = refl
-kind-form Alias (type_alias id) = refl
-kind-form Alias (alias_actual alias actual) = refl
-kind-form Alias (type_attribute id) = refl
-kind-form Alias (attribute_set attribute expr) = refl
-kind-form Alias (common id permissions) = refl
-kind-form Alias (class id permissions) = refl
-kind-form Alias (class_common the_class the_common) = refl
-kind-form Alias (class_order the_classes) = refl
-kind-form Alias (class_permission id) = refl
-kind-form Alias (class_permission_set set the_class permissions) = refl
 kind-form Alias (rule kind source itself (anonymous the_class permissions)) = refl
-kind-form Alias (rule kind source itself (by_name set)) = refl
 kind-form Alias (rule kind source (the_named word) (anonymous the_class permissions)) = refl
-kind-form Alias (rule kind source (the_named word) (by_name set)) = refl
-kind-form Attribute (block id) = refl
-kind-form Attribute (optional id) = refl
-kind-form Attribute (type_name id) = refl
-kind-form Attribute (type_alias id) = refl
-kind-form Attribute (alias_actual alias actual) = refl
-kind-form Attribute (type_attribute id) = refl
-kind-form Attribute (attribute_set attribute expr) = refl
-kind-form Attribute (common id permissions) = refl
-kind-form Attribute (class id permissions) = refl
-kind-form Attribute (class_common the_class the_common) = refl
-kind-form Attribute (class_order the_classes) = refl
-kind-form Attribute (class_permission id) = refl
-kind-form Attribute (class_permission_set set the_class permissions) = refl
 kind-form Attribute (rule kind source itself (anonymous the_class permissions)) = refl
-kind-form Attribute (rule kind source itself (by_name set)) = refl
 kind-form Attribute (rule kind source (the_named word) (anonymous the_class permissions)) = refl
-kind-form Attribute (rule kind source (the_named word) (by_name set)) = refl
+kind-form _ _ = refl
 
 -- the statement at a place
 pub there-at : (policy : List Placed) (i : ℕ) → i < length policy → (s : Placed) × (slice_get policy i ≡ Some s)

@@ -60,23 +60,10 @@ count-end names policy noted i k s few has at first past counted =
 
 -- statements by their kinds
 pub form-class : (form : Form) → kind_of form ≡ kinds.Class → (id : Word) × (permissions : List Word) × (form ≡ class id permissions)
-form-class (block id) is = cc
-form-class (optional id) is = cc
-form-class (type_name id) is = cc
-form-class (type_alias id) is = cc
-form-class (alias_actual alias actual) is = cc
-form-class (type_attribute id) is = cc
-form-class (attribute_set attribute expr) is = cc
-form-class (common id permissions) is = cc
 form-class (class id permissions) is = (id, permissions, refl)
-form-class (class_common the_class the_common) is = cc
-form-class (class_order the_classes) is = cc
-form-class (class_permission id) is = cc
-form-class (class_permission_set set the_class permissions) is = cc
 form-class (rule kind source itself (anonymous the_class permissions)) is = cc
-form-class (rule kind source itself (by_name set)) is = cc
 form-class (rule kind source (the_named word) (anonymous the_class permissions)) is = cc
-form-class (rule kind source (the_named word) (by_name set)) is = cc
+form-class _ is = cc
 
 pub too-many-class : (policy : List Placed) (s : Placed) (id : Word) (permissions : List Word) → s.form ≡ class id permissions → slice_get (too_many_words policy s) 0 ≡ word_if (has_too_many policy s) id
 too-many-class policy s id permissions is =

@@ -83,36 +83,11 @@ again-word g policy before t = by g t.form
   where
     by : (g : Association) (form : Form) → slice_get (again_words g policy before (record { module_name = t.module_name; at = t.at; form = form; namespace = t.namespace; optionals = t.optionals })) 0
         ≡ option_and_then (again_if g policy before t) (given_word g form)
-    by association.Actual (block id) = refl
-    by association.Actual (optional id) = refl
-    by association.Actual (type_name id) = refl
-    by association.Actual (type_alias id) = refl
     by association.Actual (alias_actual alias actual) =
         filter-one (has_earlier_actual policy before t.namespace) alias
-    by association.Actual (type_attribute id) = refl
-    by association.Actual (attribute_set attribute expr) = refl
-    by association.Actual (common id permissions) = refl
-    by association.Actual (class id permissions) = refl
-    by association.Actual (class_common the_class the_common) = refl
-    by association.Actual (class_order the_classes) = refl
-    by association.Actual (class_permission id) = refl
-    by association.Actual (class_permission_set set the_class permissions) = refl
-    by association.Actual (rule kind source target permissions) = refl
-    by association.Common (block id) = refl
-    by association.Common (optional id) = refl
-    by association.Common (type_name id) = refl
-    by association.Common (type_alias id) = refl
-    by association.Common (alias_actual alias actual) = refl
-    by association.Common (type_attribute id) = refl
-    by association.Common (attribute_set attribute expr) = refl
-    by association.Common (common id permissions) = refl
-    by association.Common (class id permissions) = refl
     by association.Common (class_common the_class the_common) =
         filter-one (has_earlier_common policy before t.namespace) the_class
-    by association.Common (class_order the_classes) = refl
-    by association.Common (class_permission id) = refl
-    by association.Common (class_permission_set set the_class permissions) = refl
-    by association.Common (rule kind source target permissions) = refl
+    by _ _ = refl
 
 -- the noted place tells whether an earlier statement gives something
 pub again-noted : (g : Association) (policy : List Placed) (place : ℕ) (t : Placed) (word : Word) (firsts : List (ℕ × ℕ)) (found : Option ℕ) → HasFirsts g policy firsts → Some word ≡ given_word g t.form
@@ -216,16 +191,4 @@ once-first policy i s once is its t at = ap (λ u. position (is_same classes u) 
   where
     by : (form : Form) → s.form ≡ form → is_class form ≡ true → position (is_same classes s) policy ≡ Some i
     by (class id permissions) e c = first-of-class policy i s id permissions once is e
-    by (block id) e c = absurd (true≢false (sym c))
-    by (optional id) e c = absurd (true≢false (sym c))
-    by (type_name id) e c = absurd (true≢false (sym c))
-    by (type_alias id) e c = absurd (true≢false (sym c))
-    by (alias_actual alias actual) e c = absurd (true≢false (sym c))
-    by (type_attribute id) e c = absurd (true≢false (sym c))
-    by (attribute_set attribute expr) e c = absurd (true≢false (sym c))
-    by (common id permissions) e c = absurd (true≢false (sym c))
-    by (class_common the_class the_common) e c = absurd (true≢false (sym c))
-    by (class_order the_classes) e c = absurd (true≢false (sym c))
-    by (class_permission id) e c = absurd (true≢false (sym c))
-    by (class_permission_set set the_class permissions) e c = absurd (true≢false (sym c))
-    by (rule kind source target permissions) e c = absurd (true≢false (sym c))
+    by _ e c = absurd (true≢false (sym c))

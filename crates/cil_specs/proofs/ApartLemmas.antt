@@ -1,7 +1,7 @@
 -- What stands apart in its module stands in no optional of the joined policy.
 use Rattle.cil_specs.proofs.Common.{◌≡◌, ℕ, Bool, true, false, not, ◌&&◌, ◌||◌, List, [], ◌∷◌, refl, sym, ap, ◌∙◌, AllByRecursion, Place, Form, optional, Statements, no_more, statement, is_optional, stands_apart, are_apart, Module, Placed, namespace_inside, optionals_inside, placed, joined, AreApart}
 use Rattle.std.proofs.Common.{true≢false}
-use Rattle.cil_specs.proofs.Runs.{first_true, second_true}
+use Rattle.cil_specs.proofs.Runs.{first_true, second_true, neither-first, neither-second}
 use Rattle.cil_specs.proofs.NamesLemmas.{all-append, all-contained}
 
 abbrev IsApart : Placed → Type 0
@@ -10,14 +10,6 @@ IsApart s = stands_apart s.form ≡ true → s.optionals ≡ []
 not-inside : (inside apart : Bool) → not (inside && apart) ≡ true → apart ≡ true → inside ≡ false
 not-inside false apart e there = refl
 not-inside true apart e there = absurd (true≢false (sym e ∙ ap not there))
-
-neither-first : (b c : Bool) → (b || c) ≡ false → b ≡ false
-neither-first true c e = e
-neither-first false c e = refl
-
-neither-second : (b c : Bool) → (b || c) ≡ false → c ≡ false
-neither-second true c e = absurd (true≢false e)
-neither-second false c e = e
 
 -- what is no optional stands around nothing as one
 same-inside : (form : Form) (at : Place) (optionals : List ℕ) → is_optional form ≡ false → optionals_inside form at optionals ≡ optionals

@@ -4,6 +4,7 @@ use Rattle.std.specs.Bool.{IsTrue}
 use Rattle.std.proofs.lemmas.Map.Lookups.{CmpEqualImpliesEq, exact_unsigned, exact_bytes}
 use Rattle.cil_specs.specs.Report.{name_cmp, atom_cmp, row_cmp, names_rise}
 use Rattle.cil_specs.proofs.ReportLemmasMembers.{all_weaker}
+use Rattle.cil_specs.proofs.SearchLemmas.{less-is}
 
 pub name_total : IsTotalOrder name_cmp
 name_total = nat_list_cmp_total
@@ -58,11 +59,6 @@ atom_exact a b e =
     λ i. record { kind = kind i; source = source i; target = target i; the_class = the_class i; permission = permission i }
 
 -- what a test of an answer says
-pub less-is : (o : Ordering) → is_lt o ≡ true → o ≡ Less
-less-is Less e = refl
-less-is Equal e = absurd (false≢true e)
-less-is Greater e = absurd (false≢true e)
-
 pub equal-is : (o : Ordering) → is_eq o ≡ true → o ≡ Equal
 equal-is Less e = absurd (false≢true e)
 equal-is Equal e = refl

@@ -1,5 +1,5 @@
 -- The longest front of a list of bytes that passes a test.
-use Rattle.cil_specs.proofs.Common.{zero, suc, one-add, ◌≡◌, ℕ, ◌+◌, ◌<◌, Bool, true, false, cond, ◌&&◌, List, [], ◌∷◌, ◌++◌, length, take, drop, get_or, refl, ap, sym, ◌∙◌, subst, arith, list_all, prefix_len, comment, word, string, opening, closing, EndsBefore, is_word_byte, is_comment_byte}
+use Rattle.cil_specs.proofs.Common.{zero, suc, one-add, ◌≡◌, ℕ, ◌+◌, ◌<◌, Bool, true, false, cond, ◌&&◌, ◌||◌, List, [], ◌∷◌, ◌++◌, length, take, drop, get_or, refl, ap, sym, ◌∙◌, subst, arith, list_all, prefix_len, comment, word, string, opening, closing, EndsBefore, is_word_byte, is_comment_byte}
 use Rattle.std.proofs.Common.{true≢false}
 
 -- the bytes are none, or their first doesn't pass
@@ -17,6 +17,14 @@ first_true false c e = absurd (true≢false (sym e))
 pub second_true : (b c : Bool) → (b && c) ≡ true → c ≡ true
 second_true true c e = e
 second_true false c e = absurd (true≢false (sym e))
+
+pub neither-first : (b c : Bool) → (b || c) ≡ false → b ≡ false
+neither-first true c e = e
+neither-first false c e = refl
+
+pub neither-second : (b c : Bool) → (b || c) ≡ false → c ≡ false
+neither-second true c e = absurd (true≢false e)
+neither-second false c e = e
 
 pub run-passes : (p : ℕ → Bool) (xs : List ℕ) → list_all p (take (prefix_len p xs) xs) ≡ true
 run-passes p [] = refl

@@ -2,6 +2,7 @@
 use Rattle.cil_specs.proofs.Common.{◌≡◌, ◌≢◌, ℕ, ◌+◌, ◌<◌, ◌≤◌, ◌||◌, cond, ◌==◌, Bool, true, false, List, [], ◌∷◌, ◌++◌, length, drop, get_or, refl, ap, sym, ◌∙◌, subst, append_assoc, append-nil, length-drop, ◌⊎◌, inl, inr, take, arith, take_while, prefix_len, is_white, is_word_byte, is_mark, hex, place_at, Part, white, comment, word, string, opening, closing, spelling, IsPart, Splits, Moves, Nests, IsClean, TextFaultKind, bad_byte, unbalanced, unclosed, unclosed_string, too_deep, bare_word, unsupported, misshapen, bad_name, reserved, not_in_optional, TextFault, Trees, Reads}
 use Rattle.std.proofs.Common.{true≢false}
 use Rattle.cil_specs.specs.Reading.{IsUnclosedString, IsClosedString, Stops, IsStop, IsReadingFault, IsStuck}
+use Rattle.cil_specs.proofs.Runs.{neither-first, neither-second}
 use Rattle.cil_specs.proofs.PartLemmas.{size, size-some, splits-size, clean-size}
 use Rattle.cil_specs.proofs.Fronts.{class_of, class-word, class_of_part, first-class, begins}
 
@@ -14,25 +15,17 @@ ShownBy too_deep rest shown = (class_of (get_or rest 0 0) ≡ 4) × (shown ≡ 4
 ShownBy bare_word rest shown = ((class_of (get_or rest 0 0) ≡ 2) × (shown ≡ take_while is_word_byte rest)) ⊎ ((class_of (get_or rest 0 0) ≡ 3) × (shown ≡ 34 ∷ []) × IsClosedString rest)
 ShownBy _ rest shown = ⊥
 
-or_first : (b c : Bool) → (b || c) ≡ false → b ≡ false
-or_first true c e = e
-or_first false c e = refl
-
-or_second : (b c : Bool) → (b || c) ≡ false → c ≡ false
-or_second true c e = absurd (true≢false e)
-or_second false c e = e
-
 -- a byte that begins no part
 class-none : (b : ℕ) → is_white b ≡ false → is_word_byte b ≡ false → is_mark b ≡ false → class_of b ≡ 6
 class-none b w v m =
-    let rest = or_second (b == 59) _ m in
-    let more = or_second (b == 34) _ rest in
+    let rest = neither-second (b == 59) _ m in
+    let more = neither-second (b == 34) _ rest in
     ap (λ c. cond c 0 (cond (is_word_byte b) 2 (cond (b == 59) 1 (cond (b == 34) 3 (cond (b == 40) 4 (cond (b == 41) 5 6)))))) w
     ∙ ap (λ c. cond c 2 (cond (b == 59) 1 (cond (b == 34) 3 (cond (b == 40) 4 (cond (b == 41) 5 6))))) v
-    ∙ ap (λ c. cond c 1 (cond (b == 34) 3 (cond (b == 40) 4 (cond (b == 41) 5 6)))) (or_first (b == 59) _ m)
-    ∙ ap (λ c. cond c 3 (cond (b == 40) 4 (cond (b == 41) 5 6))) (or_first (b == 34) _ rest)
-    ∙ ap (λ c. cond c 4 (cond (b == 41) 5 6)) (or_first (b == 40) _ more)
-    ∙ ap (λ c. cond c 5 6) (or_second (b == 40) _ more)
+    ∙ ap (λ c. cond c 1 (cond (b == 34) 3 (cond (b == 40) 4 (cond (b == 41) 5 6)))) (neither-first (b == 59) _ m)
+    ∙ ap (λ c. cond c 3 (cond (b == 40) 4 (cond (b == 41) 5 6))) (neither-first (b == 34) _ rest)
+    ∙ ap (λ c. cond c 4 (cond (b == 41) 5 6)) (neither-first (b == 40) _ more)
+    ∙ ap (λ c. cond c 5 6) (neither-second (b == 40) _ more)
 
 -- a run of word bytes that has some begins with one
 word-class : (rest : List ℕ) → take_while is_word_byte rest ≢ [] → class_of (get_or rest 0 0) ≡ 2

@@ -1,9 +1,8 @@
-use Rattle.cil_check.proofs.Common.{◌≡◌, ◌<◌, Some, None, MatchOption, length, sym, ◌∙◌, subst, true≢false, arith, none-some, same_Some, slice_get_within, circular, IsFaultOf, type_attribute, IsLeast, IsGraphOf, fault_at}
+use Rattle.cil_check.proofs.Common.{◌≡◌, Some, None, MatchOption, sym, ◌∙◌, subst, true≢false, arith, none-some, same_Some, slice_get_within, circular, IsFaultOf, type_attribute, IsLeast, IsGraphOf, fault_at}
 use Rattle.cil_dependence.specs.Dependence.{IsStraight, IsFirst}
 use Rattle.cil_check.proofs.AskedLemmas.{reads-word}
 use Rattle.cil_check.proofs.CheckLemmas.{found-is, found-fault}
-use Rattle.cil_check.proofs.CircleFaults.{edges-within, straight-faultless, first-circle, attribute-read}
-use Rattle.cil_check.proofs.GraphLemmas.{places-many, place-numbered}
+use Rattle.cil_check.proofs.CircleFaults.{circle-at, circle-within, edges-within, straight-faultless, first-circle, attribute-read}
 use Rattle.cil_check.proofs.SetLemmas.{setless-faultless}
 use Rattle.cil_check.proofs.checker.Checker.check_circles.Goals as goal
 
@@ -23,71 +22,44 @@ pub index-requires : goal.index-requires
 index-requires g c =
     let (policy, noted) = c.requires in
     let have = c.in_ok-attributes.ensures policy noted.is in
-    let graph = subst (λ l. IsGraphOf policy l) (sym c.deref.ensures.value) (c.in_ok-graph.ensures policy noted.is have) in
-    let first = subst (λ o. MatchOption o (IsStraight c.deref.result.now) (IsFirst c.deref.result.now)) c.in-Some.is c.in_ok-number.ensures in
-    let many = places-many policy c.in_ok-attributes.attributes.numbers.items c.in_ok-attributes.attributes.places.items have in
-    let nodes = graph.nodes in
-    let within = first.is.within in
-    omega (arith, within, nodes, many, c.in_ok-attributes.attributes.places.ok.0)
+    let within = circle-within policy c.in_ok-attributes.attributes.numbers.items c.in_ok-attributes.attributes.places.items _ c.deref.result.now _ c.in-Some.number
+    have (c.in_ok-graph.ensures policy noted.is have) c.deref.ensures.value c.in_ok-number.ensures c.in-Some.is in
+    omega (arith, within, c.in_ok-attributes.attributes.places.ok.0)
 
 pub seen-seen-requires : goal.seen-seen-requires
 seen-seen-requires g c =
     let (policy, noted) = c.requires in
-    let places = c.in_ok-attributes.attributes.places.items in
     let have = c.in_ok-attributes.ensures policy noted.is in
-    let graph = subst (λ l. IsGraphOf policy l) (sym c.deref.ensures.value) (c.in_ok-graph.ensures policy noted.is have) in
-    let first = subst (λ o. MatchOption o (IsStraight c.deref.result.now) (IsFirst c.deref.result.now)) c.in-Some.is c.in_ok-number.ensures in
-    let many = places-many policy c.in_ok-attributes.attributes.numbers.items places have in
-    let nodes = graph.nodes in
-    let within = first.is.within in
-    let less : c.in-Some.number < length places = omega (arith, within, nodes, many) in
-    let (s, numbered) = place-numbered policy c.in_ok-attributes.attributes.numbers.items places c.in-Some.number c.index.result.now have less c.index.ensures in
+    let (s, numbered) = circle-at policy c.in_ok-attributes.attributes.numbers.items c.in_ok-attributes.attributes.places.items _ c.deref.result.now _ c.in-Some.number
+    have (c.in_ok-graph.ensures policy noted.is have) c.deref.ensures.value c.in_ok-number.ensures c.in-Some.is c.index.result.now c.index.ensures in
     record { is = (policy, noted.is, slice_get_within policy c.index.result.now s numbered.at) }
 
 pub unreachable-requires : goal.unreachable-requires
 unreachable-requires g c =
     let (policy, noted) = c.requires in
-    let places = c.in_ok-attributes.attributes.places.items in
     let have = c.in_ok-attributes.ensures policy noted.is in
-    let graph = subst (λ l. IsGraphOf policy l) (sym c.deref.ensures.value) (c.in_ok-graph.ensures policy noted.is have) in
-    let first = subst (λ o. MatchOption o (IsStraight c.deref.result.now) (IsFirst c.deref.result.now)) c.in-Some.is c.in_ok-number.ensures in
-    let many = places-many policy c.in_ok-attributes.attributes.numbers.items places have in
-    let nodes = graph.nodes in
-    let within = first.is.within in
-    let less : c.in-Some.number < length places = omega (arith, within, nodes, many) in
-    let (s, numbered) = place-numbered policy c.in_ok-attributes.attributes.numbers.items places c.in-Some.number c.index.result.now have less c.index.ensures in
-    let seen = c.seen-seen.ensures.seen policy s noted.is numbered.at in
-    let (id, form, reads) = attribute-read c.seen-seen.result policy s None seen numbered.is (sym c.in_default-word.is ∙ c.word.ensures) in
+    let (s, numbered) = circle-at policy c.in_ok-attributes.attributes.numbers.items c.in_ok-attributes.attributes.places.items _ c.deref.result.now _ c.in-Some.number
+    have (c.in_ok-graph.ensures policy noted.is have) c.deref.ensures.value c.in_ok-number.ensures c.in-Some.is c.index.result.now c.index.ensures in
+    let (id, form, reads) = attribute-read c.seen-seen.result policy s None (c.seen-seen.ensures.seen policy s noted.is numbered.at) numbered.is (sym c.in_default-word.is ∙ c.word.ensures) in
     none-some (Some id) reads
 
 pub fault-requires : goal.fault-requires
 fault-requires g c =
     let (policy, noted) = c.requires in
-    let places = c.in_ok-attributes.attributes.places.items in
     let have = c.in_ok-attributes.ensures policy noted.is in
-    let graph = subst (λ l. IsGraphOf policy l) (sym c.deref.ensures.value) (c.in_ok-graph.ensures policy noted.is have) in
-    let first = subst (λ o. MatchOption o (IsStraight c.deref.result.now) (IsFirst c.deref.result.now)) c.in-Some.is c.in_ok-number.ensures in
-    let many = places-many policy c.in_ok-attributes.attributes.numbers.items places have in
-    let nodes = graph.nodes in
-    let within = first.is.within in
-    let less : c.in-Some.number < length places = omega (arith, within, nodes, many) in
-    let (s, numbered) = place-numbered policy c.in_ok-attributes.attributes.numbers.items places c.in-Some.number c.index.result.now have less c.index.ensures in
-    let seen = c.seen-seen.ensures.seen policy s noted.is numbered.at in
-    let (id, form, reads) = attribute-read c.seen-seen.result policy s (Some c.in-Some-word.word) seen numbered.is (sym c.in-Some-word.is ∙ c.word.ensures) in
+    let (s, numbered) = circle-at policy c.in_ok-attributes.attributes.numbers.items c.in_ok-attributes.attributes.places.items _ c.deref.result.now _ c.in-Some.number
+    have (c.in_ok-graph.ensures policy noted.is have) c.deref.ensures.value c.in_ok-number.ensures c.in-Some.is c.index.result.now c.index.ensures in
+    let (id, form, reads) = attribute-read c.seen-seen.result policy s (Some c.in-Some-word.word) (c.seen-seen.ensures.seen policy s noted.is numbered.at) numbered.is (sym c.in-Some-word.is ∙ c.word.ensures) in
     let found = reads-word c.seen-seen.result c.in-Some-word.word (Some id) reads in
     (found.0, found.2)
 
 pub returns-clause-err : goal.returns-clause-err
 returns-clause-err g c = λ policy noted.
-    let places = c.in_ok-attributes.attributes.places.items in
     let have = c.in_ok-attributes.ensures policy noted.is in
     let graph = subst (λ l. IsGraphOf policy l) (sym c.deref.ensures.value) (c.in_ok-graph.ensures policy noted.is have) in
     let first = subst (λ o. MatchOption o (IsStraight c.deref.result.now) (IsFirst c.deref.result.now)) c.in-Some.is c.in_ok-number.ensures in
-    let many = places-many policy c.in_ok-attributes.attributes.numbers.items places have in
-    let nodes = graph.nodes in
-    let within = first.is.within in
-    let less : c.in-Some.number < length places = omega (arith, within, nodes, many) in
-    let (s, numbered) = place-numbered policy c.in_ok-attributes.attributes.numbers.items places c.in-Some.number c.index.result.now have less c.index.ensures in
+    let (s, numbered) = circle-at policy c.in_ok-attributes.attributes.numbers.items c.in_ok-attributes.attributes.places.items _ c.deref.result.now _ c.in-Some.number
+    have (c.in_ok-graph.ensures policy noted.is have) c.deref.ensures.value c.in_ok-number.ensures c.in-Some.is c.index.result.now c.index.ensures in
     let seen = c.seen-seen.ensures.seen policy s noted.is numbered.at in
     let (id, form, reads) = attribute-read c.seen-seen.result policy s (Some c.in-Some-word.word) seen numbered.is (sym c.in-Some-word.is ∙ c.word.ensures) in
     let found = reads-word c.seen-seen.result c.in-Some-word.word (Some id) reads in
