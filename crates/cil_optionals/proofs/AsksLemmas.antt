@@ -150,23 +150,16 @@ all-other table other [] = tt
 all-other table other (w ∷ words) = (other, all-other table other words)
 
 references-other : (form : Form) → AreOther (references form)
-references-other (block id) = tt
-references-other (optional id) = tt
-references-other (type_name id) = tt
-references-other (type_alias id) = tt
 references-other (alias_actual alias actual) = (λ e. cc, (λ e. cc, tt))
-references-other (type_attribute id) = tt
 references-other (attribute_set attribute expr) = all-other types (λ e. cc) (attribute ∷ leaves expr)
-references-other (common id permissions) = tt
-references-other (class id permissions) = tt
 references-other (class_common the_class the_common) = (λ e. cc, (λ e. cc, tt))
 references-other (class_order the_classes) = all-other classes (λ e. cc) the_classes
-references-other (class_permission id) = tt
 references-other (class_permission_set set the_class permissions) = (λ e. cc, (λ e. cc, tt))
 references-other (rule kind source itself (anonymous the_class permissions)) = (λ e. cc, (λ e. cc, tt))
 references-other (rule kind source itself (by_name set)) = (λ e. cc, (λ e. cc, tt))
 references-other (rule kind source (the_named target) (anonymous the_class permissions)) = (λ e. cc, (λ e. cc, (λ e. cc, tt)))
 references-other (rule kind source (the_named target) (by_name set)) = (λ e. cc, (λ e. cc, (λ e. cc, tt)))
+references-other _ = tt
 
 other-at : (refs : List (Table × Word)) (k : ℕ) (r : Table × Word) → AreOther refs → slice_get refs k ≡ Some r → r.0 ≡ scopes → ⊥
 other-at [] k r are at = absurd (none-some r at)

@@ -25,14 +25,7 @@ naming-one (type_attribute id) e = (refl, λ same. cc)
 naming-one (common id permissions) e = (refl, λ same. cc)
 naming-one (class id permissions) e = (refl, λ same. cc)
 naming-one (class_permission id) e = (refl, λ same. cc)
-naming-one (block id) e = absurd (true≢false (sym e))
-naming-one (optional id) e = absurd (true≢false (sym e))
-naming-one (alias_actual alias actual) e = absurd (true≢false (sym e))
-naming-one (attribute_set attribute expr) e = absurd (true≢false (sym e))
-naming-one (class_common the_class the_common) e = absurd (true≢false (sym e))
-naming-one (class_order the_classes) e = absurd (true≢false (sym e))
-naming-one (class_permission_set set the_class permissions) e = absurd (true≢false (sym e))
-naming-one (rule kind source target permissions) e = absurd (true≢false (sym e))
+naming-one _ e = absurd (true≢false (sym e))
 
 pub naming-declaration : (s : Placed) → is_naming s.form ≡ true → IsDeclaration s
 naming-declaration s e = let is = naming-one s.form e in record { some = is.0; other = is.1 }
@@ -262,14 +255,20 @@ pub record HasRow {A : Type 0} (p : Policy A) (all : List Placed) (i : ℕ) (row
   pub at : slice_get all i ≡ Some s
   pub is : IsRow p.names p.lookup.namespaces row s
 
+-- a statement stands at each place
+pub statement-at : {A : Type 0} (p : Policy A) (parsed : List (NamedModule A)) (all : List Placed) (i : ℕ) → IsReady p parsed all → i < length p.rows.items → (s : Placed) × (slice_get all i ≡ Some s)
+statement-at p parsed all i ready low =
+    let long = rows-length p.names p.lookup.namespaces p.rows.items all ready.bound.stands.rows_are in
+    elim (slice_get_cases all i).1 [
+      | inl (s, less, at, same) ↦ (s, at)
+      | inr (past, at) ↦ absurd (omega arith)
+    ]
+
 pub row-of : {A : Type 0} (p : Policy A) (parsed : List (NamedModule A)) (all : List Placed) (i : ℕ) (row : Row) → IsReady p parsed all → i < length p.rows.items → row ≡ get_or p.rows.items i row → HasRow p all i row
 row-of p parsed all i row ready low is =
     let there : slice_get p.rows.items i ≡ Some row = slice_get_read p.rows.items (length p.rows.items) i row refl low is in
-    let long = rows-length p.names p.lookup.namespaces p.rows.items all ready.bound.stands.rows_are in
-    elim (slice_get_cases all i).1 [
-      | inl (s, less, at, same) ↦ record { s = s; row_at = there; at = at; is = row-at p.names p.lookup.namespaces p.rows.items all i row s ready.bound.stands.rows_are there at }
-      | inr (past, at) ↦ absurd (omega arith)
-    ]
+    let (s, at) = statement-at p parsed all i ready low in
+    record { s = s; row_at = there; at = at; is = row-at p.names p.lookup.namespaces p.rows.items all i row s ready.bound.stands.rows_are there at }
 
 -- the name of a row is looked up further out
 pub row-next : {A : Type 0} (p : Policy A) (all : List Placed) (i : ℕ) (row : Row) (table : code.Table) (w : ℕ) (next : Option ℕ) (has : HasRow p all i row) → row.declares ≡ Some (table, w) → (table ≡ Scopes → ⊥)

@@ -3,6 +3,7 @@
 
 mod kept;
 mod listed;
+mod modules;
 mod others;
 mod permissions;
 mod providers;

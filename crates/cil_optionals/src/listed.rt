@@ -8,6 +8,7 @@ ghost use Rattle.std.proofs.Common.{rules};
 ghost use Rattle.cil_bind.specs.Listing.{lists_own as lists_own_kind};
 ghost use Rattle.cil_optionals.specs.Given.{lists as lists_permission, commons_at, has_gift, listers_at, permissions_in, gift as gift_in, given_at, gives_common as gives_common_kind, IsUpTo, IsInverse};
 
+use crate::modules::module_of;
 use cil_bind::{Joined, Policy};
 use cil_names::{Names, Seed};
 use cil_parse::{NumberedWord, ParsedModule, StatementKind};
@@ -120,8 +121,7 @@ impl<'m, A: Allocator + Copy> Listed<'m, A> {
         ensures inverse { OnOk result (IsInverse self.new) }
     {
         for i in 0..policy.rows.len() {
-            let row = policy.rows[i];
-            let module = joined.modules[row.module as usize].module;
+            let module = module_of(joined, policy, i);
             self.add(alloc, policy, module, i)?;
         }
         Ok(())

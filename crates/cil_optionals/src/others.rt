@@ -6,6 +6,7 @@ ghost use Rattle.cil_specs.specs.Lookup.{references as references_of, named_perm
 ghost use Rattle.cil_optionals.specs.Given.{permissions_in, IsInverse, IsUpTo};
 
 use crate::listed::Listed;
+use crate::modules::module_of;
 use crate::permissions::Permissions;
 use crate::references::{add_need, references};
 use cil_bind::{Joined, Policy};
@@ -46,11 +47,10 @@ fn asked<'m, A: Allocator + Copy>(
     ensures asks { OnOk result ((all : List Placed) (s : Placed) → IsReady policy.now joined.now.modules.items all → HavePermissions all (permissions_in permissions.old.listed.now) → slice_get all i ≡ Some s
         → Asks all (optional_at policy.now i) (λ set. are_found (restricted set all) s.namespace (references_of s.form) && are_there (restricted set all) s.namespace (named_permissions s.form)) needs.old.items needs.new.items) }
 {
-    let row = policy.rows[i];
-    let module = joined.modules[row.module as usize].module;
+    let module = module_of(joined, policy, i);
     references(policy, module, i, needs)?;
     if !permissions.are_there(alloc, policy, module, i)? {
-        add_need(row.optional as usize, None, needs)?;
+        add_need(policy.rows[i].optional as usize, None, needs)?;
     }
     Ok(())
 }
