@@ -20,36 +20,14 @@ block-around : (all : List Placed) (index : ℕ) (s : Placed) (form : Form) (n :
 block-around all index s (block id) n here is around =
     subst (λ k. IsBlockOf all (index + 1) k (id.text ∷ s.namespace)) (sym (add-one index)) (s, id, omega arith, here, is, refl)
 block-around all index s (optional id) n here is around = block-later all index (index + 1) n s.namespace (one-later index) around
-block-around all index s (type_name id) n here is around = block-later all index (index + 1) n s.namespace (one-later index) around
-block-around all index s (type_alias id) n here is around = block-later all index (index + 1) n s.namespace (one-later index) around
-block-around all index s (alias_actual alias actual) n here is around = block-later all index (index + 1) n s.namespace (one-later index) around
-block-around all index s (type_attribute id) n here is around = block-later all index (index + 1) n s.namespace (one-later index) around
-block-around all index s (attribute_set attribute expr) n here is around = block-later all index (index + 1) n s.namespace (one-later index) around
-block-around all index s (common id permissions) n here is around = block-later all index (index + 1) n s.namespace (one-later index) around
-block-around all index s (class id permissions) n here is around = block-later all index (index + 1) n s.namespace (one-later index) around
-block-around all index s (class_common the_class the_common) n here is around = block-later all index (index + 1) n s.namespace (one-later index) around
-block-around all index s (class_order classes) n here is around = block-later all index (index + 1) n s.namespace (one-later index) around
-block-around all index s (class_permission id) n here is around = block-later all index (index + 1) n s.namespace (one-later index) around
-block-around all index s (class_permission_set set the_class permissions) n here is around = block-later all index (index + 1) n s.namespace (one-later index) around
-block-around all index s (rule kind source target permissions) n here is around = block-later all index (index + 1) n s.namespace (one-later index) around
+block-around all index s _ n here is around = block-later all index (index + 1) n s.namespace (one-later index) around
 
 optional-around : (all : List Placed) (index : ℕ) (s : Placed) (form : Form) (n : ℕ) → slice_get all index ≡ Some s → s.form ≡ form → IsOptionalOf all index n s.optionals
     → IsOptionalOf all (index + 1) (optional_inside form index n) (optionals_inside form s.at s.optionals)
 optional-around all index s (optional id) n here is around =
     subst (λ k. IsOptionalOf all (index + 1) k (s.at.offset ∷ s.optionals)) (sym (add-one index)) (s, id, omega arith, here, is, refl)
 optional-around all index s (block id) n here is around = optional-later all index (index + 1) n s.optionals (one-later index) around
-optional-around all index s (type_name id) n here is around = optional-later all index (index + 1) n s.optionals (one-later index) around
-optional-around all index s (type_alias id) n here is around = optional-later all index (index + 1) n s.optionals (one-later index) around
-optional-around all index s (alias_actual alias actual) n here is around = optional-later all index (index + 1) n s.optionals (one-later index) around
-optional-around all index s (type_attribute id) n here is around = optional-later all index (index + 1) n s.optionals (one-later index) around
-optional-around all index s (attribute_set attribute expr) n here is around = optional-later all index (index + 1) n s.optionals (one-later index) around
-optional-around all index s (common id permissions) n here is around = optional-later all index (index + 1) n s.optionals (one-later index) around
-optional-around all index s (class id permissions) n here is around = optional-later all index (index + 1) n s.optionals (one-later index) around
-optional-around all index s (class_common the_class the_common) n here is around = optional-later all index (index + 1) n s.optionals (one-later index) around
-optional-around all index s (class_order classes) n here is around = optional-later all index (index + 1) n s.optionals (one-later index) around
-optional-around all index s (class_permission id) n here is around = optional-later all index (index + 1) n s.optionals (one-later index) around
-optional-around all index s (class_permission_set set the_class permissions) n here is around = optional-later all index (index + 1) n s.optionals (one-later index) around
-optional-around all index s (rule kind source target permissions) n here is around = optional-later all index (index + 1) n s.optionals (one-later index) around
+optional-around all index s _ n here is around = optional-later all index (index + 1) n s.optionals (one-later index) around
 
 placed-both : (all : List Placed) (index : ℕ) (list more : List FlatStatement) (statements others : List Placed) → ArePlacedAs all index list statements → ArePlacedAs all (index + length list) more others → ArePlacedAs all index (list ++ more) (statements ++ others)
 placed-both all index [] more [] others first second = subst (λ k. ArePlacedAs all k more others) (omega arith) second

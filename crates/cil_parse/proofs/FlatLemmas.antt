@@ -17,19 +17,7 @@ inside_of _ = no_more
 statement-is : {A : Type 0} (s : Statement A) (more : Statements) → statement_then s more ≡ statement (at_of s) (form_of s) (inside_of s) more
 unfolding inside_of
 statement-is (Block' at id shape body) more = refl
-statement-is (Optional' at id shape body) more = refl
-statement-is (TypeName at id) more = refl
-statement-is (TypeAlias at id) more = refl
-statement-is (TypeAliasActual at alias actual) more = refl
-statement-is (TypeAttribute at id) more = refl
-statement-is (TypeAttributeSet at attribute expr) more = refl
-statement-is (Common at id permissions) more = refl
-statement-is (Class at id permissions) more = refl
-statement-is (ClassCommon at the_class the_common) more = refl
-statement-is (ClassOrder at the_classes) more = refl
-statement-is (ClassPermission at id) more = refl
-statement-is (ClassPermissionSet at set the_class permissions) more = refl
-statement-is (Rule at kind source target permissions) more = refl
+statement-is _ more = refl
 
 pub length-flat : (in_block in_optional n : ℕ) (s : Statements) → length (flat in_block in_optional n s) ≡ count s
 length-flat in_block in_optional n no_more = refl

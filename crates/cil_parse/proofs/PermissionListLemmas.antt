@@ -59,23 +59,12 @@ module _ {W X : Type 0} (f : W → X) (g : Word → X) where
 
   -- the permissions are among the words
   pub among-words : (form : Form) (ws : List W) → map f ws ≡ map g (words_in form) → map f (permission_words (kind_of form) ws) ≡ map g (permissions_in form)
-  among-words (block id) ws is = refl
-  among-words (optional id) ws is = refl
-  among-words (type_name id) ws is = refl
-  among-words (type_alias id) ws is = refl
-  among-words (alias_actual alias actual) ws is = refl
-  among-words (type_attribute id) ws is = refl
-  among-words (attribute_set attribute expr) ws is = refl
   among-words (common id permissions) ws is = behind-words 1 ws (id ∷ permissions) is
   among-words (class id permissions) ws is = behind-words 1 ws (id ∷ permissions) is
-  among-words (class_common the_class the_common) ws is = refl
-  among-words (class_order the_classes) ws is = refl
-  among-words (class_permission id) ws is = refl
   among-words (class_permission_set set the_class permissions) ws is = behind-words 2 ws (set ∷ the_class ∷ leaves permissions) is
-  among-words (rule kind source itself (by_name set)) ws is = refl
-  among-words (rule kind source (the_named word) (by_name set)) ws is = refl
   among-words (rule kind source itself (anonymous the_class permissions)) ws is = behind-words 2 ws (source ∷ the_class ∷ leaves permissions) is
   among-words (rule kind source (the_named word) (anonymous the_class permissions)) ws is = behind-words 3 ws (source ∷ word ∷ the_class ∷ leaves permissions) is
+  among-words _ ws is = refl
 
 pub shown-permissions : (all : List (List ℕ)) (v : StatementView) (f : FlatStatement) → IsShown all v f → map (read all) (permission_words v.kind v.words.now) ≡ map Some (permissions_in f.form)
 shown-permissions all v f shown = ap (λ kind. map (read all) (permission_words kind v.words.now)) shown.kind ∙ among-words (read all) Some f.form v.words.now shown.words
