@@ -216,10 +216,4 @@ none-left {leaf = leaf} known spelling names holds left rest left_more rest_more
   where
     no-nodes : (left : List SetNode) (rest : List leaf) (e : Expr leaf) (more : List SetNode) (others : List leaf) → length left ≡ 0 → Begins left rest e more others → ⊥
     no-nodes left rest every more others none b = omega (arith, none, ap length b.nodes_are)
-    no-nodes left rest (named l) more others none b = omega (arith, none, ap length b.nodes_are)
-    no-nodes left rest (opposite x) more others none b = omega (arith, none, ap length b.nodes_are)
-    no-nodes left rest (both x y) more others none b = omega (arith, none, ap length b.nodes_are)
-    no-nodes left rest (either x y) more others none b = omega (arith, none, ap length b.nodes_are)
-    no-nodes left rest (one_of x y) more others none b = omega (arith, none, ap length b.nodes_are)
-    no-nodes left rest nothing more others none b = omega (arith, none, ap length b.nodes_are)
-    no-nodes left rest (elements x y) more others none b = omega (arith, none, ap length b.nodes_are)
+    no-nodes left rest _ more others none b = omega (arith, none, ap length b.nodes_are)

@@ -18,13 +18,7 @@ node-is _ _ e = absurd (true≢false (sym e))
 
 node-same : (x : SetNode) → same_node x x ≡ true
 node-same nodes.All = refl
-node-same nodes.Name = refl
-node-same nodes.Not = refl
-node-same nodes.And = refl
-node-same nodes.Or = refl
-node-same nodes.Xor = refl
-node-same nodes.Nothing = refl
-node-same nodes.Element = refl
+node-same _ = refl
 
 both-are : (a b : Bool) → (a && b) ≡ true → (a ≡ true) × (b ≡ true)
 both-are true b e = (refl, e)

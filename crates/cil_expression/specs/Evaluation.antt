@@ -8,14 +8,8 @@ use Rattle.cil_expression.specs.Holds.{holds_by, Answers}
 
 -- whether a list of elements goes on at a node
 abbrev pub is_element : SetNode → Bool
-is_element nodes.All = false
-is_element nodes.Name = false
-is_element nodes.Not = false
-is_element nodes.And = false
-is_element nodes.Or = false
-is_element nodes.Xor = false
-is_element nodes.Nothing = false
 is_element nodes.Element = true
+is_element _ = false
 
 -- no list of elements goes on at the first node
 abbrev pub HasNoElement : List SetNode → Type 0
