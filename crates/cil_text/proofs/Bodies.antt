@@ -15,18 +15,7 @@ behind_first (Listed at end items) rest = refl
 pub leaf_then : {A : Type 0} → (s : Statement A) (body more : Statements) → has_body (form_of s) ≡ false → statement_then s more ≡ statement (at_of s) (form_of s) (body_of (form_of s) body) more
 leaf_then (Block' at id shape row) body more leaf = absurd cc
 leaf_then (Optional' at id shape row) body more leaf = absurd cc
-leaf_then (TypeName at id) body more leaf = refl
-leaf_then (TypeAlias at id) body more leaf = refl
-leaf_then (TypeAliasActual at alias actual) body more leaf = refl
-leaf_then (TypeAttribute at id) body more leaf = refl
-leaf_then (TypeAttributeSet at attribute expr) body more leaf = refl
-leaf_then (Common at id permissions) body more leaf = refl
-leaf_then (Class at id permissions) body more leaf = refl
-leaf_then (ClassCommon at the_class the_common) body more leaf = refl
-leaf_then (ClassOrder at the_classes) body more leaf = refl
-leaf_then (ClassPermission at id) body more leaf = refl
-leaf_then (ClassPermissionSet at set the_class permissions) body more leaf = refl
-leaf_then (Rule at kind source target permissions) body more leaf = refl
+leaf_then _ body more leaf = refl
 
 -- a statement that is neither a block nor an optional may have none inside it
 pub leaf_form : {A : Type 0} → (s : Statement A) → ((at : Place) (id : words.Word) (v : Vec (Statement A) A) → s ≡ Block at id v → ⊥) → ((at : Place) (id : words.Word) (v : Vec (Statement A) A) → s ≡ Optional at id v → ⊥) → has_body (form_of s) ≡ false

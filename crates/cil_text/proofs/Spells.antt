@@ -17,10 +17,7 @@ no_word_first (a_list at end items rest) no_word = tt
 
 is_operator : (o : Operator) → list_any (bytes_eq (operator_word o)) operators ≡ true
 is_operator And = refl
-is_operator Or = refl
-is_operator Xor = refl
-is_operator Not = refl
-is_operator All = refl
+is_operator _ = refl
 
 -- an operator and its operands spell the operation
 pub operation_found : (o p : Operator) (operands : Trees) (e : spec.WordExpr) → o ≡ p → operator_word p ≡ operator_of e → AreOperands operands e

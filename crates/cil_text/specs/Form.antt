@@ -53,18 +53,7 @@ at_of (Rule at kind source target permissions) = place_of at
 abbrev pub has_body : Form → Bool
 has_body (block id) = true
 has_body (optional id) = true
-has_body (type_name id) = false
-has_body (type_alias id) = false
-has_body (alias_actual alias actual) = false
-has_body (type_attribute id) = false
-has_body (attribute_set attribute expr) = false
-has_body (common id permissions) = false
-has_body (class id permissions) = false
-has_body (class_common the_class the_common) = false
-has_body (class_order classes) = false
-has_body (class_permission id) = false
-has_body (class_permission_set set the_class permissions) = false
-has_body (rule kind source target permissions) = false
+has_body _ = false
 
 -- the trees behind the first
 abbrev pub behind : Trees → Trees
