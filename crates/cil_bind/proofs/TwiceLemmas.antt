@@ -83,13 +83,7 @@ first-of policy kept fault own least = record {
   where
     by : {other : PolicyFault} (kind : PolicyFaultKind) → IsFaultOf kind (judged kind kept policy) other → IsFaultOf twice policy other ⊎ (code_of twice < code_of kind)
     by twice is = inl is
-    by missing is = inr (omega arith)
-    by wrong_kind is = inr (omega arith)
-    by alias_twice is = inr (omega arith)
-    by alias_unset is = inr (omega arith)
-    by second_common is = inr (omega arith)
-    by too_many_permissions is = inr (omega arith)
-    by circular is = inr (omega arith)
+    by _ is = inr (omega arith)
 
 pub first-fault-again : (policy : List Placed) (again : Redeclaration) → AreApart policy → AreOrdered policy → IsFirstAgain policy again → IsFirstFault policy (fault_of again)
 first-fault-again policy again apart ordered is =

@@ -92,19 +92,7 @@ worded-next all all' words modules i w m so_far kept low here is =
 -- the block of a form
 block-named : (form : Form) (name : List ℕ) → is_word name (block_name form) ≡ true → (id : Word) × (form ≡ block id) × (id.text ≡ name)
 block-named (block id) name e = (id, refl, bytes_eq-true id.text name e)
-block-named (optional id) name e = absurd (true≢false (sym e))
-block-named (type_name id) name e = absurd (true≢false (sym e))
-block-named (type_alias id) name e = absurd (true≢false (sym e))
-block-named (alias_actual alias actual) name e = absurd (true≢false (sym e))
-block-named (type_attribute id) name e = absurd (true≢false (sym e))
-block-named (attribute_set attribute expr) name e = absurd (true≢false (sym e))
-block-named (common id permissions) name e = absurd (true≢false (sym e))
-block-named (class id permissions) name e = absurd (true≢false (sym e))
-block-named (class_common the_class the_common) name e = absurd (true≢false (sym e))
-block-named (class_order the_classes) name e = absurd (true≢false (sym e))
-block-named (class_permission id) name e = absurd (true≢false (sym e))
-block-named (class_permission_set set the_class permissions) name e = absurd (true≢false (sym e))
-block-named (rule kind source target permissions) name e = absurd (true≢false (sym e))
+block-named _ name e = absurd (true≢false (sym e))
 
 -- a namespace is there where a block opens it
 pub stands-opened : (names spaces : List (List ℕ)) (rows : List Row) (policy : List Placed) → Stands names spaces rows policy → AreOpened names spaces policy

@@ -29,38 +29,18 @@ good-names [] good = tt
 good-names (w ∷ words) good = (good-name w good.0, good-names words good.1)
 
 good-permissions : (form : Form) → AllByRecursion IsGoodWord (words_of form) → AllByRecursion IsOneName (permissions_in form)
-good-permissions (block id) good = tt
-good-permissions (optional id) good = tt
-good-permissions (type_name id) good = tt
-good-permissions (type_alias id) good = tt
-good-permissions (alias_actual alias actual) good = tt
-good-permissions (type_attribute id) good = tt
-good-permissions (attribute_set attribute expr) good = tt
 good-permissions (common id permissions) good = good-names permissions good.1
 good-permissions (class id permissions) good = good-names permissions good.1
-good-permissions (class_common the_class the_common) good = tt
-good-permissions (class_order classes) good = tt
-good-permissions (class_permission id) good = tt
 good-permissions (class_permission_set set the_class permissions) good = good-names (leaves permissions) good.1.1
 good-permissions (rule kind source target (anonymous the_class permissions)) good =
     good-names (leaves permissions) (all-second IsGoodWord (map as_referred (target_words target)) (as_referred the_class ∷ map as_declared (leaves permissions)) good.1).1
-good-permissions (rule kind source target (by_name set)) good = tt
+good-permissions _ good = tt
 
 good-declared : (form : Form) → AllByRecursion IsGoodWord (words_of form) → IfSome (declared_in types form) (λ word. IsName word.text)
-good-declared (block id) good = tt
-good-declared (optional id) good = tt
 good-declared (type_name id) good = good-spelt id good.0
 good-declared (type_alias id) good = good-spelt id good.0
-good-declared (alias_actual alias actual) good = tt
 good-declared (type_attribute id) good = good-spelt id good.0
-good-declared (attribute_set attribute expr) good = tt
-good-declared (common id permissions) good = tt
-good-declared (class id permissions) good = tt
-good-declared (class_common the_class the_common) good = tt
-good-declared (class_order classes) good = tt
-good-declared (class_permission id) good = tt
-good-declared (class_permission_set set the_class permissions) good = tt
-good-declared (rule kind source target permissions) good = tt
+good-declared _ good = tt
 
 good-class : (form : Form) → AllByRecursion IsGoodWord (words_of form) → IfSome (declared_in lookup.classes form) (λ word. IsName word.text)
 good-class (class id permissions) good = good-spelt id good.0
@@ -72,19 +52,7 @@ good-set _ good = tt
 
 good-inside : (form : Form) (namespace : List (List ℕ)) → AllByRecursion IsGoodWord (words_of form) → AllByRecursion IsName namespace → AllByRecursion IsName (namespace_inside form namespace)
 good-inside (block id) namespace good blocks = (good-spelt id good.0, blocks)
-good-inside (optional id) namespace good blocks = blocks
-good-inside (type_name id) namespace good blocks = blocks
-good-inside (type_alias id) namespace good blocks = blocks
-good-inside (alias_actual alias actual) namespace good blocks = blocks
-good-inside (type_attribute id) namespace good blocks = blocks
-good-inside (attribute_set attribute expr) namespace good blocks = blocks
-good-inside (common id permissions) namespace good blocks = blocks
-good-inside (class id permissions) namespace good blocks = blocks
-good-inside (class_common the_class the_common) namespace good blocks = blocks
-good-inside (class_order classes) namespace good blocks = blocks
-good-inside (class_permission id) namespace good blocks = blocks
-good-inside (class_permission_set set the_class permissions) namespace good blocks = blocks
-good-inside (rule kind source target permissions) namespace good blocks = blocks
+good-inside _ namespace good blocks = blocks
 
 placed-names : (name : List ℕ) (namespace : List (List ℕ)) (optionals : List ℕ) (inside : Bool) (trees : Trees) (statements : Statements) → AllByRecursion IsName namespace → Shapes inside trees statements
     → AllByRecursion HasOneNames (placed name namespace optionals statements)
