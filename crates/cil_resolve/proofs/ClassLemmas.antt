@@ -1,48 +1,32 @@
 -- Classes of a policy without faults: each full name tells its class, and so its permissions.
-use Rattle.cil_resolve.proofs.Common.{◌≡◌, ◌∙◌, ℕ, Bool, true, false, ◌&&◌, ◌||◌, List, [], ◌∷◌, Contains, Option, Some, None, is_some, Word, bytes_eq, refl, sym, ap, subst, true≢false, arith, same-bool, bytes_eq-refl, bytes_eq-Decides, if◌then◌else◌, list_any, inl, inr, Placed, classes, scopes, declared_in, declared_name, word_text, is_word, same_namespace, is_same, is_class, class_as, classes_of, distinct, permissions_of, has_name, meaning_of, both_true, first_true, second_true, flat-contains, passes-among, contains-cases, contains-middle, IsFaultOf, IsFaultless, class_if}
-use Rattle.std.proofs.Common.{IfSome}
+use Rattle.cil_resolve.proofs.Common.{◌≡◌, ◌∙◌, ℕ, Bool, true, false, ◌&&◌, ◌||◌, List, [], ◌∷◌, Contains, Option, Some, is_some, bytes_eq, refl, sym, ap, subst, true≢false, arith, same-bool, bytes_eq-refl, bytes_eq-Decides, if◌then◌else◌, list_any, inl, inr, Placed, classes, scopes, declared_in, declared_name, word_text, is_word, same_namespace, is_same, is_class, class_as, classes_of, distinct, permissions_of, has_name, meaning_of, both_true, first_true, second_true, flat-contains, passes-among, contains-cases, contains-middle, IsFaultOf, IsFaultless, class_if}
 use Rattle.cil_specs.specs.Meaning.{has_permission}
 use Rattle.cil_specs.specs.Rule.{ClassOf}
 use Rattle.cil_specs.proofs.DeclaredLemmas.{declared-once}
 use Rattle.cil_specs.proofs.OnceLemmas.{IsOnce}
-use Rattle.cil_bind.specs.Written.{HaveOneNames, IsName}
-use Rattle.cil_check.proofs.FullNameLemmas.{full-name-same}
-use Rattle.cil_check.proofs.WordLemmas.{same-itself}
+use Rattle.cil_bind.specs.Written.{HaveOneNames}
+use Rattle.cil_check.proofs.DeclaredLemmas.{alike}
 use Rattle.cil_resolve.proofs.ConsistentLemmas.{class-declared}
 use Rattle.cil_resolve.proofs.ListLemmas.{any-of-flat, one-passes}
 
 no-scopes : classes ≡ scopes → ⊥
 no-scopes e = cc
 
-word-itself : (o : Option Word) → is_some o ≡ true → is_word (word_text o) o ≡ true
-word-itself None some = absurd (true≢false (sym some))
-word-itself (Some w) some = bytes_eq-refl w.text
-
-spelt-text : (o : Option Word) → is_some o ≡ true → IfSome o (λ w. IsName w.text) → IsName (word_text o)
-spelt-text None some spelt = absurd (true≢false (sym some))
-spelt-text (Some w) some spelt = spelt
-
 faultless-once : (policy : List Placed) → IsFaultless policy → IsOnce policy
 faultless-once policy faultless fault is = faultless.none fault (subst (λ kind. IsFaultOf kind policy fault) (sym (ap (λ f. f.kind) is.is_at)) is)
 
 module _ (policy : List Placed) (faultless : IsFaultless policy) (spelt : HaveOneNames policy) where
   -- of one full name, the second declares what the first does
-  alike : (s t : Placed) → Contains policy s → Contains policy t → is_some (declared_in classes s.form) ≡ true → is_some (declared_in classes t.form) ≡ true
+  same-class : (s t : Placed) → Contains policy s → Contains policy t → is_some (declared_in classes s.form) ≡ true → is_some (declared_in classes t.form) ≡ true
       → declared_name classes s ≡ declared_name classes t → is_same classes s t ≡ true
-  alike s t there too declares also same =
-      let text = word_text (declared_in classes s.form) in
-      let parts = full-name-same s.namespace t.namespace text (word_text (declared_in classes t.form)) (spelt s there).blocks (spelt t too).blocks
-      (spelt-text (declared_in classes s.form) declares (spelt s there).declared_class) (spelt-text (declared_in classes t.form) also (spelt t too).declared_class) same in
-      both_true (is_word text (declared_in classes t.form)) (same_namespace t.namespace s.namespace)
-      (ap (λ x. is_word x (declared_in classes t.form)) parts.1 ∙ word-itself (declared_in classes t.form) also)
-      (ap (same_namespace t.namespace) parts.0 ∙ same-itself t.namespace)
+  same-class = alike classes policy spelt (λ s there. (spelt s there).declared_class)
 
   -- so it is the same
   one-class : (s t : Placed) → Contains policy s → Contains policy t → is_some (declared_in classes s.form) ≡ true → is_some (declared_in classes t.form) ≡ true
       → declared_name classes s ≡ declared_name classes t → s ≡ t
   one-class s t there too declares also same =
       one-passes (is_same classes s) policy s t (declared-once policy (faultless-once policy faultless) classes no-scopes s.namespace (word_text (declared_in classes s.form)))
-      there (alike s s there there declares declares refl) too (alike s t there too declares also same)
+      there (same-class s s there there declares declares refl) too (same-class s t there too declares also same)
 
   -- The permissions of a class's full name are those of the class.
   pub class-permission : (t : Placed) → Contains policy t → is_class t.form ≡ true → (q : List ℕ)

@@ -7,23 +7,12 @@ use Rattle.cil_resolve.proofs.FaultlessLemmas.{contains-filter, no-faulty}
 use Rattle.cil_check.specs.Associations.{first_at, gives, HasFirsts}
 use Rattle.cil_check.specs.declared.firsts.Association.TheVariants.{Common}
 use Rattle.std.proofs.lemmas.List.Quantifiers.{position-Some}
-use Rattle.cil_resolve.proofs.ElementLemmas.{find-place, find-holds}
+use Rattle.cil_resolve.proofs.ElementLemmas.{find-place}
+use Rattle.cil_optionals.proofs.FoundLemmas.{found-passes}
 
 common-form : (policy : List Placed) (s : Placed) (namespace : List (List ℕ)) (form : Form) → gives_common policy s namespace form ≡ true → (the_class the_common : Word) × (form ≡ class_common the_class the_common)
 common-form policy s namespace (class_common the_class the_common) e = (the_class, the_common, refl)
-common-form policy s namespace (block id) e = absurd (true≢false (sym e))
-common-form policy s namespace (optional id) e = absurd (true≢false (sym e))
-common-form policy s namespace (type_name id) e = absurd (true≢false (sym e))
-common-form policy s namespace (type_alias id) e = absurd (true≢false (sym e))
-common-form policy s namespace (alias_actual alias actual) e = absurd (true≢false (sym e))
-common-form policy s namespace (type_attribute id) e = absurd (true≢false (sym e))
-common-form policy s namespace (attribute_set attribute expr) e = absurd (true≢false (sym e))
-common-form policy s namespace (common id permissions) e = absurd (true≢false (sym e))
-common-form policy s namespace (class id permissions) e = absurd (true≢false (sym e))
-common-form policy s namespace (class_order the_classes) e = absurd (true≢false (sym e))
-common-form policy s namespace (class_permission id) e = absurd (true≢false (sym e))
-common-form policy s namespace (class_permission_set set the_class permissions) e = absurd (true≢false (sym e))
-common-form policy s namespace (rule kind source target permissions) e = absurd (true≢false (sym e))
+common-form policy s namespace _ e = absurd (true≢false (sym e))
 
 -- whether a statement gives a common to the class
 abbrev pub giving : List Placed → Placed → Placed → Bool
@@ -54,7 +43,7 @@ module _ (policy : List Placed) (firsts : List (ℕ × ℕ)) (i : ℕ) (s : Plac
       by : (o : Option Placed) → slice_get policy n ≡ o → IsCommonAt policy s n
       by None e = absurd (none-there policy n e (position-Some (gives Common policy s) policy n s (sym (has i s at first) ∙ noted)).0)
       by (Some t) e =
-          let form = common-form policy s t.namespace t.form (find-holds (giving policy s) policy t (here ∙ e)) in
+          let form = common-form policy s t.namespace t.form (found-passes (giving policy s) policy t (here ∙ e)) in
           record {
             t = t;
             the_common = form.1;
@@ -71,18 +60,7 @@ giving-same policy s u same namespace (class_common the_class the_common) = by (
     by None = refl
     by (Some t) = same t
 giving-same policy s u same namespace (block id) = refl
-giving-same policy s u same namespace (optional id) = refl
-giving-same policy s u same namespace (type_name id) = refl
-giving-same policy s u same namespace (type_alias id) = refl
-giving-same policy s u same namespace (alias_actual alias actual) = refl
-giving-same policy s u same namespace (type_attribute id) = refl
-giving-same policy s u same namespace (attribute_set attribute expr) = refl
-giving-same policy s u same namespace (common id permissions) = refl
-giving-same policy s u same namespace (class id permissions) = refl
-giving-same policy s u same namespace (class_order the_classes) = refl
-giving-same policy s u same namespace (class_permission id) = refl
-giving-same policy s u same namespace (class_permission_set set the_class permissions) = refl
-giving-same policy s u same namespace (rule kind source target permissions) = refl
+giving-same policy s u same namespace _ = refl
 
 module _ (policy : List Placed) (faultless : IsFaultless policy) (s : Placed) where
   -- no two statements give a common to a class
@@ -139,19 +117,7 @@ module _ (policy : List Placed) (faultless : IsFaultless policy) (s : Placed) wh
 
   common-listed : (namespace : List (List ℕ)) (form : Form) → common_permissions policy namespace form ≡ listed_by (common_in policy namespace form)
   common-listed namespace (class_common the_class the_common) = refl
-  common-listed namespace (block id) = refl
-  common-listed namespace (optional id) = refl
-  common-listed namespace (type_name id) = refl
-  common-listed namespace (type_alias id) = refl
-  common-listed namespace (alias_actual alias actual) = refl
-  common-listed namespace (type_attribute id) = refl
-  common-listed namespace (attribute_set attribute expr) = refl
-  common-listed namespace (common id permissions) = refl
-  common-listed namespace (class id permissions) = refl
-  common-listed namespace (class_order the_classes) = refl
-  common-listed namespace (class_permission id) = refl
-  common-listed namespace (class_permission_set set the_class permissions) = refl
-  common-listed namespace (rule kind source target permissions) = refl
+  common-listed namespace _ = refl
 
   -- the permissions of a class are its own and those of its common
   pub class-permissions : permissions_of policy s ≡ texts (own_permissions s.form) ++ listed_by (common_of policy s)
@@ -164,16 +130,4 @@ module _ (policy : List Placed) (faultless : IsFaultless policy) (s : Placed) wh
 -- a common lists permissions
 pub common-lists : (form : Form) → is_some (declared_in commons form) ≡ true → lists_own (kind_of form) ≡ true
 common-lists (common id permissions) e = refl
-common-lists (block id) e = absurd (true≢false (sym e))
-common-lists (optional id) e = absurd (true≢false (sym e))
-common-lists (type_name id) e = absurd (true≢false (sym e))
-common-lists (type_alias id) e = absurd (true≢false (sym e))
-common-lists (alias_actual alias actual) e = absurd (true≢false (sym e))
-common-lists (type_attribute id) e = absurd (true≢false (sym e))
-common-lists (attribute_set attribute expr) e = absurd (true≢false (sym e))
-common-lists (class id permissions) e = absurd (true≢false (sym e))
-common-lists (class_common the_class the_common) e = absurd (true≢false (sym e))
-common-lists (class_order the_classes) e = absurd (true≢false (sym e))
-common-lists (class_permission id) e = absurd (true≢false (sym e))
-common-lists (class_permission_set set the_class permissions) e = absurd (true≢false (sym e))
-common-lists (rule kind source target permissions) e = absurd (true≢false (sym e))
+common-lists _ e = absurd (true≢false (sym e))

@@ -1,26 +1,15 @@
 -- The rules of a policy without faults, and its statements of permission sets, name what it declares.
 use Rattle.cil_resolve.proofs.Common.{◌≡◌, true, false, ◌&&◌, ◌||◌, List, [], ◌∷◌, ◌++◌, map, Contains, Option, Some, None, is_some, bytes_eq, refl, sym, ap, ◌∙◌, subst, true≢false, if◌then◌else◌, list_all, list_any, option_and_then, Word, Placed, RuleKind, Form, block, optional, type_name, type_alias, alias_actual, type_attribute, attribute_set, common, class, class_common, class_order, class_permission, class_permission_set, rule, Target, itself, the_named, target_words, types, classes, declared_in, declared_name, leads, references, named_permissions, permission_reference, permission_sets, permissions_with, has_name, texts, distinct, permissions_of, gives_actual, actual_statement, actual_in, actual_of, is_type, is_alias, is_attribute, element_words, kinds_asked, declared_as, class_as, is_class, types_of, attributes_of, classes_of, permission_sets_of, rules_of, rule_of, element_or_none, element_at, class_name, name_or_none, contains-first, contains-other, contains-map, contains-middle, both_true, bytes_eq-refl, IsFaultless, has-fold, WordExpr, leaves, leaves-mapped, ClassPermissions, anonymous, by_name, texts_in, is_declared, is_element_of, is_aim_of, is_class_and_permissions_of, is_class_with, is_rule_of, are_permission_sets_of, are_permissions_of, are_rules_of}
 use Rattle.cil_specs.specs.Rule.{element_of, permission_set_of, resolved_permissions_of, resolved_target_of}
-use Rattle.cil_resolve.proofs.ElementLemmas.{IsTypeKind, is_a_type, is_an_alias, is_an_attribute, type-kind, find-holds, gives-form}
+use Rattle.cil_resolve.proofs.ElementLemmas.{IsTypeKind, is_a_type, is_an_alias, is_an_attribute, type-kind, gives-form}
+use Rattle.cil_optionals.proofs.FoundLemmas.{found-passes}
 use Rattle.cil_resolve.proofs.FaultlessLemmas.{word-found, permission-found, kind-found, alias-set}
 use Rattle.cil_resolve.proofs.LedLemmas.{IsLed, leads-led}
 use Rattle.cil_resolve.proofs.ListLemmas.{any-of-flat, all-of-flat, find-there}
 
 pub class-declared : (form : Form) → is_some (declared_in classes form) ≡ is_class form
 class-declared (class id permissions) = refl
-class-declared (block id) = refl
-class-declared (optional id) = refl
-class-declared (type_name id) = refl
-class-declared (type_alias id) = refl
-class-declared (alias_actual alias actual) = refl
-class-declared (type_attribute id) = refl
-class-declared (attribute_set attribute expr) = refl
-class-declared (common id permissions) = refl
-class-declared (class_common the_class the_common) = refl
-class-declared (class_order the_classes) = refl
-class-declared (class_permission id) = refl
-class-declared (class_permission_set set the_class permissions) = refl
-class-declared (rule kind source target permissions) = refl
+class-declared _ = refl
 
 module _ (policy : List Placed) where
   -- what a statement declares is declared
@@ -70,7 +59,7 @@ module _ (policy : List Placed) (faultless : IsFaultless policy) where
       by None e some = absurd (true≢false (sym some))
       by (Some u) e some =
           let there = find-there (λ s. gives_actual policy t s.namespace s.form) policy u e in
-          let form = gives-form policy t u.namespace u.form (find-holds (λ s. gives_actual policy t s.namespace s.form) policy u e) in
+          let form = gives-form policy t u.namespace u.form (found-passes (λ s. gives_actual policy t s.namespace s.form) policy u e) in
           let refers = subst (λ f. Contains (references f) (types, form.1)) (sym form.2) (contains-other (types, form.0) ((types, form.1) ∷ []) (types, form.1) (contains-first (types, form.1) [])) in
           led u form.0 form.1 there e form.2 (leads policy types u.namespace form.1.text) refl (word-found policy faultless u there types form.1 refers)
 

@@ -8,20 +8,8 @@ use Rattle.cil_resolve.proofs.StatementLemmas.{mapped-at}
 
 -- an optional has a name
 pub optional-named : (form : Form) → is_optional form ≡ true → (id : Word) × (form ≡ optional id)
-optional-named (block id) is = cc
 optional-named (optional id) is = (id, refl)
-optional-named (type_name id) is = cc
-optional-named (type_alias id) is = cc
-optional-named (alias_actual alias actual) is = cc
-optional-named (type_attribute id) is = cc
-optional-named (attribute_set attribute expr) is = cc
-optional-named (common id permissions) is = cc
-optional-named (class id permissions) is = cc
-optional-named (class_common the_class the_common) is = cc
-optional-named (class_order the_classes) is = cc
-optional-named (class_permission id) is = cc
-optional-named (class_permission_set set the_class permissions) is = cc
-optional-named (rule kind source target permissions) is = cc
+optional-named _ is = cc
 
 -- A statement stands at a place of a bound policy, and this is its row.
 module _ {A : Type 0} (p : Policy A) (parsed : List (NamedModule A)) (policy : List Placed) (i : ℕ) (row : Row) (s : Placed) (bound : IsBoundTo p parsed policy) (here : slice_get p.rows.items i ≡ Some row)

@@ -7,6 +7,7 @@ use Rattle.cil_check.specs.Associations.{first_at, gives, HasFirsts}
 use Rattle.cil_check.specs.declared.firsts.Association.TheVariants.{Actual}
 use Rattle.cil_check.proofs.FirstsLemmas.{first-itself}
 use Rattle.cil_bind.proofs.PositionLemmas.{position-cons}
+use Rattle.cil_optionals.proofs.FoundLemmas.{found-passes}
 use Rattle.cil_expression.specs.declared.expression.Element.TheVariants as elements
 use Rattle.cil_resolve.proofs.FaultlessLemmas.{word-found, kind-found}
 use Rattle.cil_resolve.proofs.NumberLemmas.{number-is}
@@ -30,19 +31,7 @@ attribute-named names name n is = let (low, named) = number-is names name n is i
 
 pub type-form : (form : Form) → is_type form ≡ true → (id : Word) × (form ≡ type_name id)
 type-form (type_name id) e = (id, refl)
-type-form (block id) e = absurd (true≢false (sym e))
-type-form (optional id) e = absurd (true≢false (sym e))
-type-form (type_alias id) e = absurd (true≢false (sym e))
-type-form (alias_actual alias actual) e = absurd (true≢false (sym e))
-type-form (type_attribute id) e = absurd (true≢false (sym e))
-type-form (attribute_set attribute expr) e = absurd (true≢false (sym e))
-type-form (common id permissions) e = absurd (true≢false (sym e))
-type-form (class id permissions) e = absurd (true≢false (sym e))
-type-form (class_common the_class the_common) e = absurd (true≢false (sym e))
-type-form (class_order the_classes) e = absurd (true≢false (sym e))
-type-form (class_permission id) e = absurd (true≢false (sym e))
-type-form (class_permission_set set the_class permissions) e = absurd (true≢false (sym e))
-type-form (rule kind source target permissions) e = absurd (true≢false (sym e))
+type-form _ e = absurd (true≢false (sym e))
 
 -- the full name of what a statement declares in a table
 pub full-name-in : (table : Table) (s : Placed) (id : Word) → numbered_id s.form ≡ Some id → declared_in table s.form ≡ Some id → full_name_of s ≡ declared_name table s
@@ -58,17 +47,7 @@ pub type-kind : (form : Form) → is_some (declared_in types form) ≡ true → 
 type-kind (type_name id) d = is_a_type id refl
 type-kind (type_alias id) d = is_an_alias id refl
 type-kind (type_attribute id) d = is_an_attribute id refl
-type-kind (block id) d = absurd (true≢false (sym d))
-type-kind (optional id) d = absurd (true≢false (sym d))
-type-kind (alias_actual alias actual) d = absurd (true≢false (sym d))
-type-kind (attribute_set attribute expr) d = absurd (true≢false (sym d))
-type-kind (common id permissions) d = absurd (true≢false (sym d))
-type-kind (class id permissions) d = absurd (true≢false (sym d))
-type-kind (class_common the_class the_common) d = absurd (true≢false (sym d))
-type-kind (class_order the_classes) d = absurd (true≢false (sym d))
-type-kind (class_permission id) d = absurd (true≢false (sym d))
-type-kind (class_permission_set set the_class permissions) d = absurd (true≢false (sym d))
-type-kind (rule kind source target permissions) d = absurd (true≢false (sym d))
+type-kind _ d = absurd (true≢false (sym d))
 
 -- whether a kind is that of attributes, and of aliases
 abbrev is_attribute_kind : StatementKind → Bool
@@ -139,30 +118,10 @@ find-place {X = X} p q same (x ∷ xs) = by (q x) (same x) (find-place p q same 
     by true e more = ap (λ b. cond b (Some x) (find p xs)) e
     by false e more = ap (λ b. cond b (Some x) (find p xs)) e ∙ more ∙ shifted (position q xs)
 
-pub find-holds : {X : Type 0} (p : X → Bool) (xs : List X) (x : X) → find p xs ≡ Some x → p x ≡ true
-find-holds p [] x e = absurd (none-some x e)
-find-holds p (y ∷ ys) x e = by (p y) refl e (find-holds p ys x)
-  where
-    by : (b : Bool) → p y ≡ b → cond b (Some y) (find p ys) ≡ Some x → (find p ys ≡ Some x → p x ≡ true) → p x ≡ true
-    by true here e more = ap p (sym (same_Some y x e)) ∙ here
-    by false here e more = more e
-
 pub gives-form : (policy : List Placed) (s : Placed) (namespace : List (List ℕ)) (form : Form) → gives_actual policy s namespace form ≡ true
     → (alias : Word) × (actual : Word) × (form ≡ alias_actual alias actual)
 gives-form policy s namespace (alias_actual alias actual) e = (alias, actual, refl)
-gives-form policy s namespace (block id) e = absurd (true≢false (sym e))
-gives-form policy s namespace (optional id) e = absurd (true≢false (sym e))
-gives-form policy s namespace (type_name id) e = absurd (true≢false (sym e))
-gives-form policy s namespace (type_alias id) e = absurd (true≢false (sym e))
-gives-form policy s namespace (type_attribute id) e = absurd (true≢false (sym e))
-gives-form policy s namespace (attribute_set attribute expr) e = absurd (true≢false (sym e))
-gives-form policy s namespace (common id permissions) e = absurd (true≢false (sym e))
-gives-form policy s namespace (class id permissions) e = absurd (true≢false (sym e))
-gives-form policy s namespace (class_common the_class the_common) e = absurd (true≢false (sym e))
-gives-form policy s namespace (class_order the_classes) e = absurd (true≢false (sym e))
-gives-form policy s namespace (class_permission id) e = absurd (true≢false (sym e))
-gives-form policy s namespace (class_permission_set set the_class permissions) e = absurd (true≢false (sym e))
-gives-form policy s namespace (rule kind source target permissions) e = absurd (true≢false (sym e))
+gives-form policy s namespace _ e = absurd (true≢false (sym e))
 
 -- the statement that gives an alias its type, and the type
 pub record IsActual (policy : List Placed) (s : Placed) (place : ℕ) : Type 0 where
@@ -185,7 +144,7 @@ module _ (policy : List Placed) (compiles : IsFaultless policy) where
   given s place t at statement =
       let here = at-place policy place t at in
       let gives_it : gives_actual policy s t.namespace t.form ≡ true =
-      find-holds (λ u. gives_actual policy s u.namespace u.form) policy t statement in
+      found-passes (λ u. gives_actual policy s u.namespace u.form) policy t statement in
       let form = gives-form policy s t.namespace t.form gives_it in
       let alias : Word = form.0 in
       let actual : Word = form.1 in

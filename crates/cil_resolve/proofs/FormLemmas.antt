@@ -5,17 +5,14 @@ use Rattle.cil_text.specs.declared.statement.RuleKind as code
 use Rattle.cil_text.specs.declared.statement.RuleKind.TheVariants as codes
 use Rattle.cil_parse.specs.declared.row.StatementKind.{StatementKind}
 use Rattle.cil_parse.specs.declared.row.StatementKind.TheVariants as kinds
+use Rattle.cil_check.specs.Kinds.{is_rule_of_set}
+use Rattle.cil_check.proofs.AskedLemmas.{is_to_word, is_to_self}
 
--- whether a statement of a kind is a rule of a class, and whether it is one of a permission set
+-- whether a statement of a kind is a rule of a class, and whether it says something of a permission set
 abbrev pub is_of_class : StatementKind → Bool
 is_of_class (kinds.Rule kind) = true
 is_of_class (kinds.RuleToSelf kind) = true
 is_of_class _ = false
-
-abbrev pub is_of_set : StatementKind → Bool
-is_of_set (kinds.RuleOfSet kind) = true
-is_of_set (kinds.RuleToSelfOfSet kind) = true
-is_of_set _ = false
 
 abbrev pub is_set_statement : StatementKind → Bool
 is_set_statement kinds.ClassPermissionSet = true
@@ -26,61 +23,20 @@ no-set-statement kinds.ClassPermissionSet never = absurd (never refl)
 no-set-statement _ never = refl
 
 pub form-of-class : (form : Form) → is_of_class (kind_of form) ≡ true → IsRuleOfClass form
-form-of-class (block id) e = absurd (true≢false (sym e))
-form-of-class (optional id) e = absurd (true≢false (sym e))
-form-of-class (type_name id) e = absurd (true≢false (sym e))
-form-of-class (type_alias id) e = absurd (true≢false (sym e))
-form-of-class (alias_actual alias actual) e = absurd (true≢false (sym e))
-form-of-class (type_attribute id) e = absurd (true≢false (sym e))
-form-of-class (attribute_set attribute expr) e = absurd (true≢false (sym e))
-form-of-class (common id permissions) e = absurd (true≢false (sym e))
-form-of-class (class id permissions) e = absurd (true≢false (sym e))
-form-of-class (class_common the_class the_common) e = absurd (true≢false (sym e))
-form-of-class (class_order the_classes) e = absurd (true≢false (sym e))
-form-of-class (class_permission id) e = absurd (true≢false (sym e))
-form-of-class (class_permission_set set the_class permissions) e = absurd (true≢false (sym e))
 form-of-class (rule kind source itself (anonymous the_class permissions)) e = (kind, source, itself, the_class, permissions, refl)
-form-of-class (rule kind source itself (by_name set)) e = absurd (true≢false (sym e))
 form-of-class (rule kind source (the_named word) (anonymous the_class permissions)) e = (kind, source, the_named word, the_class, permissions, refl)
-form-of-class (rule kind source (the_named word) (by_name set)) e = absurd (true≢false (sym e))
+form-of-class _ e = absurd (true≢false (sym e))
 
-pub form-of-set : (form : Form) → is_of_set (kind_of form) ≡ true → IsRuleOfSet form
-form-of-set (block id) e = absurd (true≢false (sym e))
-form-of-set (optional id) e = absurd (true≢false (sym e))
-form-of-set (type_name id) e = absurd (true≢false (sym e))
-form-of-set (type_alias id) e = absurd (true≢false (sym e))
-form-of-set (alias_actual alias actual) e = absurd (true≢false (sym e))
-form-of-set (type_attribute id) e = absurd (true≢false (sym e))
-form-of-set (attribute_set attribute expr) e = absurd (true≢false (sym e))
-form-of-set (common id permissions) e = absurd (true≢false (sym e))
-form-of-set (class id permissions) e = absurd (true≢false (sym e))
-form-of-set (class_common the_class the_common) e = absurd (true≢false (sym e))
-form-of-set (class_order the_classes) e = absurd (true≢false (sym e))
-form-of-set (class_permission id) e = absurd (true≢false (sym e))
-form-of-set (class_permission_set set the_class permissions) e = absurd (true≢false (sym e))
-form-of-set (rule kind source itself (anonymous the_class permissions)) e = absurd (true≢false (sym e))
+pub form-of-set : (form : Form) → is_rule_of_set (kind_of form) ≡ true → IsRuleOfSet form
 form-of-set (rule kind source itself (by_name set)) e = (kind, source, itself, set, refl)
-form-of-set (rule kind source (the_named word) (anonymous the_class permissions)) e = absurd (true≢false (sym e))
 form-of-set (rule kind source (the_named word) (by_name set)) e = (kind, source, the_named word, set, refl)
+form-of-set _ e = absurd (true≢false (sym e))
 
 pub permission-set-form : (form : Form) → is_set_statement (kind_of form) ≡ true → IsPermissionSet form
-permission-set-form (block id) e = absurd (true≢false (sym e))
-permission-set-form (optional id) e = absurd (true≢false (sym e))
-permission-set-form (type_name id) e = absurd (true≢false (sym e))
-permission-set-form (type_alias id) e = absurd (true≢false (sym e))
-permission-set-form (alias_actual alias actual) e = absurd (true≢false (sym e))
-permission-set-form (type_attribute id) e = absurd (true≢false (sym e))
-permission-set-form (attribute_set attribute expr) e = absurd (true≢false (sym e))
-permission-set-form (common id permissions) e = absurd (true≢false (sym e))
-permission-set-form (class id permissions) e = absurd (true≢false (sym e))
-permission-set-form (class_common the_class the_common) e = absurd (true≢false (sym e))
-permission-set-form (class_order the_classes) e = absurd (true≢false (sym e))
-permission-set-form (class_permission id) e = absurd (true≢false (sym e))
 permission-set-form (class_permission_set set the_class permissions) e = (set, the_class, permissions, refl)
 permission-set-form (rule kind source itself (anonymous the_class permissions)) e = absurd (true≢false (sym e))
-permission-set-form (rule kind source itself (by_name set)) e = absurd (true≢false (sym e))
 permission-set-form (rule kind source (the_named word) (anonymous the_class permissions)) e = absurd (true≢false (sym e))
-permission-set-form (rule kind source (the_named word) (by_name set)) e = absurd (true≢false (sym e))
+permission-set-form _ e = absurd (true≢false (sym e))
 
 -- the kind of the rules of a kind of statements
 abbrev pub code_in : StatementKind → code.RuleKind
@@ -96,32 +52,21 @@ rule-code kind source (the_named word) (anonymous the_class permissions) = refl
 rule-code kind source itself (by_name set) = refl
 rule-code kind source (the_named word) (by_name set) = refl
 
--- whether a rule's statement has a word as its target, and whether each source itself is
-abbrev pub aims_at_word : StatementKind → Bool
-aims_at_word (kinds.Rule kind) = true
-aims_at_word (kinds.RuleOfSet kind) = true
-aims_at_word _ = false
-
-abbrev pub aims_at_self : StatementKind → Bool
-aims_at_self (kinds.RuleToSelf kind) = true
-aims_at_self (kinds.RuleToSelfOfSet kind) = true
-aims_at_self _ = false
-
-pub word-aimed : (kind : RuleKind) (source : Word) (target : Target) (permissions : ClassPermissions) → aims_at_word (kind_of (rule kind source target permissions)) ≡ true → (word : Word) × (target ≡ the_named word)
+pub word-aimed : (kind : RuleKind) (source : Word) (target : Target) (permissions : ClassPermissions) → is_to_word (kind_of (rule kind source target permissions)) ≡ true → (word : Word) × (target ≡ the_named word)
 word-aimed kind source itself (anonymous the_class permissions) e = absurd (true≢false (sym e))
 word-aimed kind source (the_named word) (anonymous the_class permissions) e = (word, refl)
 word-aimed kind source itself (by_name set) e = absurd (true≢false (sym e))
 word-aimed kind source (the_named word) (by_name set) e = (word, refl)
 
-pub self-aimed : (kind : RuleKind) (source : Word) (target : Target) (permissions : ClassPermissions) → aims_at_self (kind_of (rule kind source target permissions)) ≡ true → target ≡ itself
+pub self-aimed : (kind : RuleKind) (source : Word) (target : Target) (permissions : ClassPermissions) → is_to_self (kind_of (rule kind source target permissions)) ≡ true → target ≡ itself
 self-aimed kind source itself (anonymous the_class permissions) e = refl
 self-aimed kind source (the_named word) (anonymous the_class permissions) e = absurd (true≢false (sym e))
 self-aimed kind source itself (by_name set) e = refl
 self-aimed kind source (the_named word) (by_name set) e = absurd (true≢false (sym e))
 
 -- one of both it has
-pub rule-aims : (kind : RuleKind) (source : Word) (target : Target) (permissions : ClassPermissions) → aims_at_word (kind_of (rule kind source target permissions)) ≡ false
-    → aims_at_self (kind_of (rule kind source target permissions)) ≡ false → ⊥
+pub rule-aims : (kind : RuleKind) (source : Word) (target : Target) (permissions : ClassPermissions) → is_to_word (kind_of (rule kind source target permissions)) ≡ false
+    → is_to_self (kind_of (rule kind source target permissions)) ≡ false → ⊥
 rule-aims kind source itself (anonymous the_class permissions) e f = true≢false f
 rule-aims kind source (the_named word) (anonymous the_class permissions) e f = true≢false e
 rule-aims kind source itself (by_name set) e f = true≢false f

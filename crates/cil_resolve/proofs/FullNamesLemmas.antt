@@ -73,39 +73,15 @@ pub numbered-first : (form : Form) → is_numbered_kind (kind_of form) ≡ true 
 numbered-first (type_name id) e = (id, refl, refl)
 numbered-first (type_attribute id) e = (id, refl, refl)
 numbered-first (class id permissions) e = (id, refl, refl)
-numbered-first (block id) e = absurd (true≢false (sym e))
-numbered-first (optional id) e = absurd (true≢false (sym e))
-numbered-first (type_alias id) e = absurd (true≢false (sym e))
-numbered-first (alias_actual alias actual) e = absurd (true≢false (sym e))
-numbered-first (attribute_set attribute expr) e = absurd (true≢false (sym e))
-numbered-first (common id permissions) e = absurd (true≢false (sym e))
-numbered-first (class_common the_class the_common) e = absurd (true≢false (sym e))
-numbered-first (class_order the_classes) e = absurd (true≢false (sym e))
 numbered-first (class_permission id) e = (id, refl, refl)
-numbered-first (class_permission_set set the_class permissions) e = absurd (true≢false (sym e))
 numbered-first (rule kind source itself (anonymous the_class permissions)) e = absurd (true≢false (sym e))
-numbered-first (rule kind source itself (by_name set)) e = absurd (true≢false (sym e))
 numbered-first (rule kind source (the_named word) (anonymous the_class permissions)) e = absurd (true≢false (sym e))
-numbered-first (rule kind source (the_named word) (by_name set)) e = absurd (true≢false (sym e))
+numbered-first _ e = absurd (true≢false (sym e))
 
 pub kind-numbered : (form : Form) → is_numbered_kind (kind_of form) ≡ is_numbered form
-kind-numbered (block id) = refl
-kind-numbered (optional id) = refl
-kind-numbered (type_name id) = refl
-kind-numbered (type_alias id) = refl
-kind-numbered (alias_actual alias actual) = refl
-kind-numbered (type_attribute id) = refl
-kind-numbered (attribute_set attribute expr) = refl
-kind-numbered (common id permissions) = refl
-kind-numbered (class id permissions) = refl
-kind-numbered (class_common the_class the_common) = refl
-kind-numbered (class_order the_classes) = refl
-kind-numbered (class_permission id) = refl
-kind-numbered (class_permission_set set the_class permissions) = refl
 kind-numbered (rule kind source itself (anonymous the_class permissions)) = refl
-kind-numbered (rule kind source itself (by_name set)) = refl
 kind-numbered (rule kind source (the_named word) (anonymous the_class permissions)) = refl
-kind-numbered (rule kind source (the_named word) (by_name set)) = refl
+kind-numbered _ = refl
 
 -- a statement of another kind declares no such name
 pub kind-absent : (form : Form) → is_numbered_kind (kind_of form) ≡ false → numbered_id form ≡ None

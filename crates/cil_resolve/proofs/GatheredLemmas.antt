@@ -15,7 +15,8 @@ use Rattle.cil_resolve.specs.declared.given_sets.GivenSets.{GivenSets}
 use Rattle.cil_resolve.specs.declared.numbered.NumberedPermissionSet.{NumberedPermissionSet}
 use Rattle.cil_resolve.specs.declared.set_permissions.ClassPermission.{ClassPermission}
 use Rattle.cil_resolve.specs.declared.set_permissions.SetPermissions.{SetPermissions}
-use Rattle.cil_resolve.proofs.StatementLemmas.{contained, take-one}
+use Rattle.cil_bind.proofs.PositionLemmas.{take-last}
+use Rattle.cil_resolve.proofs.StatementLemmas.{contained}
 
 -- the numbers of sets, once they were sorted and rid of repeats
 pub set-numbers : {A : Type 0} (statements : List (NumberedPermissionSet A)) (xs ys zs : List ℕ) → xs ≡ map (λ s. s.set) statements → IsPermutation xs ys → IsSorted nat_cmp ys → zs ≡ dedup eqb ys → AreSetNumbers statements zs
@@ -137,7 +138,7 @@ pub ordered-more : {A : Type 0} (numbers : List ℕ) (lists : List (Vec ClassPer
     → ArePutInOrder (take i numbers) lists old → ArePutInOrder (take (i + 1) numbers) lists new
 ordered-more numbers lists old new i v s numbered long at ordered pushed so_far = record {
   numbered =
-      ap (map (λ x. x.set)) pushed ∙ map-append (λ (x : SetPermissions _). x.set) old (s ∷ []) ∙ ap (λ l. l ++ s.set ∷ []) so_far.numbered ∙ sym (take-one numbers i s.set numbered);
+      ap (map (λ x. x.set)) pushed ∙ map-append (λ (x : SetPermissions _). x.set) old (s ∷ []) ∙ ap (λ l. l ++ s.set ∷ []) so_far.numbered ∙ sym (take-last numbers i s.set numbered);
   each = λ k list x here there. elim (got-push old s k x (subst (λ l. slice_get l k ≡ Some x) pushed there)) [
     | inl before ↦ so_far.each k list x here before
     | inr (last, same) ↦

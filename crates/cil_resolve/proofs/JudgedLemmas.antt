@@ -47,26 +47,14 @@ module _ (kept : Optionals) (policy : List Placed) (once : (fault : PolicyFault)
     where
       by : (kind : PolicyFaultKind) → fault.kind ≡ kind → IsFaultOf kind (judged kind kept policy) fault → IsFaultOf kind (restricted kept policy) fault
       by twice e f = absurd (once fault f)
-      by missing e f = f
-      by wrong_kind e f = f
-      by alias_twice e f = f
-      by alias_unset e f = f
-      by second_common e f = f
-      by too_many_permissions e f = f
-      by circular e f = f
+      by _ e f = f
 
   pub fault-of-within : (fault : PolicyFault) → IsFaultIn (restricted kept policy) fault → IsPolicyFault kept policy fault
   fault-of-within fault f = by fault.kind f
     where
       by : (kind : PolicyFaultKind) → IsFaultOf kind (restricted kept policy) fault → IsFaultOf kind (judged kind kept policy) fault
       by twice f = absurd (once-filtered (is_within kept) policy once fault f)
-      by missing f = f
-      by wrong_kind f = f
-      by alias_twice f = f
-      by alias_unset f = f
-      by second_common f = f
-      by too_many_permissions f = f
-      by circular f = f
+      by _ f = f
 
 -- A policy keeps these optionals and declares no name twice.
 module _ (policy : List Placed) (kept : Optionals) (are : AreKept policy kept) (once : (fault : PolicyFault) → IsFaultOf twice policy fault → ⊥) where

@@ -1,6 +1,6 @@
 -- Where look-ups of names lead.
 use Rattle.cil_resolve.proofs.Common.{◌≡◌, ◌∙◌, ℕ, Bool, true, false, List, [], ◌∷◌, Contains, Option, Some, None, is_some, refl, if◌then◌else◌, option_or, option_and_then, none-some, Word, components, Placed, Table, declared_in, declares, declaration, is_word, same_namespace, has_block, outward, nearest_block, inside, from_namespace, is_global, leads, first_true}
-use Rattle.cil_resolve.proofs.ElementLemmas.{find-holds}
+use Rattle.cil_optionals.proofs.FoundLemmas.{found-passes}
 use Rattle.cil_resolve.proofs.ListLemmas.{find-there}
 
 -- where a look-up leads: to a declaration among the statements
@@ -12,7 +12,7 @@ module _ (policy : List Placed) (table : Table) (t : Placed) where
   declaration-led : (namespace : List (List ℕ)) (name : List ℕ) → declaration policy table namespace name ≡ Some t → IsLed table policy t
   declaration-led namespace name e = record {
     there = find-there (declares table namespace name) policy t e;
-    declares_it = by (declared_in table t.form) (first_true (is_word name (declared_in table t.form)) (same_namespace t.namespace namespace) (find-holds (declares table namespace name) policy t e));
+    declares_it = by (declared_in table t.form) (first_true (is_word name (declared_in table t.form)) (same_namespace t.namespace namespace) (found-passes (declares table namespace name) policy t e));
   }
     where
       by : (o : Option Word) → is_word name o ≡ true → is_some o ≡ true

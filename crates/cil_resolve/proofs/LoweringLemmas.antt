@@ -1,11 +1,15 @@
 -- What statements of a policy without faults mean, by numbers.
 use Rattle.cil_resolve.proofs.Common.{◌≡◌, ℕ, Bool, true, false, not, ◌&&◌, List, [], get_or, map, Contains, Option, Some, None, is_some, refl, sym, ap, ◌∙◌, subst, true≢false, unwrap_or, none-some, same_Some, Word, Placed, Table, types, classes, permission_sets, leads, references, declared_in, actual_statement, is_alias, is_attribute, WordExpr, leaves, element_words, kinds_asked, contains-first, element_or_none, class_name, name_or_none, Form, block, optional, type_name, type_alias, alias_actual, type_attribute, attribute_set, common, class, class_common, class_order, class_permission, class_permission_set, rule, IsFaultless, none-there, IsLead, IsFirstOf, numbered_id, IsElement, HaveElements, is_set, number_in, HavePlaces, Element}
 use Rattle.std.proofs.Common.{slice_get}
+use Rattle.cil_check.specs.Checker.{IsNoted}
 use Rattle.cil_specs.specs.Rule.{element_of}
+use Rattle.cil_specs.proofs.CircularLemmas.{attribute-word}
 use Rattle.cil_expression.specs.declared.expression.Element.TheVariants as elements
+use Rattle.cil_resolve.specs.Lowering.{IsLowering}
+use Rattle.cil_resolve.specs.Numbering.{HavePermissions}
+use Rattle.cil_resolve.specs.declared.lowering.Lowering.{Lowering}
 use Rattle.cil_resolve.proofs.ElementLemmas.{first-declares, full-name-in}
 use Rattle.cil_resolve.proofs.FaultlessLemmas.{word-found, kind-found, alias-set}
-use Rattle.cil_resolve.proofs.PartLemmas.{attribute-form}
 
 -- where a look-up that leads somewhere was found
 pub record IsFound (table : Table) (policy : List Placed) (found : Option ℕ) (lead : Option Placed) : Type 0 where
@@ -22,36 +26,12 @@ found-at table policy (Some i) (Some t) leads some = record { t = t; lead_is = r
 -- what declares a class has its full name's number
 class-declares : (form : Form) → is_some (declared_in classes form) ≡ true → (id : Word) × (declared_in classes form ≡ Some id) × (numbered_id form ≡ Some id)
 class-declares (class id permissions) e = (id, refl, refl)
-class-declares (block id) e = absurd (true≢false (sym e))
-class-declares (optional id) e = absurd (true≢false (sym e))
-class-declares (type_name id) e = absurd (true≢false (sym e))
-class-declares (type_alias id) e = absurd (true≢false (sym e))
-class-declares (alias_actual alias actual) e = absurd (true≢false (sym e))
-class-declares (type_attribute id) e = absurd (true≢false (sym e))
-class-declares (attribute_set attribute expr) e = absurd (true≢false (sym e))
-class-declares (common id permissions) e = absurd (true≢false (sym e))
-class-declares (class_common the_class the_common) e = absurd (true≢false (sym e))
-class-declares (class_order the_classes) e = absurd (true≢false (sym e))
-class-declares (class_permission id) e = absurd (true≢false (sym e))
-class-declares (class_permission_set set the_class permissions) e = absurd (true≢false (sym e))
-class-declares (rule kind source target permissions) e = absurd (true≢false (sym e))
+class-declares _ e = absurd (true≢false (sym e))
 
 -- so is what declares a permission set
 set-declares : (form : Form) → is_some (declared_in permission_sets form) ≡ true → (id : Word) × (declared_in permission_sets form ≡ Some id) × (numbered_id form ≡ Some id)
-set-declares (block id) e = absurd (true≢false (sym e))
-set-declares (optional id) e = absurd (true≢false (sym e))
-set-declares (type_name id) e = absurd (true≢false (sym e))
-set-declares (type_alias id) e = absurd (true≢false (sym e))
-set-declares (alias_actual alias actual) e = absurd (true≢false (sym e))
-set-declares (type_attribute id) e = absurd (true≢false (sym e))
-set-declares (attribute_set attribute expr) e = absurd (true≢false (sym e))
-set-declares (common id permissions) e = absurd (true≢false (sym e))
-set-declares (class id permissions) e = absurd (true≢false (sym e))
-set-declares (class_common the_class the_common) e = absurd (true≢false (sym e))
-set-declares (class_order the_classes) e = absurd (true≢false (sym e))
 set-declares (class_permission id) e = (id, refl, refl)
-set-declares (class_permission_set set the_class permissions) e = absurd (true≢false (sym e))
-set-declares (rule kind source target permissions) e = absurd (true≢false (sym e))
+set-declares _ e = absurd (true≢false (sym e))
 
 module _ (policy : List Placed) (faultless : IsFaultless policy) (s : Placed) (there : Contains policy s) where
   -- a word of a rule stands for what was noted where it leads
@@ -99,7 +79,7 @@ module _ (policy : List Placed) (faultless : IsFaultless policy) (s : Placed) (t
       let refers : Contains (references s.form) (types, attribute) = subst (λ f. Contains (references f) (types, attribute)) (sym form) (contains-first (types, attribute) (map (λ w. (types, w)) (leaves expr))) in
       let asked : Contains (kinds_asked s.form) (is_attribute, attribute) = subst (λ f. Contains (kinds_asked f) (is_attribute, attribute)) (sym form) (contains-first (is_attribute, attribute) []) in
       let a = found-at types policy found (leads policy types s.namespace attribute.text) lead (word-found policy faultless s there types attribute refers) in
-      let (id, is) = attribute-form a.t.form (kind-found policy faultless s there is_attribute attribute asked a.t a.lead_is) in
+      let (id, is) = attribute-word a.t.form (kind-found policy faultless s there is_attribute attribute asked a.t a.lead_is) in
       ap (λ o. number_in names (name_or_none types o)) a.lead_is ∙ ap (number_in names) (sym (full-name-in types a.t id (ap numbered_id is) (ap (declared_in types) is)))
       ∙ have (unwrap_or found 0) a.t a.at (ap (λ f. is_some (numbered_id f)) is)
 
@@ -125,3 +105,15 @@ found-some table policy (Some n) lead leads i is = by (slice_get policy n) refl
 pub no-found : (table : Table) (policy : List Placed) (found : Option ℕ) (lead : Option Placed) → IsLead table policy found lead → found ≡ None → None ≡ lead
 no-found table policy None lead leads is = leads.is
 no-found table policy (Some n) lead leads is = absurd (none-some n (sym is))
+
+-- what the lowering rests on, by the lists that it is made of
+pub lowering-of : {A : Type 0} (l : Lowering A) (policy : List Placed) (places : List ℕ) (elements : List Element) → IsNoted l.checker.now policy → IsFaultless policy → HavePlaces l.numbering.now.names.items policy l.numbering.now.places.items
+    → HavePermissions l.checker.now.bound.policy.now.names l.numbering.now.names.items policy l.numbering.now.permissions.items → places ≡ l.numbering.now.places.items
+    → (HavePlaces l.numbering.now.names.items policy places → HaveElements l.numbering.now.names.items policy elements) → l.elements.now ≡ elements → IsLowering l policy
+lowering-of l policy places elements noted faultless have permissions read made same = record {
+  noted = noted;
+  faultless = faultless;
+  places = have;
+  permissions = permissions;
+  elements = subst (HaveElements l.numbering.now.names.items policy) (sym same) (made (subst (HavePlaces l.numbering.now.names.items policy) (sym read) have));
+}

@@ -1,5 +1,7 @@
--- Permissions of classes by their names, one by one.
-use Rattle.cil_resolve.proofs.Common.{◌≡◌, ◌∙◌, ℕ, Bool, true, false, ◌&&◌, ◌||◌, or-false, bytes_eq, get_or, List, [], ◌∷◌, map, length, arith, sym, ap, refl, has_named, leaves-mapped, resolved_permissions_of, written_in}
+-- Permissions of classes by their names, one by one, and what is read of lists by numbers.
+use Rattle.cil_resolve.proofs.Common.{◌≡◌, ◌∙◌, ◌<◌, ℕ, Bool, true, false, ◌&&◌, ◌||◌, or-false, bytes_eq, get_or, List, [], ◌∷◌, map, length, Option, Some, option_map, option_and_then, arith, sym, ap, refl, slice_get-map, has_named, leaves-mapped, resolved_permissions_of, written_in}
+use Rattle.std.proofs.Common.{slice_get}
+use Rattle.std.proofs.lemmas.Option.{slice_get_read}
 use Rattle.cil_resolve.specs.Numbers.{named_numbers}
 use Rattle.cil_resolve.specs.Views.{named_in}
 use Rattle.cil_resolve.specs.declared.numbered.ResolvedPermissions.{ResolvedPermissions}
@@ -35,3 +37,15 @@ module _ (names : List (List ℕ)) (c q : List ℕ) (left all : List ClassPermis
 pub named-numbers : {A : Type 0} (names : List (List ℕ)) (p : ResolvedPermissions A) → named_in (resolved_permissions_of names p) ≡ map (λ n. get_or names n []) (named_numbers p)
 named-numbers names (permits.OfClass p) = leaves-mapped (λ (n : ℕ). get_or names n []) (written_in p)
 named-numbers names (permits.OfSet s) = refl
+
+-- an element read of a list, by what it stands for
+pub read-as : {X Y : Type 0} (is : X → Y) (all read : List X) (i : ℕ) (x : X) → read ≡ all → i < length read → x ≡ get_or read i x → slice_get (map is all) i ≡ Some (is x)
+read-as is all read i x same within here = slice_get-map is all i ∙ ap (λ l. option_map is (slice_get l i)) (sym same) ∙ ap (option_map is) (slice_get_read read (length read) i x refl within here)
+
+-- the name at a place of those of an element, which are read by their numbers
+pub name-as : {X : Type 0} (names : List (List ℕ)) (named : X → List (List ℕ)) (all : List X) (i k : ℕ) (x : X) (numbers read : List ℕ) (o : Option ℕ) → slice_get all i ≡ Some x
+    → named x ≡ map (λ n. get_or names n []) numbers → read ≡ numbers → slice_get read k ≡ o → option_and_then (λ y. slice_get (named y) k) (slice_get all i) ≡ option_map (λ n. get_or names n []) o
+name-as names named all i k x numbers read o there are same at =
+    let name = λ (n : ℕ). get_or names n [] in
+    ap (option_and_then (λ y. slice_get (named y) k)) there ∙ ap (λ l. slice_get l k) are ∙ slice_get-map name numbers k
+    ∙ ap (λ l. option_map name (slice_get l k)) (sym same) ∙ ap (option_map name) at

@@ -1,5 +1,5 @@
 -- The types, attributes, classes, set statements and rules of a policy, statement by statement.
-use Rattle.cil_resolve.proofs.Common.{◌≡◌, ℕ, Bool, true, false, ◌&&◌, nat_lt, List, [], ◌∷◌, ◌++◌, length, map, flat_map, Some, refl, sym, ap, ◌∙◌, true≢false, append-nil, if◌then◌else◌, list_all, lt-ltb, map-append, list_all-append, flat_map-append, Word, Placed, Form, block, optional, type_name, type_alias, alias_actual, type_attribute, attribute_set, common, class, class_common, class_order, class_permission, class_permission_set, rule, anonymous, by_name, types, classes, declared_in, distinct, permissions_of, declared_as, class_as, is_class, is_type, is_attribute, itself, the_named, kind_of, kind-form, both_true, is_name_below, numbered_id, full_name_of, IsDeclared, IsClass, type_if, attribute_if, class_if, set_if, rule_if, AreNumbersIn, class_of, declared_of, set_of, ArePartsOf, AreRules, GivesNumbered, Vec, is_rule_below, is_written_below, keeps_no_list, meaning_of, Contains, Contains-push_cases, contains-first, first_true, inl, inr, subst}
+use Rattle.cil_resolve.proofs.Common.{◌≡◌, ℕ, Bool, true, false, ◌&&◌, nat_lt, List, [], ◌∷◌, ◌++◌, length, map, flat_map, Some, refl, sym, ap, ◌∙◌, true≢false, append-nil, if◌then◌else◌, list_all, lt-ltb, map-append, list_all-append, flat_map-append, Word, Placed, Form, block, optional, type_name, type_alias, alias_actual, type_attribute, attribute_set, common, class, class_common, class_order, class_permission, class_permission_set, rule, anonymous, by_name, types, classes, declared_in, distinct, permissions_of, declared_as, class_as, is_class, is_type, is_attribute, itself, the_named, kind_of, kind-form, both_true, is_name_below, numbered_id, full_name_of, IsDeclared, IsClass, type_if, attribute_if, class_if, set_if, rule_if, AreNumbersIn, class_of, declared_of, set_of, ArePartsOf, ArePermissionSets, permission_sets_of, is_class_below, is_set_below, AreRules, GivesNumbered, Vec, is_rule_below, is_written_below, keeps_no_list, meaning_of, Contains, Contains-push_cases, contains-first, first_true, inl, inr, subst}
 use Rattle.cil_specs.specs.Rule as spec
 use Rattle.cil_text.specs.declared.statement.RuleKind as code
 use Rattle.cil_parse.specs.declared.row.StatementKind.{StatementKind}
@@ -16,19 +16,7 @@ use Rattle.cil_resolve.proofs.NumberLemmas.{number-is, numbers-are, numbers-belo
 
 pub class-form : (form : Form) → is_class form ≡ true → (id : Word) × (permissions : List Word) × (form ≡ class id permissions)
 class-form (class id permissions) e = (id, permissions, refl)
-class-form (block id) e = absurd (true≢false (sym e))
-class-form (optional id) e = absurd (true≢false (sym e))
-class-form (type_name id) e = absurd (true≢false (sym e))
-class-form (type_alias id) e = absurd (true≢false (sym e))
-class-form (alias_actual alias actual) e = absurd (true≢false (sym e))
-class-form (type_attribute id) e = absurd (true≢false (sym e))
-class-form (attribute_set attribute expr) e = absurd (true≢false (sym e))
-class-form (common id permissions) e = absurd (true≢false (sym e))
-class-form (class_common the_class the_common) e = absurd (true≢false (sym e))
-class-form (class_order the_classes) e = absurd (true≢false (sym e))
-class-form (class_permission id) e = absurd (true≢false (sym e))
-class-form (class_permission_set set the_class permissions) e = absurd (true≢false (sym e))
-class-form (rule kind source target permissions) e = absurd (true≢false (sym e))
+class-form _ e = absurd (true≢false (sym e))
 
 -- a type or an attribute, by its parts
 pub declared-made : (modules names : List (List ℕ)) (d : NumberedName) (s : Placed) (id : Word) → IsDeclared modules names d s → numbered_id s.form ≡ Some id → declared_in types s.form ≡ Some id
@@ -64,22 +52,6 @@ stay f g old new statements s so_far same none = grow f g old new [] statements 
 pub below-more : {X : Type 0} (p : X → Bool) (old new : List X) (x : X) → list_all p old ≡ true → new ≡ old ++ x ∷ [] → p x ≡ true → list_all p new ≡ true
 below-more p old new x all pushed one = ap (list_all p) pushed ∙ list_all-append p old (x ∷ []) ∙ both_true (list_all p old) (p x && true) all (both_true (p x) true one refl)
 
-pub attribute-form : (form : Form) → is_attribute form ≡ true → (id : Word) × (form ≡ type_attribute id)
-attribute-form (type_attribute id) e = (id, refl)
-attribute-form (block id) e = absurd (true≢false (sym e))
-attribute-form (optional id) e = absurd (true≢false (sym e))
-attribute-form (type_name id) e = absurd (true≢false (sym e))
-attribute-form (type_alias id) e = absurd (true≢false (sym e))
-attribute-form (alias_actual alias actual) e = absurd (true≢false (sym e))
-attribute-form (attribute_set attribute expr) e = absurd (true≢false (sym e))
-attribute-form (common id permissions) e = absurd (true≢false (sym e))
-attribute-form (class id permissions) e = absurd (true≢false (sym e))
-attribute-form (class_common the_class the_common) e = absurd (true≢false (sym e))
-attribute-form (class_order the_classes) e = absurd (true≢false (sym e))
-attribute-form (class_permission id) e = absurd (true≢false (sym e))
-attribute-form (class_permission_set set the_class permissions) e = absurd (true≢false (sym e))
-attribute-form (rule kind source target permissions) e = absurd (true≢false (sym e))
-
 abbrev pub is_class_kind : StatementKind → Bool
 is_class_kind kinds.Class = true
 is_class_kind _ = false
@@ -92,42 +64,16 @@ is_rule_kind (kinds.RuleToSelfOfSet kind) = true
 is_rule_kind _ = false
 
 class-kind : (form : Form) → is_class form ≡ is_class_kind (kind_of form)
-class-kind (class id permissions) = refl
-class-kind (block id) = refl
-class-kind (optional id) = refl
-class-kind (type_name id) = refl
-class-kind (type_alias id) = refl
-class-kind (alias_actual alias actual) = refl
-class-kind (type_attribute id) = refl
-class-kind (attribute_set attribute expr) = refl
-class-kind (common id permissions) = refl
-class-kind (class_common the_class the_common) = refl
-class-kind (class_order the_classes) = refl
-class-kind (class_permission id) = refl
-class-kind (class_permission_set set the_class permissions) = refl
 class-kind (rule kind source itself (anonymous the_class permissions)) = refl
-class-kind (rule kind source itself (by_name set)) = refl
 class-kind (rule kind source (the_named word) (anonymous the_class permissions)) = refl
-class-kind (rule kind source (the_named word) (by_name set)) = refl
+class-kind _ = refl
 
 no-rule : (policy : List Placed) (s : Placed) (form : Form) → is_rule_kind (kind_of form) ≡ false → spec.rule_of policy s form ≡ []
 no-rule policy s (rule kind source itself (anonymous the_class permissions)) e = absurd (true≢false e)
 no-rule policy s (rule kind source itself (by_name set)) e = absurd (true≢false e)
 no-rule policy s (rule kind source (the_named word) (anonymous the_class permissions)) e = absurd (true≢false e)
 no-rule policy s (rule kind source (the_named word) (by_name set)) e = absurd (true≢false e)
-no-rule policy s (class id permissions) e = refl
-no-rule policy s (block id) e = refl
-no-rule policy s (optional id) e = refl
-no-rule policy s (type_name id) e = refl
-no-rule policy s (type_alias id) e = refl
-no-rule policy s (alias_actual alias actual) e = refl
-no-rule policy s (type_attribute id) e = refl
-no-rule policy s (attribute_set attribute expr) e = refl
-no-rule policy s (common id permissions) e = refl
-no-rule policy s (class_common the_class the_common) e = refl
-no-rule policy s (class_order the_classes) e = refl
-no-rule policy s (class_permission id) e = refl
-no-rule policy s (class_permission_set set the_class permissions) e = refl
+no-rule policy s _ e = refl
 
 abbrev pub is_set_kind : StatementKind → Bool
 is_set_kind kinds.TypeAttributeSet = true
@@ -178,15 +124,15 @@ no-rule-kind (kinds.RuleOfSet k) word self set both = absurd (set k refl)
 no-rule-kind (kinds.RuleToSelfOfSet k) word self set both = absurd (both k refl)
 no-rule-kind _ word self set both = refl
 
--- what a statement is not
-pub no-type : (s : Placed) → is_type s.form ≡ false → type_if s ≡ []
-no-type s e = ap (λ b. if b then declared_as types s ∷ [] else []) e
+-- what a statement adds, if anything
+pub type-added : {is : Bool} (s : Placed) → is_type s.form ≡ is → type_if s ≡ (if is then declared_as types s ∷ [] else [])
+type-added s e = ap (λ b. if b then declared_as types s ∷ [] else []) e
 
-pub no-attribute : (s : Placed) → is_attribute s.form ≡ false → attribute_if s ≡ []
-no-attribute s e = ap (λ b. if b then declared_as types s ∷ [] else []) e
+pub attribute-added : {is : Bool} (s : Placed) → is_attribute s.form ≡ is → attribute_if s ≡ (if is then declared_as types s ∷ [] else [])
+attribute-added s e = ap (λ b. if b then declared_as types s ∷ [] else []) e
 
-pub no-class : (policy : List Placed) (s : Placed) → is_class s.form ≡ false → class_if policy s ≡ []
-no-class policy s e = ap (λ b. if b then class_as policy s ∷ [] else []) e
+pub class-added : {is : Bool} (policy : List Placed) (s : Placed) → is_class s.form ≡ is → class_if policy s ≡ (if is then class_as policy s ∷ [] else [])
+class-added policy s e = ap (λ b. if b then class_as policy s ∷ [] else []) e
 
 -- the rules of some statements, with none more
 pub rules-stay : {A : Type 0} (modules names : List (List ℕ)) (policy : List Placed) (rules : List (NumberedRule A)) (statements : List Placed) (s : Placed) → AreRules modules names policy rules (flat_map (rule_if policy) statements)
@@ -222,38 +168,64 @@ rule-alone (kinds.RuleOfSet kind) e = (refl, refl, refl, refl)
 rule-alone (kinds.RuleToSelfOfSet kind) e = (refl, refl, refl, refl)
 rule-alone _ e = absurd (true≢false (sym e))
 
+-- what is added to a list of parts
+pub record Adds {X Y : Type 0} (is : X → Y) (fits : X → Bool) (old new : List X) (what : List Y) : Type 0 where
+  pub added : List X
+  pub pushed : new ≡ old ++ added
+  pub are : map is added ≡ what
+  pub fit : list_all fits added ≡ true
+
+pub adds-none : {X Y : Type 0} {is : X → Y} {fits : X → Bool} {old : List X} {what : List Y} → what ≡ [] → Adds is fits old old what
+adds-none {old = old} none = record { added = []; pushed = sym (append-nil old); are = sym none; fit = refl }
+
+pub adds-one : {X Y : Type 0} {is : X → Y} {fits : X → Bool} {old new : List X} {what : List Y} (x : X) → new ≡ old ++ x ∷ [] → what ≡ is x ∷ [] → fits x ≡ true → Adds is fits old new what
+adds-one {fits = fits} x pushed one fit = record { added = x ∷ []; pushed = pushed; are = sym one; fit = both_true (fits x) true fit refl }
+
 module _ {A : Type 0} (modules names : List (List ℕ)) (policy statements : List Placed) (s : Placed) (parts : Parts A) where
-  -- the parts with one rule more
+  -- the parts with what one statement more adds to each
+  pub parts-more : (new : Parts A) → ArePartsOf modules names policy statements parts → new.permission_sets.items ≡ parts.permission_sets.items
+      → Adds (declared_of modules names) (is_name_below (length names)) parts.types.items new.types.items (type_if s)
+      → Adds (declared_of modules names) (is_name_below (length names)) parts.attributes.items new.attributes.items (attribute_if s)
+      → Adds (class_of modules names) (is_class_below (length names)) parts.classes.items new.classes.items (class_if policy s)
+      → Adds (set_of modules names) (is_set_below (length names)) parts.sets.items new.sets.items (set_if policy s)
+      → AreRules modules names policy new.rules.items (flat_map (rule_if policy) (statements ++ s ∷ []))
+      → ArePartsOf modules names policy (statements ++ s ∷ []) new
+  parts-more new so_far same types attributes classes sets rules = record {
+    types_are = all type_if so_far.types_are types;
+    types_below = fitting so_far.types_below types;
+    attributes_are = all attribute_if so_far.attributes_are attributes;
+    attributes_below = fitting so_far.attributes_below attributes;
+    classes_are = all (class_if policy) so_far.classes_are classes;
+    classes_below = fitting so_far.classes_below classes;
+    permission_sets_are = subst (λ l. ArePermissionSets modules names policy l (permission_sets_of policy)) (sym same) so_far.permission_sets_are;
+    sets_are = record { is = all (set_if policy) so_far.sets_are.is sets; below = fitting so_far.sets_are.below sets };
+    rules_are = rules;
+  }
+    where
+      all : {X Y : Type 0} {is : X → Y} {fits : X → Bool} {old new : List X} (of : Placed → List Y) → map is old ≡ flat_map of statements → Adds is fits old new (of s) → map is new ≡ flat_map of (statements ++ s ∷ [])
+      all {is = is} {old = old} {new = new} of before more = grow is of old new more.added statements s before more.pushed more.are
+
+      fitting : {X Y : Type 0} {is : X → Y} {fits : X → Bool} {old new : List X} {what : List Y} → list_all fits old ≡ true → Adds is fits old new what → list_all fits new ≡ true
+      fitting {fits = fits} {old = old} before more = ap (list_all fits) more.pushed ∙ list_all-append fits old more.added ∙ both_true (list_all fits old) (list_all fits more.added) before more.fit
+
+  -- with other rules
+  with-rules : (kind : StatementKind) (rules : Vec (NumberedRule A) A) → kind_of s.form ≡ kind → is_kind «Type» kind ≡ false → is_kind Attribute kind ≡ false → is_class_kind kind ≡ false → is_set_kind kind ≡ false
+      → ArePartsOf modules names policy statements parts → AreRules modules names policy rules.items (flat_map (rule_if policy) (statements ++ s ∷ []))
+      → ArePartsOf modules names policy (statements ++ s ∷ []) (record parts { rules = rules })
+  with-rules kind rules is type attribute a_class a_set so_far are =
+      let of = of-kind policy s kind is in
+      parts-more (record parts { rules = rules }) so_far refl (adds-none (type-added s (of.type ∙ type))) (adds-none (attribute-added s (of.attribute ∙ attribute)))
+      (adds-none (class-added policy s (of.a_class ∙ a_class))) (adds-none (of.no_set a_set)) are
+
+  -- with one rule more
   pub with-rule : (rules : Vec (NumberedRule A) A) (r : NumberedRule A) → is_rule_kind (kind_of s.form) ≡ true → ArePartsOf modules names policy statements parts → rules.items ≡ parts.rules.items ++ r ∷ []
       → AreRules modules names policy (r ∷ []) (rule_if policy s) → ArePartsOf modules names policy (statements ++ s ∷ []) (record parts { rules = rules })
   with-rule rules r is so_far pushed one =
-      let kind = of-kind policy s (kind_of s.form) refl in
       let (type, attribute, a_class, a_set) = rule-alone (kind_of s.form) is in
-      record {
-        types_are = stay (declared_of modules names) type_if parts.types.items parts.types.items statements s so_far.types_are refl (no-type s (kind.type ∙ type));
-        types_below = so_far.types_below;
-        attributes_are = stay (declared_of modules names) attribute_if parts.attributes.items parts.attributes.items statements s so_far.attributes_are refl (no-attribute s (kind.attribute ∙ attribute));
-        attributes_below = so_far.attributes_below;
-        classes_are = stay (class_of modules names) (class_if policy) parts.classes.items parts.classes.items statements s so_far.classes_are refl (no-class policy s (kind.a_class ∙ a_class));
-        classes_below = so_far.classes_below;
-        permission_sets_are = so_far.permission_sets_are;
-        sets_are = record { is = stay (set_of modules names) (set_if policy) parts.sets.items parts.sets.items statements s so_far.sets_are.is refl (kind.no_set a_set); below = so_far.sets_are.below };
-        rules_are = rules-grow modules names policy parts.rules.items rules.items r statements s so_far.rules_are pushed one;
-      }
+      with-rules (kind_of s.form) rules refl type attribute a_class a_set so_far (rules-grow modules names policy parts.rules.items rules.items r statements s so_far.rules_are pushed one)
 
   -- with none more
   pub with-none : (kind : StatementKind) → kind_of s.form ≡ kind → is_kind «Type» kind ≡ false → is_kind Attribute kind ≡ false → is_class_kind kind ≡ false → is_set_kind kind ≡ false → is_rule_kind kind ≡ false
       → ArePartsOf modules names policy statements parts → ArePartsOf modules names policy (statements ++ s ∷ []) parts
   with-none kind is type attribute a_class a_set a_rule so_far =
-      let of = of-kind policy s kind is in
-      record {
-        types_are = stay (declared_of modules names) type_if parts.types.items parts.types.items statements s so_far.types_are refl (no-type s (of.type ∙ type));
-        types_below = so_far.types_below;
-        attributes_are = stay (declared_of modules names) attribute_if parts.attributes.items parts.attributes.items statements s so_far.attributes_are refl (no-attribute s (of.attribute ∙ attribute));
-        attributes_below = so_far.attributes_below;
-        classes_are = stay (class_of modules names) (class_if policy) parts.classes.items parts.classes.items statements s so_far.classes_are refl (no-class policy s (of.a_class ∙ a_class));
-        classes_below = so_far.classes_below;
-        permission_sets_are = so_far.permission_sets_are;
-        sets_are = record { is = stay (set_of modules names) (set_if policy) parts.sets.items parts.sets.items statements s so_far.sets_are.is refl (of.no_set a_set); below = so_far.sets_are.below };
-        rules_are = rules-stay modules names policy parts.rules.items statements s so_far.rules_are (of.no_rule a_rule);
-      }
+      with-rules kind parts.rules is type attribute a_class a_set so_far (rules-stay modules names policy parts.rules.items statements s so_far.rules_are ((of-kind policy s kind is).no_rule a_rule))

@@ -112,18 +112,7 @@ module _ (policy : List Placed) (bound : List (List (Option ℕ))) (are : AreBou
       listed-lead commons (get_or (get_or bound i []) 1 None) (leads policy commons v.namespace the_common.text) name
       (lead-of policy v.namespace (references v.form) (get_or bound i []) 1 (commons, the_common) (bound-at policy policy bound i v are at) (ap (λ f. slice_get (references f) 1) form)) has
   common-listed v i name at (block id) form has = absurd (true≢false (sym has))
-  common-listed v i name at (optional id) form has = absurd (true≢false (sym has))
-  common-listed v i name at (type_name id) form has = absurd (true≢false (sym has))
-  common-listed v i name at (type_alias id) form has = absurd (true≢false (sym has))
-  common-listed v i name at (alias_actual alias actual) form has = absurd (true≢false (sym has))
-  common-listed v i name at (type_attribute id) form has = absurd (true≢false (sym has))
-  common-listed v i name at (attribute_set attribute expr) form has = absurd (true≢false (sym has))
-  common-listed v i name at (common id permissions) form has = absurd (true≢false (sym has))
-  common-listed v i name at (class id permissions) form has = absurd (true≢false (sym has))
-  common-listed v i name at (class_order the_classes) form has = absurd (true≢false (sym has))
-  common-listed v i name at (class_permission id) form has = absurd (true≢false (sym has))
-  common-listed v i name at (class_permission_set set the_class permissions) form has = absurd (true≢false (sym has))
-  common-listed v i name at (rule kind source target permissions) form has = absurd (true≢false (sym has))
+  common-listed v i name at _ form has = absurd (true≢false (sym has))
 
   -- the permissions of a class are permissions that statements list
   class-listed : (t : Placed) (n : ℕ) (name : List ℕ) → slice_get policy n ≡ Some t → has_name (permissions_of policy t) name ≡ true → has_name (listed_names policy) name ≡ true

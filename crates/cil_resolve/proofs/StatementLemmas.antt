@@ -2,6 +2,7 @@
 use Rattle.cil_resolve.proofs.Common.{◌≡◌, ℕ, ◌+◌, ◌<◌, zero, suc, List, [], ◌∷◌, ◌++◌, length, get_or, take, map, flat_map, Contains, Some, sym, ap, ◌∙◌, subst, arith, append-nil, none-some, same_Some, slice_get-get_or, slice_get_within, get_or_from_slice_get, take_more, map-append, get_or-map, flat_map-append, Placed, contains-first, contains-other, Row, row-at, IsOf, is-long, row-there, modules_of}
 use Rattle.std.proofs.Common.{slice_get}
 use Rattle.cil_bind.specs.Rows.{IsRow}
+use Rattle.cil_bind.proofs.PositionLemmas.{take-last}
 use Rattle.cil_check.specs.declared.bound.BoundPolicy.{BoundPolicy}
 
 -- an element at a place
@@ -11,14 +12,11 @@ at-place (y ∷ ys) zero x e = (omega arith, subst (Contains (y ∷ ys)) (same_S
 at-place (y ∷ ys) (suc i) x e = let more = at-place ys i x e in (omega (arith, more.0), contains-other y ys x more.1)
 
 -- one more is taken
-pub take-one : {X : Type 0} (xs : List X) (i : ℕ) (x : X) → slice_get xs i ≡ Some x → take (i + 1) xs ≡ take i xs ++ x ∷ []
-take-one xs i x at = take_more xs i x (slice_get_within xs i x at) ∙ ap (λ y. take i xs ++ y ∷ []) (get_or_from_slice_get xs i x x at)
-
 pub map-one : {X Y : Type 0} (f : X → Y) (xs : List X) (i : ℕ) (x : X) → slice_get xs i ≡ Some x → map f (take (i + 1) xs) ≡ map f (take i xs) ++ f x ∷ []
-map-one f xs i x at = ap (map f) (take-one xs i x at) ∙ map-append f (take i xs) (x ∷ [])
+map-one f xs i x at = ap (map f) (take-last xs i x at) ∙ map-append f (take i xs) (x ∷ [])
 
 pub flat-one : {X Y : Type 0} (f : X → List Y) (xs : List X) (i : ℕ) (x : X) → slice_get xs i ≡ Some x → flat_map f (take (i + 1) xs) ≡ flat_map f (take i xs) ++ f x
-flat-one f xs i x at = ap (flat_map f) (take-one xs i x at) ∙ flat_map-append f (take i xs) (x ∷ []) ∙ ap (λ l. flat_map f (take i xs) ++ l) (append-nil (f x))
+flat-one f xs i x at = ap (flat_map f) (take-last xs i x at) ∙ flat_map-append f (take i xs) (x ∷ []) ∙ ap (λ l. flat_map f (take i xs) ++ l) (append-nil (f x))
 
 -- what is made of an element at its place
 pub mapped-at : {X Y : Type 0} (f : X → Y) (xs : List X) (i : ℕ) (x : X) (d : Y) → slice_get xs i ≡ Some x → get_or (map f xs) i d ≡ f x

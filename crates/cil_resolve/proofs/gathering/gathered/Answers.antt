@@ -1,7 +1,8 @@
 use Rattle.cil_resolve.proofs.Common.{◌≡◌, ◌<◌, ◌+◌, Some, set, length, sym, ap, subst, arith, refl, take, slice_get_read, slice_get_within, AreGathered}
 use Rattle.std.proofs.Common.{slice_get}
 use Rattle.cil_resolve.proofs.GatheredLemmas.{gathered-more}
-use Rattle.cil_resolve.proofs.StatementLemmas.{contained, take-one}
+use Rattle.cil_bind.proofs.PositionLemmas.{take-last}
+use Rattle.cil_resolve.proofs.StatementLemmas.{contained}
 use Rattle.cil_resolve.proofs.gathering.gathered.Goals as goal
 use Rattle.cil_resolve.proofs.gathering.gathered.Goals.{in-Some+in_ok-add, in_default}
 
@@ -21,7 +22,7 @@ loop-statement-preserved g c =
           let low : place < length lists = (let within = slice_get_within numbers place t.set found in let long = c.loop-statement.invariant.long in omega (arith, within, long)) in
           let here : slice_get lists place ≡ Some v = slice_get_read lists (length lists) place v refl low w.index_mut.ensures.value in
           subst (λ l. AreGathered (take (i + 1) statements) numbers l) (ap (λ l. l.items) (sym w.lists-is))
-          (subst (λ some. AreGathered some numbers (set lists place w.add.new.list)) (sym (take-one statements i t at))
+          (subst (λ some. AreGathered some numbers (set lists place w.add.new.list)) (sym (take-last statements i t at))
           (gathered-more (take i statements) t numbers lists place v w.add.new.list c.requires.rising found here w.in_ok-add.ensures c.loop-statement.invariant))
       | in_default w ↦ absurd (w.in_default.ensures.none (c.requires.all t (contained statements i t at)))
     ]

@@ -1,6 +1,7 @@
-use Rattle.cil_resolve.proofs.Common.{rules, ◌≡◌, ◌∙◌, [], ◌<◌, ◌^◌, length, map, IsTrue, sym, ap, subst, list_all, AllPairs, IsStrictlySortedBy, length-map, HasSoundSets, meaning_of, are_permission_sets_of, are_rules_of, are_placed_in, HaveElements, modules_of, HavePlaces, declared_of, class_of, permission_set_of, set_of, dropped_with, HasNoCircle, is_set_below}
+use Rattle.cil_resolve.proofs.Common.{rules, ◌≡◌, ◌∙◌, [], ◌<◌, ◌^◌, length, map, IsTrue, sym, ap, subst, list_all, AllPairs, IsStrictlySortedBy, length-map, HasSoundSets, meaning_of, are_permission_sets_of, are_rules_of, are_placed_in, modules_of, declared_of, class_of, permission_set_of, set_of, dropped_with, HasNoCircle, is_set_below}
 use Rattle.cil_resolve.specs.Numbers.{GivesNumbered, rule_of}
 use Rattle.cil_resolve.proofs.ConsistentLemmas.{rules-declared, sets-declared}
+use Rattle.cil_resolve.proofs.LoweringLemmas.{lowering-of}
 use Rattle.cil_resolve.proofs.PlacedLemmas.{from-named, all-placed}
 use Rattle.cil_specs.specs.Violations.{rule_cmp}
 use Rattle.cil_resolve.specs.Apart.{StandApart}
@@ -14,29 +15,15 @@ pub parts-requires : goal.parts-requires
 parts-requires g c =
     let (policy, noted, faultless) = c.requires in (
       policy,
-      record {
-        noted = noted;
-        faultless = faultless;
-        places = c.in_ok-numbering.ensures.places policy noted.is;
-        permissions = c.in_ok-numbering.ensures.permissions policy noted.is;
-        elements = subst (HaveElements c.in_ok-numbering.numbering.names.items policy) (sym c.deref-2.ensures.value)
-            (c.in_ok-elements.ensures c.in_ok-numbering.numbering.names.items policy noted faultless
-            (subst (HavePlaces c.in_ok-numbering.numbering.names.items policy) (sym c.deref.ensures.value) (c.in_ok-numbering.ensures.places policy noted.is)));
-      },
+      lowering-of _ policy c.deref.result.now c.in_ok-elements.elements.items noted faultless (c.in_ok-numbering.ensures.places policy noted.is) (c.in_ok-numbering.ensures.permissions policy noted.is)
+          c.deref.ensures.value (c.in_ok-elements.ensures c.in_ok-numbering.numbering.names.items policy noted faultless) c.deref-2.ensures.value,
     )
 
 pub of-requires-2 : goal.of-requires-2
 of-requires-2 g c =
     let (policy, noted, faultless) = c.requires in
-    let parts = c.in_ok-parts.ensures policy (record {
-      noted = noted;
-      faultless = faultless;
-      places = c.in_ok-numbering.ensures.places policy noted.is;
-      permissions = c.in_ok-numbering.ensures.permissions policy noted.is;
-      elements = subst (HaveElements c.in_ok-numbering.numbering.names.items policy) (sym c.deref-2.ensures.value)
-          (c.in_ok-elements.ensures c.in_ok-numbering.numbering.names.items policy noted faultless
-          (subst (HavePlaces c.in_ok-numbering.numbering.names.items policy) (sym c.deref.ensures.value) (c.in_ok-numbering.ensures.places policy noted.is)));
-    }) in
+    let parts = c.in_ok-parts.ensures policy (lowering-of _ policy c.deref.result.now c.in_ok-elements.elements.items noted faultless (c.in_ok-numbering.ensures.places policy noted.is) (c.in_ok-numbering.ensures.permissions policy noted.is)
+    c.deref.ensures.value (c.in_ok-elements.ensures c.in_ok-numbering.numbering.names.items policy noted faultless) c.deref-2.ensures.value) in
     let names = c.in_ok-numbering.numbering.names.items in
     let long : c.len.result ≡ length names = search rules in
     let modules = modules_of c.args.checker.now.bound.joined.now in
@@ -50,15 +37,8 @@ of-requires-2 g c =
 pub invariant_of-result : goal.invariant_of-result
 invariant_of-result g c =
     let (policy, noted, faultless) = c.requires in
-    let parts = c.in_ok-parts.ensures policy (record {
-      noted = noted;
-      faultless = faultless;
-      places = c.in_ok-numbering.ensures.places policy noted.is;
-      permissions = c.in_ok-numbering.ensures.permissions policy noted.is;
-      elements = subst (HaveElements c.in_ok-numbering.numbering.names.items policy) (sym c.deref-2.ensures.value)
-          (c.in_ok-elements.ensures c.in_ok-numbering.numbering.names.items policy noted faultless
-          (subst (HavePlaces c.in_ok-numbering.numbering.names.items policy) (sym c.deref.ensures.value) (c.in_ok-numbering.ensures.places policy noted.is)));
-    }) in
+    let parts = c.in_ok-parts.ensures policy (lowering-of _ policy c.deref.result.now c.in_ok-elements.elements.items noted faultless (c.in_ok-numbering.ensures.places policy noted.is) (c.in_ok-numbering.ensures.permissions policy noted.is)
+    c.deref.ensures.value (c.in_ok-elements.ensures c.in_ok-numbering.numbering.names.items policy noted faultless) c.deref-2.ensures.value) in
     let names = c.in_ok-numbering.numbering.names.items in
     let modules = c.in_ok-module_names.ensures in
     let bound = noted.is.bound in
@@ -101,15 +81,8 @@ invariant_of-result g c =
 
 pub returns : goal.returns
 returns g c policy noted faultless =
-    let parts = c.in_ok-parts.ensures policy (record {
-      noted = noted;
-      faultless = faultless;
-      places = c.in_ok-numbering.ensures.places policy noted.is;
-      permissions = c.in_ok-numbering.ensures.permissions policy noted.is;
-      elements = subst (HaveElements c.in_ok-numbering.numbering.names.items policy) (sym c.deref-2.ensures.value)
-          (c.in_ok-elements.ensures c.in_ok-numbering.numbering.names.items policy noted faultless
-          (subst (HavePlaces c.in_ok-numbering.numbering.names.items policy) (sym c.deref.ensures.value) (c.in_ok-numbering.ensures.places policy noted.is)));
-    }) in
+    let parts = c.in_ok-parts.ensures policy (lowering-of _ policy c.deref.result.now c.in_ok-elements.elements.items noted faultless (c.in_ok-numbering.ensures.places policy noted.is) (c.in_ok-numbering.ensures.permissions policy noted.is)
+    c.deref.ensures.value (c.in_ok-elements.ensures c.in_ok-numbering.numbering.names.items policy noted faultless) c.deref-2.ensures.value) in
     let names = c.in_ok-numbering.numbering.names.items in
     let modules = c.in_ok-module_names.ensures in
     let types = (λ k. map (declared_of (modules k) names) c.in_ok-parts.parts.types.items) ∙ parts.types_are in

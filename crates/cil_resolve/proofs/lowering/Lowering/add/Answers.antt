@@ -1,8 +1,10 @@
 use Rattle.cil_resolve.proofs.Common.{inl, inr, ◌∙◌, ◌∷◌, [], length, true, refl, sym, ap, if◌then◌else◌, types, declared_in, declared_as, class_as, first_true, seen-kind, there-at, form-set, is_name_below, is_class_below, is_set_below, numbered_id, is_numbered, IsIn, modules_of, type_if, attribute_if, class_if, set_if, declared_of, class_of, set_of}
 use Rattle.cil_parse.specs.declared.row.StatementKind.TheVariants as kinds
+use Rattle.cil_specs.proofs.CircularLemmas.{attribute-word}
+use Rattle.cil_check.specs.Kinds.{is_rule_of_set}
 use Rattle.cil_resolve.proofs.ElementLemmas.{type-form}
-use Rattle.cil_resolve.proofs.FormLemmas.{form-of-class, form-of-set, is_of_class, is_of_set}
-use Rattle.cil_resolve.proofs.PartLemmas.{attribute-form, declared-made, of-kind, is_rule_kind, no-type-kind, no-attribute-kind, no-class-kind, no-set-kind, no-rule-kind, no-type, no-attribute, no-class, grow, stay, below-more, rules-stay, with-none, with-rule}
+use Rattle.cil_resolve.proofs.FormLemmas.{form-of-class, form-of-set, is_of_class}
+use Rattle.cil_resolve.proofs.PartLemmas.{declared-made, of-kind, is_rule_kind, no-type-kind, no-attribute-kind, no-class-kind, no-set-kind, no-rule-kind, adds-none, adds-one, type-added, attribute-added, class-added, parts-more, rules-stay, with-none, with-rule}
 use Rattle.cil_resolve.proofs.StatementLemmas.{contained}
 use Rattle.cil_resolve.proofs.lowering.Lowering.add.Goals as goal
 
@@ -29,17 +31,8 @@ returns-in_ok-push-in-TypeName-clause-parts g c policy statements s is at knows 
     let (id, form) = type-form s.form kind.type in
     let d = c.declared.result in
     let made = declared-made modules names d s id (c.declared.ensures policy s is_in at (ap is_numbered form)) (ap numbered_id form) (ap (declared_in types) form) in
-    record {
-      types_are = grow (declared_of modules names) type_if parts.types.items _ (d ∷ []) statements s so_far.types_are c.in_ok-push-in-TypeName.ensures.items (ap (λ x. x ∷ []) made.0 ∙ sym (ap (λ b. if b then declared_as types s ∷ [] else []) kind.type));
-      types_below = below-more (is_name_below (length names)) parts.types.items _ d so_far.types_below c.in_ok-push-in-TypeName.ensures.items made.1;
-      attributes_are = stay (declared_of modules names) attribute_if parts.attributes.items parts.attributes.items statements s so_far.attributes_are refl (no-attribute s (kind.attribute));
-      attributes_below = so_far.attributes_below;
-      classes_are = stay (class_of modules names) (class_if policy) parts.classes.items parts.classes.items statements s so_far.classes_are refl (no-class policy s (kind.a_class));
-      classes_below = so_far.classes_below;
-      permission_sets_are = so_far.permission_sets_are;
-      sets_are = record { is = stay (set_of modules names) (set_if policy) parts.sets.items parts.sets.items statements s so_far.sets_are.is refl (kind.no_set refl); below = so_far.sets_are.below };
-      rules_are = rules-stay modules names policy parts.rules.items statements s so_far.rules_are (kind.no_rule refl);
-    }
+    parts-more modules names policy statements s parts _ so_far refl (adds-one d c.in_ok-push-in-TypeName.ensures.items (type-added s kind.type ∙ ap (λ x. x ∷ []) (sym made.0)) made.1)
+    (adds-none (attribute-added s kind.attribute)) (adds-none (class-added policy s kind.a_class)) (adds-none (kind.no_set refl)) (rules-stay modules names policy parts.rules.items statements s so_far.rules_are (kind.no_rule refl))
 
 pub returns-in_ok-push-in-TypeAttribute-clause-parts : goal.returns-in_ok-push-in-TypeAttribute-clause-parts
 returns-in_ok-push-in-TypeAttribute-clause-parts g c policy statements s is at knows sets so_far =
@@ -49,20 +42,11 @@ returns-in_ok-push-in-TypeAttribute-clause-parts g c policy statements s is at k
     let seen = c.seen-seen.ensures.seen policy s is.noted.is at in
     let is_in : IsIn c.args.self.now c.seen-seen.result policy s = record { lowering = is; there = contained policy c.args.i s at; seen_is = seen; worded = c.seen-seen.ensures.worded policy is.noted.is } in
     let kind = of-kind policy s kinds.TypeAttribute (sym (seen-kind c.seen-seen.result policy s seen) ∙ c.in-TypeAttribute.is) in
-    let (id, form) = attribute-form s.form kind.attribute in
+    let (id, form) = attribute-word s.form kind.attribute in
     let d = c.declared-in-TypeAttribute.result in
     let made = declared-made modules names d s id (c.declared-in-TypeAttribute.ensures policy s is_in at (ap is_numbered form)) (ap numbered_id form) (ap (declared_in types) form) in
-    record {
-      types_are = stay (declared_of modules names) type_if parts.types.items parts.types.items statements s so_far.types_are refl (no-type s (kind.type));
-      types_below = so_far.types_below;
-      attributes_are = grow (declared_of modules names) attribute_if parts.attributes.items _ (d ∷ []) statements s so_far.attributes_are c.in_ok-push-in-TypeAttribute.ensures.items (ap (λ x. x ∷ []) made.0 ∙ sym (ap (λ b. if b then declared_as types s ∷ [] else []) kind.attribute));
-      attributes_below = below-more (is_name_below (length names)) parts.attributes.items _ d so_far.attributes_below c.in_ok-push-in-TypeAttribute.ensures.items made.1;
-      classes_are = stay (class_of modules names) (class_if policy) parts.classes.items parts.classes.items statements s so_far.classes_are refl (no-class policy s (kind.a_class));
-      classes_below = so_far.classes_below;
-      permission_sets_are = so_far.permission_sets_are;
-      sets_are = record { is = stay (set_of modules names) (set_if policy) parts.sets.items parts.sets.items statements s so_far.sets_are.is refl (kind.no_set refl); below = so_far.sets_are.below };
-      rules_are = rules-stay modules names policy parts.rules.items statements s so_far.rules_are (kind.no_rule refl);
-    }
+    parts-more modules names policy statements s parts _ so_far refl (adds-none (type-added s kind.type)) (adds-one d c.in_ok-push-in-TypeAttribute.ensures.items (attribute-added s kind.attribute ∙ ap (λ x. x ∷ []) (sym made.0)) made.1)
+    (adds-none (class-added policy s kind.a_class)) (adds-none (kind.no_set refl)) (rules-stay modules names policy parts.rules.items statements s so_far.rules_are (kind.no_rule refl))
 
 pub returns-in_ok-push-in-Class-clause-parts : goal.returns-in_ok-push-in-Class-clause-parts
 returns-in_ok-push-in-Class-clause-parts g c policy statements s is at knows sets so_far =
@@ -74,17 +58,9 @@ returns-in_ok-push-in-Class-clause-parts g c policy statements s is at knows set
     let kind = of-kind policy s kinds.Class (sym (seen-kind c.seen-seen.result policy s seen) ∙ c.in-Class.is) in
     let made = c.in_ok-class_at-in-Class.ensures policy s is_in at kind.a_class in
     let x = c.in_ok-class_at-in-Class.field-0 in
-    record {
-      types_are = stay (declared_of modules names) type_if parts.types.items parts.types.items statements s so_far.types_are refl (no-type s (kind.type));
-      types_below = so_far.types_below;
-      attributes_are = stay (declared_of modules names) attribute_if parts.attributes.items parts.attributes.items statements s so_far.attributes_are refl (no-attribute s (kind.attribute));
-      attributes_below = so_far.attributes_below;
-      classes_are = grow (class_of modules names) (class_if policy) parts.classes.items _ (x ∷ []) statements s so_far.classes_are c.in_ok-push-in-Class.ensures.items (ap (λ y. y ∷ []) made.is ∙ sym (ap (λ b. if b then class_as policy s ∷ [] else []) kind.a_class));
-      classes_below = below-more (is_class_below (length names)) parts.classes.items _ x so_far.classes_below c.in_ok-push-in-Class.ensures.items made.below;
-      permission_sets_are = so_far.permission_sets_are;
-      sets_are = record { is = stay (set_of modules names) (set_if policy) parts.sets.items parts.sets.items statements s so_far.sets_are.is refl (kind.no_set refl); below = so_far.sets_are.below };
-      rules_are = rules-stay modules names policy parts.rules.items statements s so_far.rules_are (kind.no_rule refl);
-    }
+    parts-more modules names policy statements s parts _ so_far refl (adds-none (type-added s kind.type)) (adds-none (attribute-added s kind.attribute))
+    (adds-one x c.in_ok-push-in-Class.ensures.items (class-added policy s kind.a_class ∙ ap (λ y. y ∷ []) (sym made.is)) made.below) (adds-none (kind.no_set refl))
+    (rules-stay modules names policy parts.rules.items statements s so_far.rules_are (kind.no_rule refl))
 
 pub returns-in_ok-push-in-TypeAttributeSet-clause-parts : goal.returns-in_ok-push-in-TypeAttributeSet-clause-parts
 returns-in_ok-push-in-TypeAttributeSet-clause-parts g c policy statements s is at knows sets so_far =
@@ -98,17 +74,8 @@ returns-in_ok-push-in-TypeAttributeSet-clause-parts g c policy statements s is a
     let (attribute, expr, form) = form-set s.form is_kind in
     let x = c.in_ok-set-in-TypeAttributeSet.field-0 in
     let made = c.in_ok-set-in-TypeAttributeSet.ensures policy s attribute expr is_in at form in
-    record {
-      types_are = stay (declared_of modules names) type_if parts.types.items parts.types.items statements s so_far.types_are refl (no-type s (kind.type));
-      types_below = so_far.types_below;
-      attributes_are = stay (declared_of modules names) attribute_if parts.attributes.items parts.attributes.items statements s so_far.attributes_are refl (no-attribute s (kind.attribute));
-      attributes_below = so_far.attributes_below;
-      classes_are = stay (class_of modules names) (class_if policy) parts.classes.items parts.classes.items statements s so_far.classes_are refl (no-class policy s (kind.a_class));
-      classes_below = so_far.classes_below;
-      permission_sets_are = so_far.permission_sets_are;
-      sets_are = record { is = grow (set_of modules names) (set_if policy) parts.sets.items _ (x ∷ []) statements s so_far.sets_are.is c.in_ok-push-in-TypeAttributeSet.ensures.items made.is; below = below-more (is_set_below (length names)) parts.sets.items _ x so_far.sets_are.below c.in_ok-push-in-TypeAttributeSet.ensures.items (first_true (is_set_below (length names) x) true made.below) };
-      rules_are = rules-stay modules names policy parts.rules.items statements s so_far.rules_are (kind.no_rule refl);
-    }
+    parts-more modules names policy statements s parts _ so_far refl (adds-none (type-added s kind.type)) (adds-none (attribute-added s kind.attribute)) (adds-none (class-added policy s kind.a_class))
+    (record { added = x ∷ []; pushed = c.in_ok-push-in-TypeAttributeSet.ensures.items; are = made.is; fit = made.below }) (rules-stay modules names policy parts.rules.items statements s so_far.rules_are (kind.no_rule refl))
 
 pub rule_of_class-requires : goal.rule_of_class-requires
 rule_of_class-requires g c =
@@ -133,7 +100,7 @@ rule_of_set-requires g c =
       s,
       record { lowering = is; there = contained policy c.args.i s at; seen_is = seen; worded = c.seen-seen.ensures.worded policy is.noted.is },
       at,
-      form-of-set s.form (ap is_of_set kind ∙ elim c.in-RuleOfSet.is [ inl e ↦ ap is_of_set e.1 | inr e ↦ ap is_of_set e.1 ]),
+      form-of-set s.form (ap is_rule_of_set kind ∙ elim c.in-RuleOfSet.is [ inl e ↦ ap is_rule_of_set e.1 | inr e ↦ ap is_rule_of_set e.1 ]),
     )
 
 pub returns-in_ok-push-in-Rule-clause-parts : goal.returns-in_ok-push-in-Rule-clause-parts
@@ -154,7 +121,7 @@ returns-in_ok-push-in-RuleOfSet-clause-parts g c policy statements s is at knows
     let seen = c.seen-seen.ensures.seen policy s is.noted.is at in
     let is_in : IsIn c.args.self.now c.seen-seen.result policy s = record { lowering = is; there = contained policy c.args.i s at; seen_is = seen; worded = c.seen-seen.ensures.worded policy is.noted.is } in
     let kind = sym (seen-kind c.seen-seen.result policy s seen) in
-    let rule = form-of-set s.form (ap is_of_set kind ∙ elim c.in-RuleOfSet.is [ inl e ↦ ap is_of_set e.1 | inr e ↦ ap is_of_set e.1 ]) in
+    let rule = form-of-set s.form (ap is_rule_of_set kind ∙ elim c.in-RuleOfSet.is [ inl e ↦ ap is_rule_of_set e.1 | inr e ↦ ap is_rule_of_set e.1 ]) in
     with-rule modules names policy statements s c.args.parts.now _ c.in_ok-rule-in-RuleOfSet.rule (ap is_rule_kind kind ∙ elim c.in-RuleOfSet.is [ inl e ↦ ap is_rule_kind e.1 | inr e ↦ ap is_rule_kind e.1 ]) so_far
     c.in_ok-push-in-RuleOfSet.ensures.items (c.in_ok-rule-in-RuleOfSet.ensures policy s is_in at rule sets)
 

@@ -1,6 +1,6 @@
 use Rattle.cil_resolve.proofs.Common.{◌≤◌, length, take, sym, subst, arith, take_all, there-at, ArePartsOf, GivesSets, KnowSets, modules_of}
 use Rattle.cil_resolve.proofs.KnownLemmas.{none-known}
-use Rattle.cil_resolve.proofs.StatementLemmas.{take-one}
+use Rattle.cil_bind.proofs.PositionLemmas.{take-last}
 use Rattle.cil_resolve.proofs.lowering.Lowering.parts.Goals as goal
 
 pub add-requires : goal.add-requires
@@ -30,7 +30,7 @@ loop-i-preserved g c policy is =
       are = c.in_ok-permission_sets.ensures.sets policy is none;
       give = subst (λ l. GivesSets l c.in_ok-given.given) c.deref.ensures.value c.in_ok-given.ensures;
     } in (
-      subst (λ l. ArePartsOf modules names policy l c.add.new.parts) (sym (take-one policy i s at)) (c.in_ok-add.ensures.parts policy (take i policy) s is at knows sets so_far),
+      subst (λ l. ArePartsOf modules names policy l c.add.new.parts) (sym (take-last policy i s at)) (c.in_ok-add.ensures.parts policy (take i policy) s is at knows sets so_far),
       c.in_ok-add.ensures.known policy s is at knows,
     )
 

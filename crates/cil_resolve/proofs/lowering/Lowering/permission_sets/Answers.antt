@@ -1,5 +1,5 @@
 use Rattle.cil_resolve.proofs.Common.{◌≤◌, length, flat_map, take, sym, subst, arith, take_all, there-at, ArePermissionSets, modules_of, permission_set_if}
-use Rattle.cil_resolve.proofs.StatementLemmas.{take-one}
+use Rattle.cil_bind.proofs.PositionLemmas.{take-last}
 use Rattle.cil_resolve.proofs.lowering.Lowering.permission_sets.Goals as goal
 
 pub add_permission_set-requires : goal.add_permission_set-requires
@@ -16,7 +16,7 @@ loop-i-preserved g c policy is knew =
     let modules = modules_of c.args.self.now.checker.now.bound.joined.now in
     let names = c.args.self.now.numbering.now.names.items in
     let (so_far, knows) = c.loop-i.invariant policy is knew in (
-      subst (λ l. ArePermissionSets modules names policy c.add_permission_set.new.sets.items (flat_map (permission_set_if policy) l)) (sym (take-one policy i s at)) (c.in_ok-add_permission_set.ensures.sets policy (take i policy) s is at knows so_far),
+      subst (λ l. ArePermissionSets modules names policy c.add_permission_set.new.sets.items (flat_map (permission_set_if policy) l)) (sym (take-last policy i s at)) (c.in_ok-add_permission_set.ensures.sets policy (take i policy) s is at knows so_far),
       c.in_ok-add_permission_set.ensures.known policy s is at knows,
     )
 

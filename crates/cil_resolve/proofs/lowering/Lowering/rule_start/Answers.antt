@@ -1,6 +1,7 @@
 use Rattle.cil_resolve.proofs.Common.{◌≡◌, ◌∙◌, ◌∷◌, [], inl, inr, Contains, sym, ap, subst, references, element_words, target_words, contains-first, contains-other, rule_kind_of, kind_of, rule_kind, rule, seen-kind, modules_of}
 use Rattle.std.proofs.Common.{slice_get}
-use Rattle.cil_resolve.proofs.FormLemmas.{code_in, rule-code, aims_at_word, aims_at_self, word-aimed, self-aimed}
+use Rattle.cil_check.proofs.AskedLemmas.{is_to_word, is_to_self}
+use Rattle.cil_resolve.proofs.FormLemmas.{code_in, rule-code, word-aimed, self-aimed}
 use Rattle.cil_resolve.proofs.RuleLemmas.{kind-back, start-itself, start-named}
 use Rattle.cil_resolve.proofs.lowering.Lowering.rule_start.Goals as goal
 use Rattle.cil_resolve.proofs.lowering.Lowering.rule_start.Goals.{in-RuleToSelf, in-RuleToSelf-2, in-Rule2}
@@ -16,17 +17,17 @@ returns g c policy s kind source target permissions is at form =
     elim c.match-seen.branch [
       | in-RuleToSelf w ↦
           let code : rule_kind kind ≡ w.in-RuleToSelf.kind = sym (rule-code kind source target permissions) ∙ ap code_in are ∙ elim w.in-RuleToSelf.is [ inl e ↦ ap code_in e | inr e ↦ ap code_in e ] in
-          let aimed = self-aimed kind source target permissions (ap aims_at_self are ∙ elim w.in-RuleToSelf.is [ inl e ↦ ap aims_at_self e | inr e ↦ ap aims_at_self e ]) in
+          let aimed = self-aimed kind source target permissions (ap is_to_self are ∙ elim w.in-RuleToSelf.is [ inl e ↦ ap is_to_self e | inr e ↦ ap is_to_self e ]) in
           start-itself modules names policy s kind source target permissions _ form aimed placed_in placed (ap (λ t. rule_kind_of t.0) w.kind-is ∙ ap rule_kind_of (sym code) ∙ kind-back kind) from
           (ap (λ t. t.1) w.kind-is) (ap (λ t. t.2) w.kind-is)
       | in-RuleToSelf-2 w ↦
           let code : rule_kind kind ≡ w.in-RuleToSelf.kind = sym (rule-code kind source target permissions) ∙ ap code_in are ∙ elim w.in-RuleToSelf.is [ inl e ↦ ap code_in e | inr e ↦ ap code_in e ] in
-          let aimed = self-aimed kind source target permissions (ap aims_at_self are ∙ elim w.in-RuleToSelf.is [ inl e ↦ ap aims_at_self e | inr e ↦ ap aims_at_self e ]) in
+          let aimed = self-aimed kind source target permissions (ap is_to_self are ∙ elim w.in-RuleToSelf.is [ inl e ↦ ap is_to_self e | inr e ↦ ap is_to_self e ]) in
           start-itself modules names policy s kind source target permissions _ form aimed placed_in placed (ap (λ t. rule_kind_of t.0) w.kind-is ∙ ap rule_kind_of (sym code) ∙ kind-back kind) from
           (ap (λ t. t.1) w.kind-is) (ap (λ t. t.2) w.kind-is)
       | in-Rule2 w ↦
           let code : rule_kind kind ≡ w.in-Rule.kind = sym (rule-code kind source target permissions) ∙ ap code_in are ∙ elim w.in-Rule.is [ inl e ↦ ap code_in e | inr e ↦ ap code_in e ] in
-          let (word, aimed) = word-aimed kind source target permissions (ap aims_at_word are ∙ elim w.in-Rule.is [ inl e ↦ ap aims_at_word e | inr e ↦ ap aims_at_word e ]) in
+          let (word, aimed) = word-aimed kind source target permissions (ap is_to_word are ∙ elim w.in-Rule.is [ inl e ↦ ap is_to_word e | inr e ↦ ap is_to_word e ]) in
           let named = form ∙ ap (λ t. rule kind source t permissions) aimed in
           let to = w.element.ensures policy s word is (ap (λ f. slice_get (references f) 1) named) (subst (λ f. Contains (element_words f) word) (sym named) (contains-other source (word ∷ []) word (contains-first word []))) in
           start-named modules names policy s kind source target permissions _ form word aimed w.element.result placed_in placed (ap (λ t. rule_kind_of t.0) w.kind-is ∙ ap rule_kind_of (sym code) ∙ kind-back kind) from

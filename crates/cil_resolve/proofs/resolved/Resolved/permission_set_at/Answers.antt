@@ -1,7 +1,6 @@
-use Rattle.cil_resolve.proofs.Common.{ℕ, ◌≡◌, ◌∙◌, [], length, refl, Some, option_map, sym, ap, get_or, length-map, slice_get-map, leaves, leaves-mapped, place_of, permission_set_of, written_in}
-use Rattle.std.proofs.Common.{slice_get}
-use Rattle.std.proofs.lemmas.Option.{slice_get_read}
+use Rattle.cil_resolve.proofs.Common.{ℕ, ◌≡◌, ◌∙◌, [], length, Some, option_map, sym, ap, get_or, length-map, leaves, leaves-mapped, place_of, permission_set_of, written_in}
 use Rattle.cil_resolve.specs.Views.{permission_set_head}
+use Rattle.cil_resolve.proofs.NamedLemmas.{read-as}
 use Rattle.cil_resolve.proofs.resolved.Resolved.permission_set_at.Goals as goal
 
 pub returns : goal.returns
@@ -11,7 +10,6 @@ returns g c =
     let f = λ (p : ℕ). get_or r.names.items p [] in
     let is = permission_set_of r.modules.items r.names.items in
     let found = c.in_ok-statement.ensures.lookup in
-    let there : slice_get r.permission_sets.items c.args.i ≡ Some x = ap (λ l. slice_get l c.args.i) (sym c.deref.ensures.value) ∙ slice_get_read c.deref.result.now (length c.deref.result.now) c.args.i x refl found.3.0 found.1 in
     let e = written_in x.permissions in
     let long = ap length c.named_permissions.ensures ∙ sym (length-map (leaves e) f) ∙ ap length (sym (leaves-mapped f e)) in
     let head : _ ≡ permission_set_head (is x) = λ k. record {
@@ -21,4 +19,4 @@ returns g c =
       the_class = c.name-2.ensures k;
       permissions = long k;
     } in
-    ap Some head ∙ sym (ap (option_map permission_set_head) (slice_get-map is r.permission_sets.items c.args.i ∙ ap (option_map is) there))
+    ap Some head ∙ sym (ap (option_map permission_set_head) (read-as is r.permission_sets.items c.deref.result.now c.args.i x c.deref.ensures.value found.3.0 found.1))

@@ -1,8 +1,7 @@
-use Rattle.cil_resolve.proofs.Common.{◌≡◌, ◌∙◌, length, refl, Some, option_map, sym, ap, slice_get-map, place_of, rule_kind_of}
-use Rattle.std.proofs.Common.{slice_get}
-use Rattle.std.proofs.lemmas.Option.{slice_get_read}
+use Rattle.cil_resolve.proofs.Common.{◌≡◌, ◌∙◌, Some, option_map, sym, ap, place_of, rule_kind_of}
 use Rattle.cil_resolve.specs.Numbers.{rule_of}
 use Rattle.cil_resolve.specs.Views.{rule_head}
+use Rattle.cil_resolve.proofs.NamedLemmas.{read-as}
 use Rattle.cil_resolve.proofs.resolved.Resolved.rule_at.Goals as goal
 
 pub returns : goal.returns
@@ -11,7 +10,6 @@ returns g c =
     let x = c.in_ok-rule.rule.now in
     let is = rule_of r.modules.items r.names.items in
     let found = c.in_ok-rule.ensures.lookup in
-    let there : slice_get r.rules.items c.args.i ≡ Some x = ap (λ l. slice_get l c.args.i) (sym c.deref.ensures.value) ∙ slice_get_read c.deref.result.now (length c.deref.result.now) c.args.i x refl found.3.0 found.1 in
     let head : _ ≡ rule_head (is x) = λ k. record {
       module_name = c.module.ensures k;
       at = place_of x.at;
@@ -20,4 +18,4 @@ returns g c =
       target = c.aim.ensures k;
       permissions = c.permissions.ensures k;
     } in
-    ap Some head ∙ sym (ap (option_map rule_head) (slice_get-map is r.rules.items c.args.i ∙ ap (option_map is) there))
+    ap Some head ∙ sym (ap (option_map rule_head) (read-as is r.rules.items c.deref.result.now c.args.i x c.deref.ensures.value found.3.0 found.1))

@@ -1,36 +1,30 @@
-use Rattle.cil_resolve.proofs.Common.{rules, ℕ, ◌≡◌, ◌∙◌, length, refl, map, [], None, Some, option_map, sym, ap, get_or, slice_get-map, option_and_then, Rule}
-use Rattle.std.proofs.Common.{slice_get}
+use Rattle.cil_resolve.proofs.Common.{rules, ◌∙◌, length, refl, map, None, Some, sym, ap, Rule}
 use Rattle.std.proofs.lemmas.Option.{slice_get_past, slice_get_read}
 use Rattle.cil_resolve.specs.Numbers.{named_numbers, rule_of}
 use Rattle.cil_resolve.specs.Views.{named_in}
-use Rattle.cil_resolve.proofs.NamedLemmas.{named-numbers}
+use Rattle.cil_resolve.proofs.NamedLemmas.{name-as, named-numbers, read-as}
 use Rattle.cil_resolve.proofs.resolved.Resolved.rule_permission.Goals as goal
 
 pub returns-in_err-permission : goal.returns-in_err-permission
 returns-in_err-permission g c =
     let r = c.args.self.now in
     let x = c.in_ok-rule.rule.now in
-    let f = λ (p : ℕ). get_or r.names.items p [] in
-    let is = rule_of r.modules.items r.names.items in
     let found = c.in_ok-rule.ensures.lookup in
-    let got : slice_get r.rules.items c.args.i ≡ Some x = ap (λ l. slice_get l c.args.i) (sym c.deref.ensures.value) ∙ slice_get_read c.deref.result.now (length c.deref.result.now) c.args.i x refl found.3.0 found.1 in
-    let there : slice_get (map is r.rules.items) c.args.i ≡ Some (is x) = slice_get-map is r.rules.items c.args.i ∙ ap (option_map is) got in
-    let none : slice_get (named_numbers x.permissions) c.args.k ≡ None = ap (λ l. slice_get l c.args.k) (sym c.named_permissions.ensures) ∙ slice_get_past c.named_permissions.result.now c.args.k (search rules) in
+    let is = rule_of r.modules.items r.names.items in
     search rules
-    ∙ sym (ap (λ o. option_and_then (λ (y : Rule). slice_get (named_in y.permissions) c.args.k) o) there
-    ∙ ap (λ l. slice_get l c.args.k) (named-numbers r.names.items x.permissions) ∙ slice_get-map f (named_numbers x.permissions) c.args.k ∙ ap (option_map f) none)
+    ∙ sym (name-as r.names.items (λ (y : Rule). named_in y.permissions) (map is r.rules.items) c.args.i c.args.k (is x) (named_numbers x.permissions) c.named_permissions.result.now None
+    (read-as is r.rules.items c.deref.result.now c.args.i x c.deref.ensures.value found.3.0 found.1) (named-numbers r.names.items x.permissions) c.named_permissions.ensures
+    (slice_get_past c.named_permissions.result.now c.args.k (search rules)))
 
 pub returns : goal.returns
 returns g c =
     let r = c.args.self.now in
     let x = c.in_ok-rule.rule.now in
-    let f = λ (p : ℕ). get_or r.names.items p [] in
-    let is = rule_of r.modules.items r.names.items in
     let found = c.in_ok-rule.ensures.lookup in
-    let got : slice_get r.rules.items c.args.i ≡ Some x = ap (λ l. slice_get l c.args.i) (sym c.deref.ensures.value) ∙ slice_get_read c.deref.result.now (length c.deref.result.now) c.args.i x refl found.3.0 found.1 in
-    let there : slice_get (map is r.rules.items) c.args.i ≡ Some (is x) = slice_get-map is r.rules.items c.args.i ∙ ap (option_map is) got in
-    let one : slice_get (named_numbers x.permissions) c.args.k ≡ Some c.in_ok-permission.permission.now = ap (λ l. slice_get l c.args.k) (sym c.named_permissions.ensures)
-    ∙ slice_get_read c.named_permissions.result.now (length c.named_permissions.result.now) c.args.k c.in_ok-permission.permission.now refl c.in_ok-permission.ensures.lookup.3.0 c.in_ok-permission.ensures.lookup.1 in
+    let n = c.in_ok-permission.permission.now in
+    let name = c.in_ok-permission.ensures.lookup in
+    let is = rule_of r.modules.items r.names.items in
     ap Some c.name.ensures
-    ∙ sym (ap (λ o. option_and_then (λ (y : Rule). slice_get (named_in y.permissions) c.args.k) o) there
-    ∙ ap (λ l. slice_get l c.args.k) (named-numbers r.names.items x.permissions) ∙ slice_get-map f (named_numbers x.permissions) c.args.k ∙ ap (option_map f) one)
+    ∙ sym (name-as r.names.items (λ (y : Rule). named_in y.permissions) (map is r.rules.items) c.args.i c.args.k (is x) (named_numbers x.permissions) c.named_permissions.result.now (Some n)
+    (read-as is r.rules.items c.deref.result.now c.args.i x c.deref.ensures.value found.3.0 found.1) (named-numbers r.names.items x.permissions) c.named_permissions.ensures
+    (slice_get_read c.named_permissions.result.now (length c.named_permissions.result.now) c.args.k n refl name.3.0 name.1))
