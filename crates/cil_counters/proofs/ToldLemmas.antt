@@ -135,29 +135,29 @@ module _ {A : Type 0} (names : List (List ℕ)) (r : Resolved A) (members : ℕ 
           ap (λ b. b || list_any (bytes_eq name) (map (λ q. slice_index_or r.names.items q []) ps)) (turned (name_in r p) name (other-name p name (ltb-true p (length r.names.items) (and-first _ _ low)) missing))
           ∙ none-listed name ps (and-second _ _ low) missing
 
-      -- no class is missing
-      none-classed : (class permission : List ℕ) → IsMissing class → has_permission (meaning_in r) class permission ≡ false
-      none-classed class permission missing = by r.classes.items r.classes_within
+      -- no class has a permission that each of those of the policy has not
+      none-has : (class permission : List ℕ)
+          → ((c : NumberedClass A) → is_class_below (length r.names.items) c ≡ true
+          → (bytes_eq class (class_of r.modules.items r.names.items c).name && list_any (bytes_eq permission) (class_of r.modules.items r.names.items c).permissions) ≡ false)
+          → has_permission (meaning_in r) class permission ≡ false
+      none-has class permission none = by r.classes.items r.classes_within
         where
           by : (classes : List (NumberedClass A)) → list_all (is_class_below (length r.names.items)) classes ≡ true
               → list_any (λ d. bytes_eq class d.name && list_any (bytes_eq permission) d.permissions) (map (class_of r.modules.items r.names.items) classes) ≡ false
           by [] low = refl
           by (c ∷ classes) low =
-              ap (λ b. b || list_any (λ d. bytes_eq class d.name && list_any (bytes_eq permission) d.permissions) (map (class_of r.modules.items r.names.items) classes))
-              (left-false (bytes_eq class (name_in r c.name)) _ (turned (name_in r c.name) class (other-name c.name class (ltb-true c.name (length r.names.items) (and-first _ _ (and-first _ _ low))) missing)))
+              ap (λ b. b || list_any (λ d. bytes_eq class d.name && list_any (bytes_eq permission) d.permissions) (map (class_of r.modules.items r.names.items) classes)) (none c (and-first _ _ low))
               ∙ by classes (and-second _ _ low)
 
-      -- no class has a missing permission
+      -- so none is missing, and none has a missing permission
+      none-classed : (class permission : List ℕ) → IsMissing class → has_permission (meaning_in r) class permission ≡ false
+      none-classed class permission missing =
+          none-has class permission
+          (λ c low. left-false (bytes_eq class (name_in r c.name)) _ (turned (name_in r c.name) class (other-name c.name class (ltb-true c.name (length r.names.items) (and-first _ _ low)) missing)))
+
       none-had : (class permission : List ℕ) → IsMissing permission → has_permission (meaning_in r) class permission ≡ false
-      none-had class permission missing = by r.classes.items r.classes_within
-        where
-          by : (classes : List (NumberedClass A)) → list_all (is_class_below (length r.names.items)) classes ≡ true
-              → list_any (λ d. bytes_eq class d.name && list_any (bytes_eq permission) d.permissions) (map (class_of r.modules.items r.names.items) classes) ≡ false
-          by [] low = refl
-          by (c ∷ classes) low =
-              ap (λ b. b || list_any (λ d. bytes_eq class d.name && list_any (bytes_eq permission) d.permissions) (map (class_of r.modules.items r.names.items) classes))
-              (right-false (bytes_eq class (name_in r c.name)) _ (none-listed permission c.permissions.items (and-second _ _ (and-first _ _ low)) missing))
-              ∙ by classes (and-second _ _ low)
+      none-had class permission missing =
+          none-has class permission (λ c low. right-false (bytes_eq class (name_in r c.name)) _ (none-listed permission c.permissions.items (and-second _ _ low) missing))
 
       told-by : (kind : RuleKind) (source target class permission : List ℕ) (p q s t : Option ℕ) → position (bytes_eq source) names ≡ p → position (bytes_eq target) names ≡ q → position (bytes_eq class) names ≡ s → position (bytes_eq permission) names ≡ t
           → count_at counts kind p q s t ≡ count_of (meaning_in r) (atom_with kind source target class permission)

@@ -11,6 +11,10 @@ use Rattle.std.proofs.lemmas.Nat.Bits.{bit_at_lowest, bit_at-suc, bit_at-zero}
 use Rattle.cil_sums.specs.Rises.{below, RisesBy}
 use Rattle.cil_sums.proofs.PairLemmas.{from-mapped, mapped, pairs-append, pairs-map}
 
+-- no number is below 0
+pub no-less : (k : ℕ) → k < 0 → ⊥
+no-less k less = omega (arith, less)
+
 module _ {X : Type 0} where
   abbrev Apart : X → X → Type 0
   Apart x y = x ≢ y
@@ -24,9 +28,6 @@ module _ {X : Type 0} where
     at_most = omega arith;
     at_least = omega arith;
   }
-    where
-      no-less : (k : ℕ) → k < 0 → ⊥
-      no-less k less = omega (arith, less)
 
   -- one thing passes
   pub rises-one : (p : X → Bool) (one : X) → p one ≡ true → ((x : X) → p x ≡ true → one ≡ x) → RisesBy p 0 1

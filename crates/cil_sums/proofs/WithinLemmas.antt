@@ -6,7 +6,7 @@ use Rattle.std.proofs.lemmas.List.{length-append, length-map}
 use Rattle.std.proofs.lemmas.List.Elements.{Contains-append_left, Contains-append_right, Contains-append_cases}
 use Rattle.cil_sums.specs.Rises.{up_to, RisesBy, RisesWithin, UpTo}
 use Rattle.cil_sums.proofs.PairLemmas.{at-most-all, from-mapped, mapped, pairs-append, pairs-map}
-use Rattle.cil_sums.proofs.RiseLemmas.{rises-more, rises-none, rises-one, rises-same}
+use Rattle.cil_sums.proofs.RiseLemmas.{no-less, rises-more, rises-none, rises-one, rises-same}
 
 module _ {X : Type 0} where
   -- nothing must
@@ -19,9 +19,6 @@ module _ {X : Type 0} where
     at_most = omega arith;
     at_least = omega arith;
   }
-    where
-      no-less : (k : ℕ) → k < 0 → ⊥
-      no-less k less = omega (arith, less)
 
   -- what may by one test may by another, and what must by the other must by the one
   pub within-weaker : (May Must More Less : X → Type 0) (before after : ℕ) → ((x : X) → May x → More x) → ((x : X) → Less x → Must x) → RisesWithin May Must before after → RisesWithin More Less before after

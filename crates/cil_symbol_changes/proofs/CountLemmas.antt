@@ -230,22 +230,28 @@ module _ (lines : Keyed) (held : AreKeyed lines.keys lines.lines) where
 
 -- ---- the numbers of lines
 
-module _ (lines : Keyed) (held : AreKeyed lines.keys lines.lines) (stands : ℕ → ℕ → ℕ) (count : ℕ)
-    (few : count < 2 ^ 96)
-    (many : RisesBy (λ (p : ℕ × ℕ). nat_lt 0 (stands p.0 p.1)) 0 count) where
+-- the targets of masks are those that came or went
+module _ {X : Type 0} (lines : Keyed) (held : AreKeyed lines.keys lines.lines) (line_of word_of mask_of : X → ℕ) (xs : List X) (fits : (x : X) → Contains xs x → mask_of x < 2 ^ 64)
+    (count : ℕ) (few : count < 2 ^ 96) (counted : count ≡ sum_by (λ x. count_ones (mask_of x)) xs) where
+  abbrev stands : ℕ → ℕ → ℕ
+  stands = hits_in line_of word_of mask_of xs
+
+  many : ((l t : ℕ) → stands l t ≤ 1) → RisesBy (λ (p : ℕ × ℕ). nat_lt 0 (stands p.0 p.1)) 0 count
+  many once = subst (RisesBy (λ (p : ℕ × ℕ). nat_lt 0 (stands p.0 p.1)) 0) (sym counted) (all-masks line_of word_of mask_of xs fits once)
+
   -- the number of what appeared in the lines
   pub lines-come : ((l t : ℕ) → stands l t ≡ min 1 (now_at lines l t) - min 1 (before_at lines l t))
       → AreSoMany (has_come (count_before lines) (count_now lines)) count
   lines-come turned =
       so-many (has_come (count_before lines) (count_now lines)) count (omega (arith, few))
-      (key-count lines stands (before_at lines) (now_at lines) (count_before lines) (count_now lines) turned (here-now lines held) (λ l key line t. (line.before t, line.now t)) (place-now lines) 0 count many)
+      (key-count lines stands (before_at lines) (now_at lines) (count_before lines) (count_now lines) turned (here-now lines held) (λ l key line t. (line.before t, line.now t)) (place-now lines) 0 count (many (λ l t. omega (arith, turned l t))))
 
   -- and of what went
   pub lines-gone : ((l t : ℕ) → stands l t ≡ min 1 (before_at lines l t) - min 1 (now_at lines l t))
       → AreSoMany (has_come (count_now lines) (count_before lines)) count
   lines-gone turned =
       so-many (has_come (count_now lines) (count_before lines)) count (omega (arith, few))
-      (key-count lines stands (now_at lines) (before_at lines) (count_now lines) (count_before lines) turned (here-before lines held) (λ l key line t. (line.now t, line.before t)) (place-before lines) 0 count many)
+      (key-count lines stands (now_at lines) (before_at lines) (count_now lines) (count_before lines) turned (here-before lines held) (λ l key line t. (line.now t, line.before t)) (place-before lines) 0 count (many (λ l t. omega (arith, turned l t))))
 
 -- ---- steps that turned targets one way
 
@@ -316,16 +322,12 @@ module _ (lines : Keyed) (held : AreKeyed lines.keys lines.lines) (log : List St
 
   pub steps-come : AreSoMany (has_come (count_before lines) (count_now lines)) added
   steps-come =
-      lines-come lines held (came_at log) added few_added
-      (subst (RisesBy (λ (p : ℕ × ℕ). nat_lt 0 (came_at log p.0 p.1)) 0) (sym came_is)
-      (all-masks (λ (s : Step). s.line) (λ (s : Step). s.word) came log (λ s there. came-fits s (All-contains (λ (t : Step). t.turned < 2 ^ 64) log s fits there)) (λ l t. let e = (each l t).0 in omega (arith, e))))
+      lines-come lines held (λ (s : Step). s.line) (λ (s : Step). s.word) came log (λ s there. came-fits s (All-contains (λ (t : Step). t.turned < 2 ^ 64) log s fits there)) added few_added came_is
       (λ l t. (each l t).0)
 
   pub steps-gone : AreSoMany (has_come (count_now lines) (count_before lines)) removed
   steps-gone =
-      lines-gone lines held (went_at log) removed few_removed
-      (subst (RisesBy (λ (p : ℕ × ℕ). nat_lt 0 (went_at log p.0 p.1)) 0) (sym went_is)
-      (all-masks (λ (s : Step). s.line) (λ (s : Step). s.word) went log (λ s there. went-fits s (All-contains (λ (t : Step). t.turned < 2 ^ 64) log s fits there)) (λ l t. let e = (each l t).1 in omega (arith, e))))
+      lines-gone lines held (λ (s : Step). s.line) (λ (s : Step). s.word) went log (λ s there. went-fits s (All-contains (λ (t : Step). t.turned < 2 ^ 64) log s fits there)) removed few_removed went_is
       (λ l t. (each l t).1)
 
 -- ---- changes
@@ -335,17 +337,11 @@ module _ (lines : Keyed) (held : AreKeyed lines.keys lines.lines) (given changes
   pub changes-come : ((l t : ℕ) → appeared_at changes l t ≡ min 1 (now_at lines l t) - min 1 (before_at lines l t)) → All (λ (c : Change). c.appeared < 2 ^ 64) given → count ≡ sum_by (λ c. count_ones c.appeared) given
       → AreSoMany (has_come (count_before lines) (count_now lines)) count
   changes-come appeared fit counted =
-      let turned : (l t : ℕ) → appeared_at given l t ≡ min 1 (now_at lines l t) - min 1 (before_at lines l t) = λ l t. ap (λ cs. appeared_at cs l t) all ∙ appeared l t in
-      lines-come lines held (appeared_at given) count few
-      (subst (RisesBy (λ (p : ℕ × ℕ). nat_lt 0 (appeared_at given p.0 p.1)) 0) (sym counted)
-      (all-masks (λ (c : Change). c.line) (λ (c : Change). c.word) (λ (c : Change). c.appeared) given (λ c there. All-contains (λ (d : Change). d.appeared < 2 ^ 64) given c fit there) (λ l t. omega (arith, turned l t))))
-      turned
+      lines-come lines held (λ (c : Change). c.line) (λ (c : Change). c.word) (λ (c : Change). c.appeared) given (λ c there. All-contains (λ (d : Change). d.appeared < 2 ^ 64) given c fit there) count few counted
+      (λ l t. ap (λ cs. appeared_at cs l t) all ∙ appeared l t)
 
   pub changes-gone : ((l t : ℕ) → gone_at changes l t ≡ min 1 (before_at lines l t) - min 1 (now_at lines l t)) → All (λ (c : Change). c.gone < 2 ^ 64) given → count ≡ sum_by (λ c. count_ones c.gone) given
       → AreSoMany (has_come (count_now lines) (count_before lines)) count
   changes-gone gone fit counted =
-      let turned : (l t : ℕ) → gone_at given l t ≡ min 1 (before_at lines l t) - min 1 (now_at lines l t) = λ l t. ap (λ cs. gone_at cs l t) all ∙ gone l t in
-      lines-gone lines held (gone_at given) count few
-      (subst (RisesBy (λ (p : ℕ × ℕ). nat_lt 0 (gone_at given p.0 p.1)) 0) (sym counted)
-      (all-masks (λ (c : Change). c.line) (λ (c : Change). c.word) (λ (c : Change). c.gone) given (λ c there. All-contains (λ (d : Change). d.gone < 2 ^ 64) given c fit there) (λ l t. omega (arith, turned l t))))
-      turned
+      lines-gone lines held (λ (c : Change). c.line) (λ (c : Change). c.word) (λ (c : Change). c.gone) given (λ c there. All-contains (λ (d : Change). d.gone < 2 ^ 64) given c fit there) count few counted
+      (λ l t. ap (λ cs. gone_at cs l t) all ∙ gone l t)

@@ -183,35 +183,14 @@ module _ (numbers : List ℕ) (lines : Keyed) (source : List LinePlace) where
           let low = is.low in
           elim (cases_lt (is.told.told.target / 64) word) [
             | inl before ↦ inl (k, x, within, at, record { told = is.told; low = before })
-            | inr behind ↦
-                inr (
-                  k,
-                  x,
-                  within,
-                  at,
-                  record { told = is.told; stands = omega (arith, low, behind) },
-                )
+            | inr behind ↦ inr (k, x, within, at, record { told = is.told; stands = omega (arith, low, behind) })
           ]
 
       left : (a : AccessNumbers) → UpTo word a → UpTo (word + 1) a
-      left a (k, x, within, at, is) =
-          let low = is.low in (
-            k,
-            x,
-            within,
-            at,
-            record { told = is.told; low = omega (arith, low) },
-          )
+      left a (k, x, within, at, is) = (k, x, within, at, record { told = is.told; low = (let low = is.low in omega (arith, low)) })
 
       right : (a : AccessNumbers) → Here word a → UpTo (word + 1) a
-      right a (k, x, within, at, is) =
-          let here = is.stands in (
-            k,
-            x,
-            within,
-            at,
-            record { told = is.told; low = omega (arith, here) },
-          )
+      right a (k, x, within, at, is) = (k, x, within, at, record { told = is.told; low = (let here = is.stands in omega (arith, here)) })
 
   -- no symbol that is known stands behind the words
   pub among-words : (words : ℕ) (old new : List Chunk) → length numbers ≤ 64 * words

@@ -20,10 +20,7 @@ pub returns-in-None-clause-now : goal.returns-in-None-clause-now
 returns-in-None-clause-now g c =
     let p = c.args.policies.now in
     on_ok_weaker c.give_set.result
-    (λ (moved : AreMoved (given p.symbols.now (old_in p) c.args.i) nothing (count_now c.args.rows.now) (count_now c.give_set.new.rows)) a t.
-    let all = alone-none (gave_in p a t) p.matching.now.ahead c.args.i (λ j at. none-some j ((c.in-None.ensures j).1 at)) in
-    let step = moved a t in
-    omega (arith, all, step))
+    (λ (moved : AreMoved (given p.symbols.now (old_in p) c.args.i) nothing (count_now c.args.rows.now) (count_now c.give_set.new.rows)) a t. omega (arith, alone-none (gave_in p a t) p.matching.now.ahead c.args.i (λ j at. none-some j ((c.in-None.ensures j).1 at)), moved a t))
     c.give_set.ensures.now
 
 pub returns-in-Some-clause-evaluations : goal.returns-in-Some-clause-evaluations

@@ -29,20 +29,14 @@ pub returns-in-Some-clause-now : goal.returns-in-Some-clause-now
 returns-in-Some-clause-now g c =
     let p = c.args.policies.now in
     on_ok_weaker c.move_set.result
-    (λ (moved : AreMoved (given p.symbols.now (old_in p) c.in-Some.i) (given p.symbols.now (new_in p) c.args.j) (count_now c.args.rows.now) (count_now c.move_set.new.rows)) a t.
-    let one = across-some (gave_in p a t) p.matching.now.back c.in-Some.i c.args.j ((c.in-Some.ensures c.in-Some.i).0 refl) in
-    let step = moved a t in
-    omega (arith, one, step))
+    (λ (moved : AreMoved (given p.symbols.now (old_in p) c.in-Some.i) (given p.symbols.now (new_in p) c.args.j) (count_now c.args.rows.now) (count_now c.move_set.new.rows)) a t. omega (arith, across-some (gave_in p a t) p.matching.now.back c.in-Some.i c.args.j ((c.in-Some.ensures c.in-Some.i).0 refl), moved a t))
     c.move_set.ensures.now
 
 pub returns-in-None-clause-now : goal.returns-in-None-clause-now
 returns-in-None-clause-now g c =
     let p = c.args.policies.now in
     on_ok_weaker c.give_set.result
-    (λ (moved : AreMoved nothing (given p.symbols.now (new_in p) c.args.j) (count_now c.args.rows.now) (count_now c.give_set.new.rows)) a t.
-    let none = across-none (gave_in p a t) p.matching.now.back c.args.j (λ i at. none-some i ((c.in-None.ensures i).1 at)) in
-    let step = moved a t in
-    omega (arith, none, step))
+    (λ (moved : AreMoved nothing (given p.symbols.now (new_in p) c.args.j) (count_now c.args.rows.now) (count_now c.give_set.new.rows)) a t. omega (arith, across-none (gave_in p a t) p.matching.now.back c.args.j (λ i at. none-some i ((c.in-None.ensures i).1 at)), moved a t))
     c.give_set.ensures.now
 
 pub returns-in-Some-clause-evaluations : goal.returns-in-Some-clause-evaluations

@@ -1,11 +1,13 @@
-use Rattle.cil_member_updates.proofs.Common.{◌≡◌, ◌/◌, ◌≤◌, ℕ, arith, slice_index, subst, sym, on_ok_weaker, count_now, evaluations_in, meaning_in, Cover, IsMoved, MayHold, given, given_of, held_by, keeps, lowered, lowered_by, raised, raised_by, set_of}
+use Rattle.cil_member_updates.proofs.Common.{◌≡◌, ◌/◌, ◌≤◌, ℕ, arith, slice_index, subst, sym, on_ok_weaker, count_now, evaluations_in, meaning_in, Cover, EvaluatesWord, IsMoved, MayHold, given, given_of, held_by, keeps, lowered, lowered_by, raised, raised_by, set_of}
 use Rattle.cil_lines.proofs.StepLemmas.{hit-none}
 use Rattle.cil_member_updates.specs.declared.when.When.{When}
 use Rattle.cil_member_updates.proofs.EvaluatedLemmas.{word-none, word-once}
 use Rattle.cil_member_updates.proofs.MovedLemmas.{moved-still, none-given}
 use Rattle.cil_member_updates.proofs.NameLemmas.{holds-keeps}
 use Rattle.cil_member_updates.proofs.WordLemmas.{gives-none, gives-row, lower-above, lowered-word, raised-word}
+use Rattle.cil_member_updates.proofs.words.give_word.Given as given_by
 use Rattle.cil_member_updates.proofs.words.give_word.Goals as goal
+use Rattle.cil_member_updates.proofs.words.give_word.Goals.{After-masked-mask}
 
 pub shift-requires-clause-above : goal.shift-requires-clause-above
 unfolding given
@@ -46,19 +48,19 @@ returns-then-visits-eq0-clause-now g c =
     moved-still (lowered_by r) (raised_by r) c.args.word (count_now c.args.rows.now)
     (λ a t here. none-given r.when (given_of r) a t (gives-none r.symbols.now (meaning_in r.side.now.resolved.now) (set_of r) c.args.word covers a t here))
 
-pub returns-in-Before-clause-evaluations : goal.returns-in-Before-clause-evaluations
-returns-in-Before-clause-evaluations g c =
+-- the set statement is evaluated at the types to be visited
+evaluates : (g : given_by.Over) (c : After-masked-mask g) → EvaluatesWord c.args.reading.now c.args.word c.args.meter.now c.masked-mask.new.meter
+evaluates g c =
     let r = c.args.reading.now in
     let meaning = meaning_in r.side.now.resolved.now in
     word-once c.args.word c.reached-visits.result (keeps r.symbols.now meaning) (held_by r) (slice_index r.side.now.kept.now c.args.word) (evaluations_in c.args.meter.now) (evaluations_in c.masked-mask.new.meter)
     (c.requires.reads.side.kept c.args.word) c.reached-visits.ensures (holds-keeps r.symbols.now meaning (set_of r)) c.masked-mask.ensures.evaluations
 
+pub returns-in-Before-clause-evaluations : goal.returns-in-Before-clause-evaluations
+returns-in-Before-clause-evaluations g c = evaluates g (goal.at.returns-in-Before-clause-evaluations g c).After-masked-mask
+
 pub returns-in-Now-clause-evaluations : goal.returns-in-Now-clause-evaluations
-returns-in-Now-clause-evaluations g c =
-    let r = c.args.reading.now in
-    let meaning = meaning_in r.side.now.resolved.now in
-    word-once c.args.word c.reached-visits.result (keeps r.symbols.now meaning) (held_by r) (slice_index r.side.now.kept.now c.args.word) (evaluations_in c.args.meter.now) (evaluations_in c.masked-mask.new.meter)
-    (c.requires.reads.side.kept c.args.word) c.reached-visits.ensures (holds-keeps r.symbols.now meaning (set_of r)) c.masked-mask.ensures.evaluations
+returns-in-Now-clause-evaluations g c = evaluates g (goal.at.returns-in-Now-clause-evaluations g c).After-masked-mask
 
 pub returns-then-visits-eq0-clause-evaluations : goal.returns-then-visits-eq0-clause-evaluations
 returns-then-visits-eq0-clause-evaluations g c =
