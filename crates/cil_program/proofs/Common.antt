@@ -1,6 +1,6 @@
 -- The names from elsewhere that this crate's proofs cite most, passed on from one place.
 pub use Rattle.cil_program.specs.ByNames.{AnswersByNames, AnswersProjected, answers, are_compiled, are_counted, are_not_held, are_printed, are_stored, hint_by, none_held, note_line, one_unreadable, one_unwritable, unreadable_text}
-pub use Rattle.cil_program.specs.CommandLine.{Compiles, Content, IsBaseName, IsEntryAt, IsEntryFor, IsReadOf, compiles, is_not_held, is_refused, is_unreadable, lacks_memory, lists, status_of_violations, tells, unreadable_line, untold}
+pub use Rattle.cil_program.specs.CommandLine.{Compiles, Content, IsBaseName, IsEntryAt, IsEntryFor, IsReadOf, compiles, is_not_held, is_refused, is_unreadable, lacks_memory, lists, status_of_violations, tells, unreadable_line, untold, Tells, WritesBoth}
 pub use Rattle.cil_program.specs.Conditionals.{Conditionals, Foreign, by_names, conditionals_in, foreign_in, misuse_text, misused, refused as refused_foreign}
 pub use Rattle.cil_program.specs.Given.{lists_none}
 pub use Rattle.cil_program.specs.Meanings.{refusal_text}

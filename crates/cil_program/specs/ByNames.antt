@@ -1,5 +1,5 @@
 -- What is answered where statements outside the language are taken by their names alone.
-use Rattle.std.specs.Prelude.{◌≡◌, ◌<◌, ℕ, true, List, [], ◌∷◌, ◌++◌, Contains, length, codes, decimal}
+use Rattle.std.specs.Prelude.{◌≡◌, ◌<◌, ℕ, true, List, [], ◌∷◌, ◌++◌, Contains, length, map, codes, decimal}
 use Rattle.std.specs.List.{AllZip, concat}
 use Rattle.cil_specs.specs.TextFault.{TextFault}
 use Rattle.cil_specs.specs.TextFault as text_fault
@@ -20,6 +20,7 @@ use Rattle.cil_program.specs.Targets.{IsPathIn, unwritable_text}
 use Rattle.cil_program.specs.Wanted.{Wanted, compiled, in_folder, kinds, projections}
 use Rattle.cil_program.specs.declared.command_line.compile.Report.{Report}
 use Rattle.cil_program.specs.declared.command_line.reason.Reason.{Reason}
+use Rattle.cil_program.specs.declared.command_line.foreign.Projected.{Projected}
 use Rattle.cil_program.specs.declared.command_line.foreign.NotProjected.{NotProjected}
 use Rattle.cil_program.specs.declared.command_line.foreign.NotProjected.TheVariants.{AtFault, TooLong, Memory}
 
@@ -116,6 +117,10 @@ pub data AnswersProjected (paths projected : List (List ℕ)) (counts : Counts) 
       → AnswersProjected paths projected counts wanted printed told status
   are_not_held : printed ≡ [] → told ≡ refusal_text true for_memory → status ≡ 1
       → AnswersProjected paths projected counts wanted printed told status
+
+-- what is printed and told of what the code projected
+abbrev pub AnswersFor : Projected → Wanted → List ℕ → List ℕ → ℕ → Type 0
+AnswersFor p wanted = AnswersProjected (map (λ file. file.path.now) p.files.items) (map (λ file. file.text.items) p.files.items) p.tally wanted
 
 -- What is printed and told of files whose statements outside the language are taken by their names alone, and the exit status: what is
 -- of the projections of the texts that were read; or that a file can't be read, or why one isn't projected, or that memory ran out.

@@ -1,9 +1,12 @@
 -- The words of a command line, and what answers them.
-use Rattle.std.specs.Prelude.{◌≡◌, ◌≢◌, ℕ, ◌<◌, List, [], ◌∷◌, ◌++◌, Bool, false, flat_map, length, drop, codes, slice_index, Contains, Option, None, Some, Result, Err, IfOk, ◌⊎◌}
+use Rattle.std.specs.Prelude.{◌≡◌, ◌≢◌, ℕ, ◌<◌, List, [], ◌∷◌, ◌++◌, Bool, false, flat_map, length, drop, codes, slice_index, Contains, Option, None, Some, Result, Err, IfOk, OnErr, ◌⊎◌, ◌≤◌}
 use Rattle.std.specs.List.{AllZip}
 use Rattle.cil_specs.specs.Report.{Row, row_line}
 use Rattle.cil_specs.specs.Violations.{Violation, violations_text}
+use Rattle.clap.specs.declared.error.kind.ErrorKind.{ErrorKind}
+use Rattle.clap.specs.declared.error.kind.ErrorKind.TheVariants.{OutOfMemory}
 use Rattle.cil_stream.specs.Device.{Account, Gains, GainsFront, HasEnded, HasFailed}
+use Rattle.cil_stream.specs.declared.sink.SinkFault.{SinkFault}
 use Rattle.cil_store_specs.specs.Store.{Entry, Store, empty}
 use Rattle.cil_store_specs.specs.Next.{Refusal, accepts, refuses, for_memory, Of}
 use Rattle.cil_store_specs.specs.Run.{AreRowsOf, AreViolationsOf}
@@ -26,6 +29,22 @@ pub record Written : Type 0 where
   pub flushed : Option (List ℕ)
   pub failures : ℕ
 
+-- What is meant is written on two sinks, which tell what they took and how often they failed, and this is the exit status; or one failed,
+-- and beginnings were written.
+pub record WritesBoth {W E : Type 0} (taken : W → Option (List ℕ)) (failures : W → ℕ) (out new_out : W) (err_taken : E → Option (List ℕ))
+    (err_failures : E → ℕ) (err new_err : E) (IsMeant : List ℕ → List ℕ → ℕ → Type 0) (result : Result ℕ SinkFault) : Type 0 where
+  pub ok : IfOk result (λ status. (printed : List ℕ) × (told : List ℕ) × Gains (taken out) (taken new_out) printed
+      × Gains (err_taken err) (err_taken new_err) told × IsMeant printed told status)
+  pub cut : OnErr result ((printed : List ℕ) × (told : List ℕ) × (status : ℕ) × GainsFront (taken out) (taken new_out) printed
+      × GainsFront (err_taken err) (err_taken new_err) told × IsMeant printed told status)
+  pub failed : OnErr result (HasFailed (failures out) (failures new_out) ⊎ HasFailed (err_failures err) (err_failures new_err))
+  pub out_counted : failures out ≤ failures new_out
+  pub err_counted : err_failures err ≤ err_failures new_err
+
+-- So it is where one sink is all that there is.
+abbrev pub Tells : {E : Type 0} → (E → Option (List ℕ)) → (E → ℕ) → E → E → (List ℕ → ℕ → Type 0) → Result ℕ SinkFault → Type 0
+Tells taken failures err new_err IsMeant = WritesBoth {W = Unit {0}} (λ _. None) (λ _. 0) tt tt taken failures err new_err (λ _. IsMeant)
+
 -- A session over an empty store was answered: what it left of its source and its sink, and the exit status.
 pub record AnswersSession (first now : Account) (before after : Written) (status : ℕ) : Type 0 where
   pub end : Result Status SessionFault
@@ -45,6 +64,10 @@ LacksMemory out new_out err new_err status =
     × (((status ≡ 1) × Gains err.taken new_err.taken (refusal_line for_memory))
     ⊎ ((status ≡ 3) × GainsFront err.taken new_err.taken (refusal_line for_memory)
     × (HasFailed out.failures new_out.failures ⊎ HasFailed err.failures new_err.failures)))
+
+-- what is printed and told where `clap` answers in place of what it finds, and the exit status
+abbrev pub IsTold : ErrorKind → List ℕ → List ℕ → ℕ → Type 0
+IsTold kind printed told status = (status ≤ 3) × (kind ≡ OutOfMemory → (printed ≡ []) × (told ≡ refusal_line for_memory) × (status ≡ 1))
 
 -- 1 where there is a violation
 abbrev pub status_of_violations : List Violation → ℕ

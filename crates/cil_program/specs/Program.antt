@@ -3,7 +3,9 @@ use Rattle.std.specs.Prelude.{◌≡◌, ◌⊎◌, ℕ, List, [], Bool, true, f
 use Rattle.cil_stream.specs.Device.{Gains, GainsFront, HasFailed}
 use Rattle.clap.specs.Lexer.{usize_max}
 use Rattle.clap.specs.Walk.{Row, Rule, Text, all_of, first_of, one_of}
-use Rattle.clap.specs.Simple.{App, new_app, new_rule, on_top, with_rule, with_subcommand}
+use Rattle.clap.specs.declared.builder.command.Command.{Command}
+use Rattle.clap.specs.declared.builder.command.Command.TheViews.{out-Command}
+use Rattle.clap.specs.Simple.{App, app_of, new_app, new_rule, on_top, with_rule, with_subcommand}
 use Rattle.clap.specs.declared.builder.action.ArgAction.TheVariants.{Append, Set, SetTrue}
 use Rattle.cil_store_specs.specs.Next.{for_memory}
 use Rattle.cil_program.specs.CommandLine.{CompilesFiles, Content, Written}
@@ -19,32 +21,32 @@ use Rattle.cil_program.specs.declared.command_line.conditionals.Misuse.TheVarian
 abbrev pub session_app : App
 session_app = new_app (codes "session")
 
-abbrev pub violations_rule : Rule
-violations_rule = record (new_rule (codes "violations")) { long = Some (codes "violations"); action = Some SetTrue }
+-- a command of the code is this one, and has no option that subcommands have too
+abbrev pub IsCommand : App → Command → Type 0
+IsCommand app command = (app_of command ≡ app) × ((out-Command command).has_globals ≡ false)
+
+-- an option that stands alone, and one with a value
+abbrev pub flag_rule : Text → Rule
+flag_rule name = record (new_rule name) { long = Some name; action = Some SetTrue }
+
+abbrev pub value_rule : Text → Rule
+value_rule name = record (new_rule name) { long = Some name; action = Some Set; value_names = 1 }
 
 -- one file or more
 abbrev pub files_rule : Rule
 files_rule = record (new_rule (codes "FILE")) { required = true; range = Some (record { start_inclusive = 1; end_inclusive = usize_max }); action = Some Append }
 
--- how statements outside the language are taken, and conditional ones
-abbrev pub foreign_rule : Rule
-foreign_rule = record (new_rule (codes "foreign")) { long = Some (codes "foreign"); action = Some Set; value_names = 1 }
+-- a subcommand of files with two options of its own, and how conditional statements are taken
+abbrev pub files_app : App → Rule → Rule → App
+files_app app first second = with_rule (with_rule (with_rule (with_rule app first) second) (value_rule (codes "booleans"))) files_rule
 
-abbrev pub booleans_rule : Rule
-booleans_rule = record (new_rule (codes "booleans")) { long = Some (codes "booleans"); action = Some Set; value_names = 1 }
+-- how statements outside the language are taken behind `--foreign`
+abbrev pub compile_app : App
+compile_app = files_app (new_app (codes "compile")) (flag_rule (codes "violations")) (value_rule (codes "foreign"))
 
 -- whether kinds are listed in place of projections, and the folder to which projections are written
-abbrev pub list_rule : Rule
-list_rule = record (new_rule (codes "list")) { long = Some (codes "list"); action = Some SetTrue }
-
-abbrev pub output_rule : Rule
-output_rule = record (new_rule (codes "output")) { short = Some 111; long = Some (codes "output"); action = Some Set; value_names = 1 }
-
-abbrev pub compile_app : App
-compile_app = with_rule (with_rule (with_rule (with_rule (new_app (codes "compile")) violations_rule) foreign_rule) booleans_rule) files_rule
-
 abbrev pub project_app : App
-project_app = with_rule (with_rule (with_rule (with_rule (new_app (codes "project")) list_rule) output_rule) booleans_rule) files_rule
+project_app = files_app (new_app (codes "project")) (flag_rule (codes "list")) (record (value_rule (codes "output")) { short = Some 111 })
 
 abbrev pub bare_program : App
 bare_program = on_top (λ s. record s { has_version = true; subcommand_required = true }) (new_app (codes "cilsem"))

@@ -1,9 +1,10 @@
 //! The compilation of entries at once.
 
 ghost use Rattle.std.specs.Prelude.{◌≡◌, ◌⊎◌, ◌≤◌, [], List, ℕ, map, length, IfOk, IsErrOf, OnErr};
-ghost use Rattle.cil_program.specs.Common.{Gains, GainsFront, HasFailed, for_memory, IsMeaningOf, Of, accepts, Store, entry_of, Compiles};
+ghost use Rattle.cil_program.specs.Common.{Gains, GainsFront, HasFailed, IsMeaningOf, Of, accepts, Store, entry_of, Compiles};
 ghost use Rattle.cil_resolve.specs.Resolved.{meaning_in};
-ghost use Rattle.cil_program.specs.Meanings.{refusal_text};
+ghost use Rattle.cil_specs.specs.Violations.{Violation};
+ghost use Rattle.cil_program.specs.CommandLine.{status_of_violations};
 
 use crate::command_line::meanings::{write_no_memory, write_refusal};
 use cil_store::{Entry, Policy, Seed, WriteFault};
@@ -27,17 +28,12 @@ pub struct Asked {
     pub seed: Seed,
 }
 
-/// Writes that memory ran out, and what that means where it is explained, and gives the exit status.
-pub fn refuse_for_memory<E: Sink>(err: &mut E, explained: bool) -> Result<u8, SinkFault>
-    ensures ok { IfOk result (λ status. (status ≡ 1)
-        × Gains (E.taken err.old) (E.taken err.new) (refusal_text explained for_memory)) }
-    ensures err { OnErr result
-        (GainsFront (E.taken err.old) (E.taken err.new) (refusal_text explained for_memory)) }
-    ensures failed { OnErr result (HasFailed (E.failures err.old) (E.failures err.new)) }
-    ensures counted { E.failures err.old ≤ E.failures err.new }
+/// The exit status by how many violations there are.
+fn status_of(violations: usize) -> u8
+    ensures { (listed : List Violation) → violations ≡ length listed
+        → result ≡ status_of_violations listed }
 {
-    write_no_memory(err, explained)?;
-    Ok(1)
+    if violations == 0 { 0 } else { 1 }
 }
 
 /// Writes a report of the policy of a store, and gives the exit status.
@@ -67,7 +63,7 @@ fn write_report<W: Sink, A: Allocator + Copy>(
         }
         Report::Violations => {
             let violations = policy.write_violations(out)?;
-            if violations == 0 { Ok(0) } else { Ok(1) }
+            Ok(status_of(violations))
         }
     }
 }
@@ -100,14 +96,11 @@ pub fn compile_entries<W: Sink, E: Sink, A: Allocator + Copy>(
 {
     let policy = match Policy::of(alloc, asked.seed, entries) {
         Ok(policy) => policy,
-        Err(refusal) => {
-            write_refusal(err, &refusal, asked.explained)?;
-            return Ok(1);
-        }
+        Err(refusal) => return write_refusal(err, &refusal, asked.explained).and(Ok(1)),
     };
     match write_report(&policy, asked.report, out) {
         Ok(status) => Ok(status),
-        Err(WriteFault::Memory) => refuse_for_memory(err, asked.explained),
+        Err(WriteFault::Memory) => write_no_memory(err, asked.explained).and(Ok(1)),
         Err(WriteFault::Sink) => Err(SinkFault),
     }
 }

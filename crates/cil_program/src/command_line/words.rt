@@ -2,8 +2,9 @@
 
 ghost use Rattle.std.specs.Prelude.{◌≡◌, Some, true, false, map, codes, IfErr, IfOk};
 ghost use Rattle.clap.specs.Words.{rule_of};
-ghost use Rattle.cil_program.specs.Program.{booleans_rule, files_rule, foreign_rule, list_rule, output_rule, violations_rule};
-ghost use Rattle.cil_program.specs.Common.{app_of, kind_of, subcommand_name_of, subcommand_of, subcommand_rows_of, takes, OutOfMemory, AsksSession, compile_app, program_app, project_app, session_app};
+ghost use Rattle.clap.specs.Simple.{new_app};
+ghost use Rattle.cil_program.specs.Program.{IsCommand, files_app, files_rule, flag_rule, value_rule};
+ghost use Rattle.cil_program.specs.Common.{app_of, kind_of, subcommand_name_of, subcommand_of, subcommand_rows_of, takes, OutOfMemory, AsksSession, compile_app, program_app, project_app};
 ghost use Rattle.clap.specs.declared.builder.command.Command.TheViews.{out-Command};
 
 use clap::{Arg, ArgAction, ArgMatches, Command, Error};
@@ -31,72 +32,34 @@ pub const LIST: &str = "list";
 
 pub const OUTPUT: &str = "output";
 
-/// The subcommand `session`.
-fn session_command<'a>(alloc: Global) -> Command<'a>
-    ensures app { app_of result ≡ session_app }
-    ensures local { (out-Command result).has_globals ≡ false }
+/// A subcommand, with what the help says of it.
+fn new_command<'a>(alloc: Global, name: &'static str, about: &'static str) -> Command<'a>
+    ensures { IsCommand (new_app name.now) result }
 {
-    let session = Command::new(alloc, "session");
-    session.about("Answer the script on standard input, and print an answer for each command")
+    Command::new(alloc, name).about(about)
 }
 
-/// The option that says how conditional statements are taken.
-fn booleans_option<'a>(alloc: Global) -> Arg<'a>
-    ensures rule { rule_of result ≡ booleans_rule }
+/// An option that stands alone.
+fn flag_option<'a>(alloc: Global, name: &'static str, help: &'static str) -> Arg<'a>
+    ensures rule { rule_of result ≡ flag_rule name.now }
     ensures local { result.global ≡ false }
 {
-    Arg::new(alloc, BOOLEANS)
-        .long("booleans")
-        .action(ArgAction::Set)
-        .value_name("VALUES")
-        .help("Branches that are taken: default, both, or NAME=true,NAME=false,..")
+    let flag = Arg::new(alloc, name).long(name);
+    flag.action(ArgAction::SetTrue).help(help)
 }
 
-/// The option that says how statements outside the language are taken.
-fn foreign_option<'a>(alloc: Global) -> Arg<'a>
-    ensures rule { rule_of result ≡ foreign_rule }
+/// An option with a value, and the name of the value and what the help says of it.
+fn value_option<'a>(
+    alloc: Global,
+    name: &'static str,
+    value: &'static str,
+    help: &'static str,
+) -> Arg<'a>
+    ensures rule { rule_of result ≡ value_rule name.now }
     ensures local { result.global ≡ false }
 {
-    Arg::new(alloc, FOREIGN)
-        .long("foreign")
-        .action(ArgAction::Set)
-        .value_name("HOW")
-        .help("Take statements outside the language by their names alone: names")
-}
-
-/// The option that asks for violations.
-fn violations_option<'a>(alloc: Global) -> Arg<'a>
-    ensures rule { rule_of result ≡ violations_rule }
-    ensures local { result.global ≡ false }
-{
-    Arg::new(alloc, VIOLATIONS)
-        .long("violations")
-        .action(ArgAction::SetTrue)
-        .help("Print the violations of neverallow rules, in place of the access rules")
-}
-
-/// The option that asks for kinds of statements.
-fn list_option<'a>(alloc: Global) -> Arg<'a>
-    ensures rule { rule_of result ≡ list_rule }
-    ensures local { result.global ≡ false }
-{
-    Arg::new(alloc, LIST)
-        .long("list")
-        .action(ArgAction::SetTrue)
-        .help("Print only how many statements of each kind are taken by their names")
-}
-
-/// The option that says to which folder projections are written.
-fn output_option<'a>(alloc: Global) -> Arg<'a>
-    ensures rule { rule_of result ≡ output_rule }
-    ensures local { result.global ≡ false }
-{
-    Arg::new(alloc, OUTPUT)
-        .short('o')
-        .long("output")
-        .action(ArgAction::Set)
-        .value_name("DIR")
-        .help("Write each projection into DIR, under the base name of its file")
+    let option = Arg::new(alloc, name).long(name);
+    option.action(ArgAction::Set).value_name(value).help(help)
 }
 
 /// The files of a subcommand, with what its help says of them.
@@ -111,36 +74,56 @@ fn files_argument<'a>(alloc: Global, help: &'static str) -> Arg<'a>
         .help(help)
 }
 
+/// A subcommand of files, with two options of its own, with how conditional statements are taken, and with what its help says of the
+/// files.
+fn of_files<'a>(
+    alloc: Global,
+    command: Command<'a>,
+    first: Arg<'a>,
+    second: Arg<'a>,
+    help: &'static str,
+) -> Result<Command<'a>, AllocError>
+    requires first_local { first.global ≡ false }
+    requires second_local { second.global ≡ false }
+    requires local { (out-Command command).has_globals ≡ false }
+    ensures { IfOk result (IsCommand (files_app (app_of command.entry) (rule_of first.entry)
+        (rule_of second.entry))) }
+{
+    let branches = "Branches that are taken: default, both, or NAME=true,NAME=false,..";
+    let command = command.arg(first)?;
+    let command = command.arg(second)?;
+    let command = command.arg(value_option(alloc, BOOLEANS, "VALUES", branches))?;
+    command.arg(files_argument(alloc, help))
+}
+
 /// The subcommand `compile`.
 fn compile_command<'a>(alloc: Global) -> Result<Command<'a>, AllocError>
-    ensures app { IfOk result (λ command. app_of command ≡ compile_app) }
-    ensures local { IfOk result (λ command. (out-Command command).has_globals ≡ false) }
+    ensures { IfOk result (IsCommand compile_app) }
 {
-    let compile = Command::new(alloc, COMPILE).about(
-        "Compile CIL files together, and print the access rules of their policy",
-    );
-    let compile = compile.arg(violations_option(alloc))?;
-    let compile = compile.arg(foreign_option(alloc))?;
-    let compile = compile.arg(booleans_option(alloc))?;
+    let about = "Compile CIL files together, and print the access rules of their policy";
+    let compile = new_command(alloc, COMPILE, about);
+    let help = "Print the violations of neverallow rules, in place of the access rules";
+    let violations = flag_option(alloc, VIOLATIONS, help);
+    let help = "Take statements outside the language by their names alone: names";
+    let foreign = value_option(alloc, FOREIGN, "HOW", help);
     let help =
         "CIL files, each a module named by its base name less a final .cil; folders with --foreign";
-    compile.arg(files_argument(alloc, help))
+    of_files(alloc, compile, violations, foreign, help)
 }
 
 /// The subcommand `project`.
 fn project_command<'a>(alloc: Global) -> Result<Command<'a>, AllocError>
-    ensures app { IfOk result (λ command. app_of command ≡ project_app) }
-    ensures local { IfOk result (λ command. (out-Command command).has_globals ≡ false) }
+    ensures { IfOk result (IsCommand project_app) }
 {
-    let project = Command::new(alloc, PROJECT).about(
-        "Print or write what CIL files are compiled as with --foreign names",
-    );
-    let project = project.arg(list_option(alloc))?;
-    let project = project.arg(output_option(alloc))?;
-    let project = project.arg(booleans_option(alloc))?;
+    let about = "Print or write what CIL files are compiled as with --foreign names";
+    let project = new_command(alloc, PROJECT, about);
+    let help = "Print only how many statements of each kind are taken by their names";
+    let list = flag_option(alloc, LIST, help);
+    let help = "Write each projection into DIR, under the base name of its file";
+    let output = value_option(alloc, OUTPUT, "DIR", help).short('o');
     let help =
         "CIL files, each a module named by its base name less a final .cil, or folders of them";
-    project.arg(files_argument(alloc, help))
+    of_files(alloc, project, list, output, help)
 }
 
 /// The program's command.
@@ -151,7 +134,8 @@ fn program<'a>(alloc: Global) -> Result<Command<'a>, AllocError>
         .version(VERSION)
         .about("Compile SELinux CIL modules, and answer scripts that change a store of them")
         .subcommand_required(true);
-    let session = session_command(alloc);
+    let about = "Answer the script on standard input, and print an answer for each command";
+    let session = new_command(alloc, "session", about);
     let compile = compile_command(alloc)?;
     let project = project_command(alloc)?;
     program

@@ -1,6 +1,6 @@
-use Rattle.cil_program.proofs.Common.{◌≡◌, ◌≢◌, ℕ, List, [], ◌∷◌, length, refl, arith, rules, row_line, lists, tells, status_of_violations}
+use Rattle.cil_program.proofs.Common.{refl, rules, row_line, lists, tells, status_of_violations}
 use Rattle.std.proofs.Common.{flat_map}
-use Rattle.cil_specs.specs.Violations.{Violation, violations_text}
+use Rattle.cil_specs.specs.Violations.{violations_text}
 use Rattle.cil_program.proofs.command_line.compile.write_report.Goals as goal
 
 pub returns-in_ok-write_listing-in-Listing-clause-ok : goal.returns-in_ok-write_listing-in-Listing-clause-ok
@@ -8,29 +8,10 @@ returns-in_ok-write_listing-in-Listing-clause-ok g c = λ explained entries stor
     let written = c.in_ok-write_listing-in-Listing.ensures.ok store meant in
     (flat_map row_line written.0, written.3, lists store written.0 c.in-Listing.is of written.1 refl refl refl)
 
-none : (n : ℕ) (violations : List Violation) → n ≡ length violations → n ≡ 0 → 0 ≡ status_of_violations violations
-none n [] is zero = refl
-none n (v ∷ violations) is zero = absurd (omega (arith, is, zero))
-
-some : (n : ℕ) (violations : List Violation) → n ≡ length violations → n ≢ 0 → 1 ≡ status_of_violations violations
-some n [] is other = absurd (other is)
-some n (v ∷ violations) is other = refl
-
-pub returns-then-violations-eq0-clause-ok : goal.returns-then-violations-eq0-clause-ok
-returns-then-violations-eq0-clause-ok g c = λ explained entries store of meant.
-    let written = c.in_ok-violations-in-Violations.ensures.ok store meant in (
-      violations_text written.0,
-      written.3,
-      tells store written.0 c.in-Violations.is of written.1 refl refl (none c.in_ok-violations-in-Violations.violations written.0 written.2 c.if-violations-eq0.true),
-    )
-
-pub returns-else-violations-eq0-clause-ok : goal.returns-else-violations-eq0-clause-ok
-returns-else-violations-eq0-clause-ok g c = λ explained entries store of meant.
-    let written = c.in_ok-violations-in-Violations.ensures.ok store meant in (
-      violations_text written.0,
-      written.3,
-      tells store written.0 c.in-Violations.is of written.1 refl refl (some c.in_ok-violations-in-Violations.violations written.0 written.2 c.if-violations-eq0.false),
-    )
+pub returns-in_ok-violations-in-Violations-clause-ok : goal.returns-in_ok-violations-in-Violations-clause-ok
+returns-in_ok-violations-in-Violations-clause-ok g c = λ explained entries store of meant.
+    let written = c.in_ok-violations-in-Violations.ensures.ok store meant in
+    (violations_text written.0, written.3, tells store written.0 c.in-Violations.is of written.1 refl refl (c.status_of.ensures written.0 written.2))
 
 pub returns-in_err-write_listing-in-Listing-clause-err : goal.returns-in_err-write_listing-in-Listing-clause-err
 returns-in_err-write_listing-in-Listing-clause-err g c = λ explained entries store of meant is.

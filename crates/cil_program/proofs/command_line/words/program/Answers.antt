@@ -7,7 +7,7 @@ returns c =
     let bare : app_of c.subcommand_required-program.result ≡ bare_program =
     ap app_of_fields c.subcommand_required-program.ensures ∙ ap (on_top (λ s. record s { subcommand_required = true })) (ap app_of_fields c.about.ensures ∙ with_version) in
     let with_session =
-    c.in_ok-subcommand.ensures.shape c.session_command-session.ensures.local ∙ ap₂ with_subcommand bare (ap (λ (a : App). a.top) c.session_command-session.ensures.app) in
+    c.in_ok-subcommand.ensures.shape c.new_command-session.ensures.1 ∙ ap₂ with_subcommand bare (ap (λ (a : App). a.top) c.new_command-session.ensures.0) in
     let with_compile =
-    c.in_ok-subcommand-2.ensures.shape c.in_ok-compile.ensures.local ∙ ap₂ with_subcommand with_session (ap (λ (a : App). a.top) c.in_ok-compile.ensures.app) in
-    IfOk-weaker c.subcommand-3.result _ _ (λ r a. a.shape c.in_ok-project.ensures.local ∙ ap₂ with_subcommand with_compile (ap (λ (a : App). a.top) c.in_ok-project.ensures.app)) c.subcommand-3.ensures
+    c.in_ok-subcommand-2.ensures.shape c.in_ok-compile.ensures.1 ∙ ap₂ with_subcommand with_session (ap (λ (a : App). a.top) c.in_ok-compile.ensures.0) in
+    IfOk-weaker c.subcommand-3.result _ _ (λ r a. a.shape c.in_ok-project.ensures.1 ∙ ap₂ with_subcommand with_compile (ap (λ (a : App). a.top) c.in_ok-project.ensures.0)) c.subcommand-3.ensures

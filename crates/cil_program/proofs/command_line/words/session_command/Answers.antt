@@ -1,9 +1,0 @@
-use Rattle.std.proofs.Common.{ap, ◌∙◌}
-use Rattle.clap.specs.Simple.{app_of_fields}
-use Rattle.cil_program.proofs.command_line.words.session_command.Goals as goal
-
-pub returns : goal.returns
-returns c = record {
-  app = ap app_of_fields c.about.ensures ∙ c.new-session.ensures.app;
-  local = ap (λ f. f.has_globals) c.about.ensures ∙ c.new-session.ensures.local;
-}
