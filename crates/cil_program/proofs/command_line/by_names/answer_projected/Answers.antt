@@ -25,7 +25,7 @@ returns-in_err-write_note-in-Kinds g c =
 
 pub returns-in_ok-write_note-in-Kinds : goal.returns-in_ok-write_note-in-Kinds
 returns-in_ok-write_note-in-Kinds g c =
-    both-after c.and-in_ok-write_note-in-Kinds.result c.in_ok-write_note-in-Kinds.ensures (λ printed told status made. made) (both-printed 0 _ c.write_kinds.ensures c.and-in_ok-write_note-in-Kinds.ensures (are_counted (ap wanted_in c.in-Kinds.is) refl (append-nil _) refl))
+    both-after c.and-in-Kinds.result c.in_ok-write_note-in-Kinds.ensures (λ printed told status made. made) (both-printed 0 _ c.write_kinds.ensures c.and-in-Kinds.ensures (are_counted (ap wanted_in c.in-Kinds.is) refl (append-nil _) refl))
 
 pub returns-in-InFolder : goal.returns-in-InFolder
 returns-in-InFolder g c = both-wider c.store_projected.result (as_wanted (ap wanted_in c.in-InFolder.is)) (both-silent c.store_projected.result c.store_projected.ensures.told)
