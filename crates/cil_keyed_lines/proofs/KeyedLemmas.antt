@@ -1,21 +1,14 @@
 -- The counters of keys, by the places of their lines.
-use Rattle.cil_keyed_lines.proofs.Common.{zero, suc, ◌≡◌, ◌≢◌, ◌⊎◌, ℕ, ◌+◌, ◌/◌, ◌%◌, ◌^◌, ◌<◌, ◌≤◌, ◌==◌, ◌&&◌, Bool, true, false, cond, if◌then◌else◌, nat_lt, List, [], ◌∷◌, ◌++◌, length, get_or, position, slice_get, bit_and, w64, Option, None, Some, Result, Ok, Err, MatchOption, OnOk, OnErr, refl, sym, ap, ◌∙◌, true≢false, inl, inr, arith, rules, list_any, position_or_len, IsDistinct, hit_at, State, hit_in, hit_nothing, hit_off, same_counts, SymbolKey, Keyed, AreKeyed, IsLineOf, IsNoLine, NoneCounted, before_at, count_by, hit_of, is_key, is_kind, now_at, with_key}
-use Rattle.std.specs.Int.{bit_at, bit_not}
+use Rattle.cil_keyed_lines.proofs.Common.{zero, suc, ◌≡◌, ◌≢◌, ℕ, ◌+◌, ◌<◌, ◌≤◌, ◌==◌, ◌&&◌, Bool, true, false, cond, if◌then◌else◌, nat_lt, List, [], ◌∷◌, ◌++◌, length, get_or, position, slice_get, None, Some, refl, sym, ap, ◌∙◌, true≢false, arith, rules, list_any, position_or_len, IsDistinct, same_counts, SymbolKey, count_by, is_key, is_kind, with_key}
 use Rattle.std.specs.Option.{option_map_or}
-use Rattle.std.proofs.lemmas.Bool.{cases_eq, cases_lt, eqb-true, eq-eqb, ltb-false, lt-ltb}
+use Rattle.std.proofs.lemmas.Bool.{eqb-true, eq-eqb, ltb-false, lt-ltb}
 use Rattle.std.proofs.lemmas.List.{length-append}
 use Rattle.std.proofs.lemmas.List.Folds.{list_any_at, position_or_len_push}
 use Rattle.std.proofs.lemmas.List.Quantifiers.{position-Some}
 use Rattle.std.proofs.lemmas.List.Sums.{position_or_len_is}
 use Rattle.std.proofs.lemmas.Map.Keys.{apart_from_distinct}
 use Rattle.std.proofs.lemmas.Option.{none-some, slice_get_within, get_or_from_slice_get, slice_get-get_or}
-use Rattle.std.proofs.lemmas.Nat.{and-not, and_comm}
-use Rattle.std.specs.Int.Bits.{and_self}
-use Rattle.std.proofs.lemmas.Nat.Bits.{bit_at_and, bit_at_not, bit_at-lt}
 use denote.Enum.Bare.{same_true}
-use Rattle.cil_lines.proofs.StepLemmas.{hit-here, hit-there}
-use Rattle.cil_lines.specs.Line.{hit}
-use Rattle.cil_recorded.specs.Recorded as recorded
 use Rattle.cil_text.specs.declared.statement.RuleKind.{RuleKind}
 use Rattle.cil_text.specs.declared.statement.RuleKind.TheVariants.{Allow, AuditAllow, DontAudit, NeverAllow}
 use Rattle.cil_text.specs.contracts.statement.RuleKind.{the_type}
@@ -187,103 +180,6 @@ pub count_reached : (f g : ℕ → ℕ → ℕ) (keys news : List SymbolKey) (ke
     → (k : SymbolKey) (t : ℕ) → count_by g news k t ≡ count_by f keys k t
 count_reached f g keys news key is same past k t = ap (λ list. count_by g list k t) is ∙ count_same f g (with_key keys key) same k t ∙ count_grown f keys key past k t
 
--- ---- a word of the line of a key
-
-module _ (keys : List SymbolKey) (key : SymbolKey) (place word mask : ℕ) (at : position (is_key key) keys ≡ Some place) where
-  -- the targets are those of the key whose line stands there
-  hit_key : (k : SymbolKey) (t : ℕ) → hit_at place word mask (index keys k) t ≡ hit_of key word mask k t
-  unfolding hit_of
-  hit_key k t = by (is_key key k) refl
-    where
-      by : (b : Bool) → is_key key k ≡ b → hit_at place word mask (index keys k) t ≡ (if b then hit word mask t else 0)
-      by true same = hit_in place word mask (index keys k) t (ap (index keys) (sym (one_key key k same)) ∙ placed_index keys key place at)
-      by false other = hit_off place word mask (index keys k) t (λ e. true≢false (sym (met e) ∙ other))
-        where
-          met : index keys k ≡ place → is_key key k ≡ true
-          met e =
-              let (within, equal, _) = position-Some (is_key key) keys place key at in
-              let found : position (is_key k) keys ≡ Some place = ap (λ n. cond (nat_lt n (length keys)) (Some n) None) e ∙ ap (λ b. cond b (Some place) None) (lt-ltb place (length keys) within) in
-              let (_, also, _) = position-Some (is_key k) keys place key found in
-              ap (is_key key) (one_key k (get_or keys place key) also) ∙ equal
-
-module _ (f g : ℕ → ℕ → ℕ) (keys : List SymbolKey) (key : SymbolKey) (place word gone come : ℕ) (at : position (is_key key) keys ≡ Some place)
-    (past : (l t : ℕ) → length keys ≤ l → f l t ≡ 0) (shifted : (l t : ℕ) → g l t + hit_at place word gone l t ≡ f l t + hit_at place word come l t) where
-  -- the lines of no key stay at 0
-  pub past_shifted : (l t : ℕ) → length keys ≤ l → g l t ≡ 0
-  past_shifted l t behind =
-      let within = placed_within keys key place at in
-      let other : l ≢ place = λ e. omega (arith, behind, within, e) in
-      omega (arith, shifted l t, past l t behind, hit_off place word gone l t other, hit_off place word come l t other)
-
-  pub count_shifted : (k : SymbolKey) (t : ℕ) → count_by g keys k t + hit_of key word gone k t ≡ count_by f keys k t + hit_of key word come k t
-  count_shifted k t =
-      omega (
-        arith,
-        by_index g keys past_shifted k t,
-        by_index f keys past k t,
-        shifted (index keys k) t,
-        hit_key keys key place word gone at k t,
-        hit_key keys key place word come at k t,
-      )
-
--- an empty mask has no target
-pub hit_of_nothing : (key : SymbolKey) (word : ℕ) (k : SymbolKey) (t : ℕ) → hit_of key word 0 k t ≡ 0
-unfolding hit_of
-hit_of_nothing key word k t = by (is_key key k)
-  where
-    by : (b : Bool) → (if b then hit word 0 t else 0) ≡ 0
-    by true = sym (hit_in 0 word 0 0 t refl) ∙ hit_nothing 0 word 0 t
-    by false = refl
-
--- counters that rise
-module _ (f g : ℕ → ℕ → ℕ) (keys : List SymbolKey) (key : SymbolKey) (place word mask : ℕ) (at : position (is_key key) keys ≡ Some place)
-    (past : (l t : ℕ) → length keys ≤ l → f l t ≡ 0) (raised : (l t : ℕ) → g l t ≡ f l t + hit_at place word mask l t) where
-  pub past_raised : (l t : ℕ) → length keys ≤ l → g l t ≡ 0
-  past_raised = past_shifted f g keys key place word 0 mask at past (λ l t. omega (arith, raised l t, hit_nothing place word l t))
-
-  pub count_raised : (k : SymbolKey) (t : ℕ) → count_by g keys k t ≡ count_by f keys k t + hit_of key word mask k t
-  count_raised k t =
-      omega (arith, by_index g keys past_raised k t, by_index f keys past k t, raised (index keys k) t, hit_key keys key place word mask at k t)
-
--- ---- the targets that go and those that come
-
--- they differ as those before and after do, bit by bit
-pub bit_swap : (was is b : ℕ) → was < 2 ^ 64 → is < 2 ^ 64 → b < 64
-    → bit_at (bit_and was (bit_not w64 is)) b + bit_at is b ≡ bit_at (bit_and is (bit_not w64 was)) b + bit_at was b
-bit_swap was is b was_fits is_fits within =
-    omega (arith, bit_at_and was (bit_not w64 is) b, bit_at_and is (bit_not w64 was) b, bit_at_not w64 is b is_fits within, bit_at_not w64 was b was_fits within, bit_at-lt was b, bit_at-lt is b)
-
-swap : (word was is t : ℕ) → was < 2 ^ 64 → is < 2 ^ 64
-    → hit word (bit_and was (bit_not w64 is)) t + hit word is t ≡ hit word (bit_and is (bit_not w64 was)) t + hit word was t
-swap word was is t was_fits is_fits =
-    let gone = bit_and was (bit_not w64 is) in
-    let come = bit_and is (bit_not w64 was) in
-    let b = t % 64 in
-    let within : b < 64 = omega arith in
-    elim (cases_eq (t / 64) word) [
-      | inl e ↦ omega (arith, hit-here word was t e, hit-here word is t e, hit-here word gone t e, hit-here word come t e, bit_swap was is b was_fits is_fits within)
-      | inr n ↦ omega (arith, hit-there word was t n, hit-there word is t n, hit-there word gone t n, hit-there word come t n)
-    ]
-
-pub swap_of : (key : SymbolKey) (word was is : ℕ) (k : SymbolKey) (t : ℕ) → was < 2 ^ 64 → is < 2 ^ 64
-    → hit_of key word (bit_and was (bit_not w64 is)) k t + hit_of key word is k t ≡ hit_of key word (bit_and is (bit_not w64 was)) k t + hit_of key word was k t
-unfolding hit_of
-swap_of key word was is k t was_fits is_fits = by (is_key key k)
-  where
-    gone : ℕ
-    gone = bit_and was (bit_not w64 is)
-
-    come : ℕ
-    come = bit_and is (bit_not w64 was)
-
-    by : (b : Bool) → (if b then hit word gone t else 0) + (if b then hit word is t else 0) ≡ (if b then hit word come t else 0) + (if b then hit word was t else 0)
-    by true = swap word was is t was_fits is_fits
-    by false = refl
-
--- none go where all stay
-pub none_gone : (was is : ℕ) → was ≡ is → is < 2 ^ 64 → bit_and was (bit_not w64 is) ≡ 0
-none_gone was is same fits = ap (λ n. bit_and n (bit_not w64 is)) same ∙ and_comm is (bit_not w64 is) ∙ omega (arith, and-not 64 is is fits fits, and_self is)
-
 -- ---- listing
 
 -- keys keep their places
@@ -298,22 +194,3 @@ places_grown keys key i k at = by (list_any (is_key key) keys)
     by : (b : Bool) → slice_get (if b then keys else keys ++ key ∷ []) i ≡ Some k
     by true = at
     by false = push keys i at
-
-pub line_of_place : (k : Keyed) (i : ℕ) (o : Option SymbolKey) → AreKeyed k.keys k.lines → o ≡ slice_get k.keys i → MatchOption o (IsNoLine k i) (IsLineOf k i)
-line_of_place k i None keyed is =
-    let behind : length k.keys ≤ i = by (cases_lt i (length k.keys)) in
-    record { behind = behind; now = λ t. keyed.now i t behind; before = λ t. keyed.before i t behind }
-  where
-    by : (i < length k.keys) ⊎ (length k.keys ≤ i) → length k.keys ≤ i
-    by (inl less) = absurd (none-some (get_or k.keys i no_key) (is ∙ slice_get-get_or k.keys i no_key less))
-    by (inr behind) = behind
-line_of_place k i (Some key) keyed is =
-    let at = sym is in
-    let place = placed_at k.keys i key keyed.distinct at in
-    record { at = at; now = λ t. sym (count_placed (now_at k) k.keys key i t place); before = λ t. sym (count_placed (before_at k) k.keys key i t place) }
-
-pub line_of_key : (k : Keyed) (key : SymbolKey) (o : Option ℕ) → o ≡ position (is_key key) k.keys → MatchOption o (NoneCounted k key) (λ i. IsLineOf k i key)
-line_of_key k key None is = λ t. (count_absent (now_at k) k.keys key t (sym is), count_absent (before_at k) k.keys key t (sym is))
-line_of_key k key (Some i) is =
-    let at = sym is in
-    record { at = key_placed k.keys key i at; now = λ t. sym (count_placed (now_at k) k.keys key i t at); before = λ t. sym (count_placed (before_at k) k.keys key i t at) }

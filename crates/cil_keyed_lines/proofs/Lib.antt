@@ -1,3 +1,11 @@
 pub mod Common
 pub mod KeyedLemmas
 pub mod EndLemmas
+pub mod NameLemmas
+pub mod MoveLemmas
+pub mod ReachLemmas
+pub mod GroupLemmas
+pub mod RunLemmas
+pub mod KeyLemmas
+pub mod EndedLemmas
+pub mod SharedLemmas

@@ -1,1 +1,4 @@
+pub mod Names
+pub mod Moves
 pub mod Keyed
+pub mod Past

@@ -1,4 +1,4 @@
-use Rattle.cil_keyed_lines.proofs.KeyedLemmas.{line_of_key}
+use Rattle.cil_keyed_lines.proofs.SharedLemmas.{line_of_key}
 use Rattle.cil_keyed_lines.proofs.keyed_lines.KeyedLines.find.Goals as goal
 
 pub returns-clause-line : goal.returns-clause-line

@@ -1,45 +1,47 @@
-use Rattle.std.proofs.Common.{arith, sym}
-use Rattle.cil_keyed_lines.proofs.EndLemmas.{before_shifted, can_lower, held_shifted, now_shifted}
-use Rattle.cil_keyed_lines.proofs.KeyedLemmas.{none_gone, places_grown}
+use Rattle.cil_keyed_lines.proofs.Common.{◌≡◌, ◌≤◌, ◌*◌, ◌+◌, ◌∙◌, ap, arith, came, has_key, index_of, one_if, subst, times, went, SymbolKey}
+use Rattle.cil_keyed_lines.proofs.KeyLemmas.{listed_once}
+use Rattle.cil_keyed_lines.proofs.SharedLemmas.{above_keys, bounded_keys, moved_keys}
+use Rattle.cil_keyed_lines.specs.Keyed.{count_now}
 use Rattle.cil_keyed_lines.proofs.keyed_lines.KeyedLines.shift.Goals as goal
 
-pub returns-then-was-is-clause-steps : goal.returns-then-was-is-clause-steps
-returns-then-was-is-clause-steps g c =
-    let same = c.if-was-is.true in
-    omega (arith, none_gone c.args.was c.args.is same c.ranges.is.fits, none_gone c.args.is c.args.was (sym same) c.ranges.was.fits)
+pub move_keys-requires-clause-named : goal.move_keys-requires-clause-named
+move_keys-requires-clause-named g c = rw c.deref.ensures.value (c.put_in_order.ensures.named _ c.in_ok-places.ensures.named)
 
-pub shift-requires-clause-above : goal.shift-requires-clause-above
-shift-requires-clause-above g c =
-    let old = c.self.inside in
-    let to = c.in_ok-place.ensures in
-    can_lower old.keys.keys c.reach.new.keys.keys old.lines c.reach.new.lines old.lines c.args.key c.in_ok-place.place c.args.word c.args.was c.args.is c.ranges.was.fits c.ranges.is.fits c.self.invariant to.keyed to.keys to.place to.now to.before
-    (rw (← c.self.view_is) at c.requires.above)
+pub move_keys-requires-clause-above : goal.move_keys-requires-clause-above
+move_keys-requires-clause-above g c =
+    let keys = c.args.keys.now in
+    let mid = c.places_of.new.self in
+    let places = c.put_in_order.new.places.items in
+    let once : (k : SymbolKey) → times places (index_of mid.keys k) ≡ one_if (has_key keys k) = λ k. c.put_in_order.ensures.times _ ∙ c.in_ok-places.ensures.times k ∙ listed_once keys k c.requires.keys in
+    rw c.deref.ensures.value
+    (above_keys keys (went c.args.moved.now) (came c.args.moved.now) (count_now mid) (count_now mid) (λ k. times places (index_of mid.keys k)) once (λ k t. omega (arith, c.requires.above k t, c.in_ok-places.ensures.now k t)))
 
-pub invariant_of-self-2 : goal.invariant_of-self-2
-invariant_of-self-2 g c =
-    let old = c.self.inside in
-    let to = c.in_ok-place.ensures in
-    let step = c.shift.ensures in
-    held_shifted old.keys.keys c.reach.new.keys.keys old.lines c.reach.new.lines c.shift.new.lines c.args.key c.in_ok-place.place c.args.word c.args.was c.args.is c.ranges.was.fits c.ranges.is.fits c.self.invariant to.keyed to.keys to.place to.now to.before
-    step.now step.before step.lines c.if-was-is.false to.log to.others step.others
+pub returns-in_err-places-clause-bounded : goal.returns-in_err-places-clause-bounded
+returns-in_err-places-clause-bounded g c k t = omega (arith, c.in_err-places.ensures.now k t)
 
 pub returns-clause-now : goal.returns-clause-now
 returns-clause-now g c =
-    let old = c.self.inside in
-    let to = c.in_ok-place.ensures in
-    let step = c.shift.ensures in
-    rw (← c.self.view_is)
-    (now_shifted old.keys.keys c.reach.new.keys.keys old.lines c.reach.new.lines c.shift.new.lines c.args.key c.in_ok-place.place c.args.word c.args.was c.args.is c.ranges.was.fits c.ranges.is.fits c.self.invariant to.keyed to.keys to.place to.now to.before
-    step.now step.before)
+    let keys = c.args.keys.now in
+    let mid = c.places_of.new.self in
+    let places = c.put_in_order.new.places.items in
+    let once : (k : SymbolKey) → times places (index_of mid.keys k) ≡ one_if (has_key keys k) = λ k. c.put_in_order.ensures.times _ ∙ c.in_ok-places.ensures.times k ∙ listed_once keys k c.requires.keys in
+    moved_keys keys (went c.args.moved.now) (came c.args.moved.now) (count_now c.move_keys.new.self) (count_now c.args.self.now) (λ k. times places (index_of mid.keys k)) once
+    (λ k t. (rw c.deref.ensures.value at c.in_ok-move_keys.ensures.now) k t ∙ ap (λ x. x + times places (index_of mid.keys k) * came c.args.moved.now t) (c.in_ok-places.ensures.now k t))
 
-pub returns-clause-before : goal.returns-clause-before
-returns-clause-before g c =
-    let old = c.self.inside in
-    let to = c.in_ok-place.ensures in
-    let step = c.shift.ensures in
-    rw (← c.self.view_is)
-    (before_shifted old.keys.keys c.reach.new.keys.keys old.lines c.reach.new.lines c.shift.new.lines c.args.key c.in_ok-place.place c.args.word c.args.was c.args.is c.ranges.was.fits c.ranges.is.fits c.self.invariant to.keyed to.keys to.place to.now to.before
-    step.now step.before)
+pub returns-in_err-move_keys-clause-bounded : goal.returns-in_err-move_keys-clause-bounded
+returns-in_err-move_keys-clause-bounded g c =
+    let keys = c.args.keys.now in
+    let mid = c.places_of.new.self in
+    let places = c.put_in_order.new.places.items in
+    let once : (k : SymbolKey) → times places (index_of mid.keys k) ≡ one_if (has_key keys k) = λ k. c.put_in_order.ensures.times _ ∙ c.in_ok-places.ensures.times k ∙ listed_once keys k c.requires.keys in
+    bounded_keys keys (went c.args.moved.now) (came c.args.moved.now) (count_now c.move_keys.new.self) (count_now c.args.self.now) (λ k. times places (index_of mid.keys k)) once
+    (λ k t. subst (λ x. count_now c.move_keys.new.self k t ≤ x + times places (index_of mid.keys k) * came c.args.moved.now t) (c.in_ok-places.ensures.now k t) ((rw c.deref.ensures.value at c.move_keys.ensures.bounded) k t))
 
-pub returns-clause-places : goal.returns-clause-places
-returns-clause-places g c i k at = rw (c.in_ok-place.ensures.keys) (places_grown c.self.inside.keys.keys c.args.key i k (rw (← c.self.view_is) at at))
+pub returns-clause-bounded : goal.returns-clause-bounded
+returns-clause-bounded g c =
+    let keys = c.args.keys.now in
+    let mid = c.places_of.new.self in
+    let places = c.put_in_order.new.places.items in
+    let once : (k : SymbolKey) → times places (index_of mid.keys k) ≡ one_if (has_key keys k) = λ k. c.put_in_order.ensures.times _ ∙ c.in_ok-places.ensures.times k ∙ listed_once keys k c.requires.keys in
+    bounded_keys keys (went c.args.moved.now) (came c.args.moved.now) (count_now c.move_keys.new.self) (count_now c.args.self.now) (λ k. times places (index_of mid.keys k)) once
+    (λ k t. subst (λ x. count_now c.move_keys.new.self k t ≤ x + times places (index_of mid.keys k) * came c.args.moved.now t) (c.in_ok-places.ensures.now k t) ((rw c.deref.ensures.value at c.move_keys.ensures.bounded) k t))

@@ -1,0 +1,58 @@
+use Rattle.cil_keyed_lines.proofs.Common.{◌≡◌, ◌<◌, ◌∙◌, ap, arith, cases_lt, get_or, inl, inr, refl, times, index_of, length, listed, sym, take, Names, SymbolKey}
+use Rattle.cil_text.specs.declared.statement.RuleKind.TheVariants.{Allow}
+use Rattle.cil_keyed_lines.proofs.KeyLemmas.{all_names, all_within, times_key, times_once}
+use Rattle.std.proofs.lemmas.List.{take_all}
+use Rattle.std.proofs.lemmas.List.Elements.{All-nil, All-push}
+use Rattle.cil_keyed_lines.proofs.keyed_lines.KeyedLines.places_of.Goals as goal
+
+abbrev first : SymbolKey
+first = record { kind = Allow; source = 0; class = 0; permission = 0 }
+
+pub loop-key-init : goal.loop-key-init
+loop-key-init g c = record {
+  named = rw c.in_ok-places.ensures.items (All-nil (Names c.args.self.now.names));
+  within = rw c.in_ok-places.ensures.items (All-nil (λ x. x.place < length c.args.self.now.keys));
+  times = λ k. ap (λ v. times v (index_of c.args.self.now.keys k)) c.in_ok-places.ensures.items;
+  distinct = λ some. absurd (omega (arith, some));
+  none = λ _. c.in_ok-places.ensures.items;
+  grown = λ i k at. at;
+  now = λ k t. refl;
+  before = λ k t. refl;
+}
+
+pub loop-key-preserved : goal.loop-key-preserved
+loop-key-preserved g c =
+    let is = c.loop-key.invariant in
+    let to = c.in_ok-place.ensures in
+    let v = c.loop-key.places.items in
+    let i = c.loop-key.key-index in
+    let within : i < length c.args.keys.now = omega arith in
+    record {
+      named = rw c.in_ok-push.ensures.items (All-push (Names c.reach_key.new.self.names) v _ (all_names v c.loop-key.self.names c.reach_key.new.self.names to.more to.names is.named) (to.within.1, sym c.line_of-line.ensures));
+      within = rw c.in_ok-push.ensures.items (All-push (λ x. x.place < length c.reach_key.new.self.keys) v _ (all_within v (length c.loop-key.self.keys) (length c.reach_key.new.self.keys) to.longer is.within) to.within.0);
+      times = rw c.in_ok-push.ensures.items (times_key v c.loop-key.self.keys c.reach_key.new.self.keys c.args.keys.now (get_or c.args.keys.now i first) first i c.line_of-line.result c.in_ok-place.place is.within to.grown to.place within (λ _. get_or c.args.keys.now i first) is.times);
+      distinct = λ _. to.distinct;
+      none = λ e. absurd (omega (arith, e));
+      grown = λ j k at. to.places j k (is.grown j k at);
+      now = λ k t. to.now k t ∙ is.now k t;
+      before = λ k t. to.before k t ∙ is.before k t;
+    }
+
+pub returns-clause-named : goal.returns-clause-named
+returns-clause-named g c =
+    let is = c.loop-key.invariant in
+    let keys = c.args.keys.now in
+    let end : take c.loop-key.key-index keys ≡ keys = take_all c.loop-key.key-index keys (omega arith) in
+    record {
+      named = is.named;
+      once = λ p. elim (cases_lt 0 c.loop-key.key-index) [
+        | inl some ↦ times_once c.loop-key.places.items c.loop-key.self.keys keys (is.distinct some) c.requires is.within (λ k. is.times k ∙ ap (λ l. listed l k) end) p
+        | inr low ↦ omega (arith, ap (λ v. times v p) (is.none (omega (arith, low))))
+      ];
+    }
+
+pub returns-clause-times : goal.returns-clause-times
+returns-clause-times g c k =
+    let keys = c.args.keys.now in
+    let end : take c.loop-key.key-index keys ≡ keys = take_all c.loop-key.key-index keys (omega arith) in
+    c.loop-key.invariant.times k ∙ ap (λ l. listed l k) end

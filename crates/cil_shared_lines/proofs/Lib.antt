@@ -1,9 +1,0 @@
-pub mod Common
-pub mod NameLemmas
-pub mod MoveLemmas
-pub mod ReachLemmas
-pub mod GroupLemmas
-pub mod RunLemmas
-pub mod KeyLemmas
-pub mod EndedLemmas
-pub mod SharedLemmas

@@ -1,9 +1,0 @@
-use Rattle.cil_shared_lines.proofs.Common.{◌∙◌}
-use Rattle.cil_shared_lines.proofs.SharedLemmas.{key_of_place}
-use Rattle.cil_shared_lines.proofs.shared_lines.SharedLines.at.Goals as goal
-
-pub returns : goal.returns
-returns g c =
-    let old = c.self.inside in
-    rw (← c.self.view_is)
-    (key_of_place (record { keys = old.keys.keys; names = old.names; lines = old.lines }) old.keys_before old.lines_before c.args.place c.copied.result c.self.invariant (c.copied.ensures ∙ c.get_index.ensures.key))
