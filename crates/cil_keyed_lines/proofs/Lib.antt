@@ -9,3 +9,4 @@ pub mod RunLemmas
 pub mod KeyLemmas
 pub mod EndedLemmas
 pub mod SharedLemmas
+pub mod PastLemmas

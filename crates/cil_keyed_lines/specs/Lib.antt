@@ -2,3 +2,4 @@ pub mod Names
 pub mod Moves
 pub mod Keyed
 pub mod Past
+pub mod Changes

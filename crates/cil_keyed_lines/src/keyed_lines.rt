@@ -7,8 +7,9 @@ ghost use Rattle.indexmap.specs.IndexSet.{spare};
 ghost use Rattle.cil_lines.specs.Line.{IsPresence, IsNextPresent, NonePresent};
 ghost use Rattle.cil_keyed_lines.specs.Moves.{came, ones_of, went, AreMoves};
 ghost use Rattle.cil_keyed_lines.specs.Names.{name_before, name_now, times, AreLogged};
-ghost use Rattle.cil_keyed_lines.specs.Keyed.{before_at, steps_in, count_before, count_now, index_of, listed, now_at, of_keys, AllCounted, AreMoved, AreNamed, IsNoLine, IsLineOf, NoneCounted, RiseAtMost, Stays, StaysBefore, AreApart};
+ghost use Rattle.cil_keyed_lines.specs.Keyed.{before_at, count_before, count_now, index_of, is_key, listed, now_at, of_keys, steps_in, with_key, AllCounted, AreAmong, AreApart, AreMoved, AreNamed, IsLineOf, IsNoLine, NoneCounted, RiseAtMost, Stays, StaysBefore};
 
+mod changes;
 mod past;
 
 pub use past::Past;

@@ -1,7 +1,8 @@
 //! The lines that places name.
 
-ghost use Rattle.std.specs.Prelude.{◌≡◌, ◌≢◌, ◌↔◌, ◌+◌, ◌<◌, ◌≤◌, ◌==◌, ◌^◌, ◌++◌, ◌∷◌, [], ℕ, true, length, min, set, slice_index, vec_capacity, vec_len, if◌then◌else◌, IfOk, IsTrue, OnErr, OnOk};
-ghost use Rattle.cil_keyed_lines.specs.Names.{has_place, name_before, name_now, one_if, uses, AreLogged};
+ghost use Rattle.std.specs.Prelude.{◌≡◌, ◌≢◌, ◌↔◌, ◌+◌, ◌<◌, ◌≤◌, ◌==◌, ◌^◌, ◌++◌, ◌∷◌, [], ℕ, true, length, min, reverse, set, slice_index, vec_capacity, vec_len, if◌then◌else◌, IfOk, IsTrue, OnErr, OnOk};
+ghost use Rattle.std.specs.List.{All};
+ghost use Rattle.cil_keyed_lines.specs.Names.{has_place, name_before, name_now, one_if, unnamed, uses, AreLogged};
 
 use std::alloc::{AllocError, Allocator, Global};
 use std::marker::Model;
@@ -70,6 +71,19 @@ fn name<A: Allocator>(
     named[place] = line;
 }
 
+/// Lets each place name the line that it named before changes, from the newest on.
+fn take_back<A: Allocator>(named: &mut Vec<usize, A>, log: &[Rename])
+    requires { All (λ r. r.place < length named.old.items) log.now }
+    ensures { (p : ℕ) → slice_index named.new.items p
+        ≡ unnamed (reverse log.now) (slice_index named.old.items) p }
+{
+    let mut left = log.len();
+    while left > 0 {
+        left -= 1;
+        named[log[left].place] = log[left].line;
+    }
+}
+
 /// The line that each place names, and how many places name each line. Line 0 stands for none: it is not told how many
 /// places name it. The places that changed their line are logged, so that `undo` takes the changes back.
 #[derive(Drop)]
@@ -111,12 +125,8 @@ impl<A: Allocator + Copy> Names<A> {
         ensures { IfOk result (λ v. (p : ℕ) → slice_index v.items p ≡ name_before self.now p) }
     {
         let mut named = Vec::with_capacity(alloc, self.named.len())?;
-        for line in &self.named {
-            named.push(*line)?;
-        }
-        for change in self.log.iter().rev() {
-            named[change.place] = change.line;
-        }
+        named.extend_from_slice(&self.named)?;
+        take_back(&mut named, &self.log);
         Ok(named)
     }
 }

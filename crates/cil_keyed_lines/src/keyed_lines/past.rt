@@ -1,10 +1,12 @@
 //! What stood before the steps.
 
-ghost use Rattle.std.specs.Prelude.{◌≡◌, ◌-◌, ℕ, min, IfOk, IsTrue, MatchOption};
+ghost use Rattle.std.specs.Prelude.{◌≡◌, ◌≢◌, ◌+◌, ◌-◌, ◌/◌, ◌^◌, ◌<◌, ◌≤◌, ◌==◌, ℕ, false, true, length, min, nat_lt, slice_index, slice_index_or, if◌then◌else◌, IfOk, IsTrue, MatchOption, OnErr, OnOk};
+ghost use Rattle.std.specs.List.{All};
 ghost use Rattle.cil_lines.specs.Line.{IsPresence};
-ghost use Rattle.cil_recorded.specs.Differences.{appeared_at, change_key, gone_at, Ascends};
+ghost use Rattle.cil_recorded.specs.Differences.{appeared_at, change_key, gone_at, key_of, Ascends};
+ghost use Rattle.cil_recorded.specs.Recorded as recorded;
 ghost use Rattle.cil_keyed_lines.specs.Keyed.{before_at, now_at};
-ghost use Rattle.cil_keyed_lines.specs.Past.{AreAlike, IsNextTurned, IsPast, NoneTurned};
+ghost use Rattle.cil_keyed_lines.specs.Past.{is_before, turns_at, AreAlike, AreBits, AreMarked, AreTurns, IsBelow, IsFrom, IsNextTurn, IsNextTurned, IsPast, IsSplit, NoTurn, NoneTurned};
 
 use crate::keyed_lines::KeyedLines;
 use cil_recorded::{Change, RecordedLines};
@@ -19,21 +21,95 @@ pub struct Past<A: Allocator = Global> {
     named: Vec<usize, A>,
 }
 
-/// Which lines have a target that turned, up to the last that has.
-fn marks<A: Allocator + Copy>(alloc: A, turned: &[Change]) -> Result<Vec<bool, A>, AllocError> {
+/// Marks the line of a change.
+fn mark<A: Allocator>(marks: &mut Vec<bool, A>, change: Change) -> Result<(), AllocError>
+    ensures marked { OnOk result ((l : ℕ) → slice_index_or marks.new.items l false
+        ≡ (if l == change.line then true else slice_index_or marks.old.items l false)) }
+    ensures short { change.word < 2 ^ 64 }
+{
+    while marks.len() <= change.line {
+        marks.push(false)?;
+    }
+    marks[change.line] = true;
+    Ok(())
+}
+
+/// Marks the lines of changes. No line behind the last of these has a mark.
+fn marks<A: Allocator + Copy>(alloc: A, changes: &[Change]) -> Result<Vec<bool, A>, AllocError>
+    ensures marked { IfOk result (λ v. AreMarked v.items changes.now) }
+    ensures short { IfOk result (λ v. All (λ c. c.word < 2 ^ 64) changes.now) }
+{
     let mut marks = Vec::new(alloc);
-    for change in turned {
-        while marks.len() <= change.line {
-            marks.push(false)?;
-        }
-        marks[change.line] = true;
+    for change in changes {
+        mark(&mut marks, *change)?;
     }
     Ok(marks)
 }
 
+/// The place of the first change of a word of a line, or of what is behind it.
+fn first(changes: &[Change], line: usize, word: usize) -> usize
+    requires order { Ascends change_key 0 changes.now }
+    requires short { All (λ c. c.word < 2 ^ 64) changes.now }
+    ensures split { IsSplit changes.now line word result }
+    ensures within { result ≤ length changes.now }
+{
+    changes.partition_point(|change: &Change| -> bool
+        ensures { result ≡ is_before line word change.now }
+    {
+        change.line < line || change.line == line && change.word < word
+    })
+}
+
+/// The change of a word of a line, or one of no target.
+fn change_of(changes: &[Change], line: usize, word: usize) -> Change
+    requires order { Ascends change_key 0 changes.now }
+    requires short { All (λ c. c.word < 2 ^ 64) changes.now }
+    ensures { AreBits changes.now line word result }
+{
+    let place = first(changes, line, word);
+    if place < changes.len() && changes[place].line == line && changes[place].word == word {
+        changes[place]
+    } else {
+        Change {
+            line,
+            word,
+            appeared: 0,
+            gone: 0,
+        }
+    }
+}
+
+/// The first word from one on of a line that has a change.
+fn next_turn(changes: &[Change], line: usize, from: usize) -> Option<usize>
+    requires order { Ascends change_key 0 changes.now }
+    requires short { All (λ c. c.word < 2 ^ 64) changes.now }
+    ensures { MatchOption result (NoTurn changes.now line from) (IsNextTurn changes.now line from) }
+{
+    let place = first(changes, line, from);
+    if place < changes.len() && changes[place].line == line {
+        Some(changes[place].word)
+    } else {
+        None
+    }
+}
+
+/// The earlier of two words.
+fn earlier(one: Option<usize>, other: Option<usize>) -> Option<usize>
+    ensures below { (w : ℕ) → IsBelow result w → IsBelow one w × IsBelow other w }
+    ensures from { (w : ℕ) → IsFrom w one → IsFrom w other → IsFrom w result }
+{
+    match (one, other) {
+        (Some(one), Some(other)) => Some(one.min(other)),
+        (Some(one), None) => Some(one),
+        (None, other) => other,
+    }
+}
+
 impl<A: Allocator> Past<A> {
     /// The line that a place named, or 0 where there was no such place.
-    fn line(&self, place: usize) -> usize {
+    fn line(&self, place: usize) -> usize
+        ensures { result ≡ slice_index self.now.named.items place }
+    {
         if place < self.named.len() {
             self.named[place]
         } else {
@@ -42,64 +118,38 @@ impl<A: Allocator> Past<A> {
     }
 
     /// Whether a target of a line may have turned.
-    fn has_turned(&self, line: usize) -> bool {
+    fn has_turned(&self, line: usize) -> bool
+        ensures { result ≡ slice_index_or self.now.has_turned.items line false }
+    {
         line < self.has_turned.len() && self.has_turned[line]
     }
 
-    /// The place of the first change of a line and a word, or behind them.
-    fn first(&self, line: usize, word: usize) -> usize {
-        self.turned
-            .partition_point(|change| change.line < line || change.line == line && change.word < word)
-    }
-
     /// The targets of a word of a line whose counters were at least 1.
-    fn present(&self, lines: &RecordedLines<A>, line: usize, word: usize) -> u64 {
+    fn present(&self, lines: &RecordedLines<A>, line: usize, word: usize) -> u64
+        requires turns { AreTurns self.now.turned.items lines.now }
+        requires marked { AreMarked self.now.has_turned.items self.now.turned.items }
+        ensures { IsPresence (recorded.count_before lines.now line) word result }
+    {
         let now = lines.present(line, word);
         if !self.has_turned(line) {
             return now;
         }
-        match self.turned.get(self.first(line, word)) {
-            Some(change) if change.line == line && change.word == word => now & !change.appeared | change.gone,
-            _ => now,
-        }
+        let change = change_of(&self.turned, line, word);
+        now & !change.appeared | change.gone
     }
 
-    /// The first word from one on of a line in which a target turned.
-    fn next_turned(&self, line: usize, from: usize) -> Option<usize> {
+    /// The first word from one on of a line in which a target may have turned.
+    fn next_turn(&self, line: usize, from: usize) -> Option<usize>
+        requires order { Ascends change_key 0 self.now.turned.items }
+        requires short { All (λ c. c.word < 2 ^ 64) self.now.turned.items }
+        requires marked { AreMarked self.now.has_turned.items self.now.turned.items }
+        ensures { MatchOption result (NoTurn self.now.turned.items line from)
+            (IsNextTurn self.now.turned.items line from) }
+    {
         if !self.has_turned(line) {
             return None;
         }
-        match self.turned.get(self.first(line, from)) {
-            Some(change) if change.line == line => Some(change.word),
-            _ => None,
-        }
-    }
-
-    /// The first word from one on in which a target may have a counter above 0 in one line before the steps and in another now,
-    /// or the other way round.
-    fn next_word(
-        &self,
-        lines: &RecordedLines<A>,
-        was: usize,
-        is: usize,
-        from: usize,
-    ) -> Option<usize> {
-        let turned = self.next_turned(was, from);
-        if was == is {
-            return turned;
-        }
-        let had = lines.next_present_word(was, from);
-        let has = lines.next_present_word(is, from);
-        earlier(turned, earlier(had, has))
-    }
-}
-
-/// The earlier of two words.
-fn earlier(one: Option<usize>, other: Option<usize>) -> Option<usize> {
-    match (one, other) {
-        (Some(one), Some(other)) => Some(one.min(other)),
-        (Some(one), None) => Some(one),
-        (None, other) => other,
+        next_turn(&self.turned, line, from)
     }
 }
 
@@ -117,60 +167,23 @@ impl<A: Allocator + Copy> KeyedLines<A> {
             named,
         })
     }
-
-    /// Which targets appeared and which went since the last settling, by the place of the key and by word. A word where none
-    /// did is left out.
-    pub fn changes(&self, alloc: A) -> Result<Vec<Change, A>, AllocError>
-        ensures order { IfOk result (λ v. Ascends change_key 0 v.items) }
-        ensures appeared { IfOk result (λ v. (i t : ℕ) → appeared_at v.items i t
-            ≡ min 1 (now_at self.now i t) - min 1 (before_at self.now i t)) }
-        ensures gone { IfOk result (λ v. (i t : ℕ) → gone_at v.items i t
-            ≡ min 1 (before_at self.now i t) - min 1 (now_at self.now i t)) }
-    {
-        let past = self.past(alloc)?;
-        let mut changes = Vec::new(alloc);
-        for place in 0..self.len() {
-            self.push_changes(&past, place, &mut changes)?;
-        }
-        Ok(changes)
-    }
 }
 
 impl<A: Allocator> KeyedLines<A> {
-    /// Appends the changes of the key of a place to those of the places before it.
-    fn push_changes(
-        &self,
-        past: &Past<A>,
-        place: usize,
-        changes: &mut Vec<Change, A>,
-    ) -> Result<(), AllocError> {
-        if self.is_same(past, place) {
-            return Ok(());
-        }
-        let mut from = 0;
-        while let Some(word) = self.next_turned_word(past, place, from) {
-            let was = self.present_before(past, place, word);
-            let is = self.present(place, word);
-            if was != is {
-                changes.push(Change {
-                    line: place,
-                    word,
-                    appeared: is & !was,
-                    gone: was & !is,
-                })?;
-            }
-            from = word.checked_add(1).ok_or(AllocError)?;
-        }
-        Ok(())
-    }
-
     /// Whether a place names the line that it named before the steps, of which no target has turned.
     pub fn is_same(&self, past: &Past<A>, place: usize) -> bool
         requires { IsPast self.now past.now }
         ensures { IsTrue result → NoneTurned self.now place 0 }
     {
-        let line = self.names.line(place);
+        let line = self.line_of(place);
         line == past.line(place) && !past.has_turned(line)
+    }
+
+    /// Whether two places name one line.
+    pub fn share_line(&self, place: usize, other: usize) -> bool
+        ensures { IsTrue result → (t : ℕ) → now_at self.now place t ≡ now_at self.now other t }
+    {
+        self.line_of(place) == self.line_of(other)
     }
 
     /// Whether two places name one line, and named one before the steps.
@@ -178,14 +191,7 @@ impl<A: Allocator> KeyedLines<A> {
         requires { IsPast self.now past.now }
         ensures { IsTrue result → AreAlike self.now place other }
     {
-        self.share_line(place, other) && past.line(place) == past.line(other)
-    }
-
-    /// Whether two places name one line.
-    pub fn share_line(&self, place: usize, other: usize) -> bool
-        ensures { IsTrue result → (t : ℕ) → now_at self.now place t ≡ now_at self.now other t }
-    {
-        self.names.line(place) == self.names.line(other)
+        self.line_of(place) == self.line_of(other) && past.line(place) == past.line(other)
     }
 
     /// The targets of a word whose counters of the key of a place were at least 1 before the steps.
@@ -196,11 +202,20 @@ impl<A: Allocator> KeyedLines<A> {
         past.present(&self.lines, past.line(place), word)
     }
 
-    /// The first word from one on in which targets of the key of a place may have turned: in those before it none has.
+    /// The first word from one on in which a target of the key of a place may have turned: in those before it none has.
     pub fn next_turned_word(&self, past: &Past<A>, place: usize, from: usize) -> Option<usize>
         requires { IsPast self.now past.now }
-        ensures { MatchOption result (NoneTurned self.now place from) (IsNextTurned self.now place from) }
+        ensures { MatchOption result (NoneTurned self.now place from)
+            (IsNextTurned self.now place from) }
     {
-        past.next_word(&self.lines, past.line(place), self.names.line(place), from)
+        let was = past.line(place);
+        let is = self.line_of(place);
+        let turn = past.next_turn(was, from);
+        if was == is {
+            return turn;
+        }
+        let had = self.lines.next_present_word(was, from);
+        let has = self.lines.next_present_word(is, from);
+        earlier(turn, earlier(had, has))
     }
 }

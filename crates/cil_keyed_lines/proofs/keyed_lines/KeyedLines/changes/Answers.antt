@@ -1,0 +1,11 @@
+use Rattle.std.proofs.Common.{rules}
+use Rattle.cil_keyed_lines.proofs.keyed_lines.KeyedLines.changes.Goals as goal
+
+pub loop-place-init : goal.loop-place-init
+loop-place-init g c = ?
+
+pub loop-place-preserved : goal.loop-place-preserved
+loop-place-preserved g c = ?
+
+pub returns : goal.returns
+returns g c = ?
