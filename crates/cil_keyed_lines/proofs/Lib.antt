@@ -10,3 +10,4 @@ pub mod KeyLemmas
 pub mod EndedLemmas
 pub mod SharedLemmas
 pub mod PastLemmas
+pub mod ChangeLemmas

@@ -17,25 +17,33 @@ came_at k i t = min 1 (now_at k i t) - min 1 (before_at k i t)
 abbrev pub went_at : Keyed → ℕ → ℕ → ℕ
 went_at k i t = min 1 (before_at k i t) - min 1 (now_at k i t)
 
--- behind some stand those of the words of a place below one
+-- so much is added at the targets of a place in words below one
+pub record AreAddedBelow (amount : ℕ → ℕ) (place word : ℕ) (old new : ℕ → ℕ → ℕ) : Type 0 where
+  pub below : (t : ℕ) → t / 64 < word → new place t ≡ old place t + amount t
+  pub from_on : (t : ℕ) → word ≤ t / 64 → new place t ≡ old place t
+  pub others : (i t : ℕ) → i ≢ place → new i t ≡ old i t
+
+-- at all targets of a place
+pub record AreAdded (amount : ℕ → ℕ) (place : ℕ) (old new : ℕ → ℕ → ℕ) : Type 0 where
+  pub here : (t : ℕ) → new place t ≡ old place t + amount t
+  pub others : (i t : ℕ) → i ≢ place → new i t ≡ old i t
+
+-- at those of the places before one, and nothing elsewhere
+pub record AreAddedTo (amount : ℕ → ℕ → ℕ) (place : ℕ) (all : ℕ → ℕ → ℕ) : Type 0 where
+  pub before : (i t : ℕ) → i < place → all i t ≡ amount i t
+  pub from_on : (i t : ℕ) → place ≤ i → all i t ≡ 0
+
+-- behind some changes stand those of the words of a place below one
 pub record AreChangedBelow (k : Keyed) (place word : ℕ) (old new : List Change) : Type 0 where
-  pub appeared : (t : ℕ) → t / 64 < word → appeared_at new place t ≡ appeared_at old place t + came_at k place t
-  pub gone : (t : ℕ) → t / 64 < word → gone_at new place t ≡ gone_at old place t + went_at k place t
-  pub appeared_from : (t : ℕ) → word ≤ t / 64 → appeared_at new place t ≡ appeared_at old place t
-  pub gone_from : (t : ℕ) → word ≤ t / 64 → gone_at new place t ≡ gone_at old place t
-  pub appeared_others : (i t : ℕ) → i ≢ place → appeared_at new i t ≡ appeared_at old i t
-  pub gone_others : (i t : ℕ) → i ≢ place → gone_at new i t ≡ gone_at old i t
+  pub appeared : AreAddedBelow (came_at k place) place word (appeared_at old) (appeared_at new)
+  pub gone : AreAddedBelow (went_at k place) place word (gone_at old) (gone_at new)
 
--- behind some stand those of a place
+-- those of a place
 pub record AreChanged (k : Keyed) (place : ℕ) (old new : List Change) : Type 0 where
-  pub appeared : (t : ℕ) → appeared_at new place t ≡ appeared_at old place t + came_at k place t
-  pub gone : (t : ℕ) → gone_at new place t ≡ gone_at old place t + went_at k place t
-  pub appeared_others : (i t : ℕ) → i ≢ place → appeared_at new i t ≡ appeared_at old i t
-  pub gone_others : (i t : ℕ) → i ≢ place → gone_at new i t ≡ gone_at old i t
+  pub appeared : AreAdded (came_at k place) place (appeared_at old) (appeared_at new)
+  pub gone : AreAdded (went_at k place) place (gone_at old) (gone_at new)
 
--- those of the places before one, and no others
+-- changes are those of the places before one
 pub record AreChangedTo (k : Keyed) (place : ℕ) (changes : List Change) : Type 0 where
-  pub appeared : (i t : ℕ) → i < place → appeared_at changes i t ≡ came_at k i t
-  pub gone : (i t : ℕ) → i < place → gone_at changes i t ≡ went_at k i t
-  pub appeared_from : (i t : ℕ) → place ≤ i → appeared_at changes i t ≡ 0
-  pub gone_from : (i t : ℕ) → place ≤ i → gone_at changes i t ≡ 0
+  pub appeared : AreAddedTo (came_at k) place (appeared_at changes)
+  pub gone : AreAddedTo (went_at k) place (gone_at changes)
