@@ -7,10 +7,9 @@ pub use Rattle.cil_lines.specs.Line.{IsNextPresent, IsPresence, NonePresent, hit
 pub use Rattle.cil_recorded.proofs.LogLemmas.{hit_in, hit_nothing, hit_off, hit_on, hit_out}
 pub use Rattle.cil_recorded.specs.Log.{IsTurned, came_by, came_in, hit_at, went_by, went_in}
 pub use Rattle.cil_recorded.specs.declared.recorded_lines.changes.Change.{Change}
-pub use Rattle.cil_recorded.specs.declared.step.Step.{Step}
 pub use Rattle.cil_sums.proofs.RiseLemmas.{rises-added, rises-bits, rises-both, rises-map, rises-more, rises-next, rises-none, rises-same}
 pub use Rattle.cil_sums.specs.Rises.{RisesBy, below}
-pub use Rattle.cil_symbol_changes.specs.Counts.{AreSoMany, came, has_come, has_risen, went}
+pub use Rattle.cil_symbol_changes.specs.Counts.{AreCounted, AreSoMany, came_at, has_come, has_come_at, has_risen, present_at, went_at}
 pub use Rattle.cil_symbol_changes.specs.Gained.{AreGained, AreKept, AreKnown, AreKnownIn, IsIn, IsShort, IsTo, chunk_by}
 pub use Rattle.cil_symbol_changes.specs.Numbered.{ArePresentNumbered, IsNew, IsNumbered, IsPresent, access_by, is_listed, listed}
 pub use Rattle.cil_symbol_changes.specs.SourceOrder.{AreAppeared, AreListedPlaces, AreParts, HasAppeared, IsAmong, IsAt, IsAtWord, IsListedIn}
