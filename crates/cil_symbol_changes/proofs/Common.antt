@@ -1,13 +1,13 @@
 -- The names from elsewhere that this crate's proofs cite most, passed on from one place.
 pub use Rattle.cil_accesses.specs.declared.access.AccessNumbers.{AccessNumbers}
 pub use Rattle.cil_accesses.specs.declared.chunk.Chunk.{Chunk}
-pub use Rattle.cil_keyed_lines.specs.Keyed.{AreKeyed, IsLineOf, IsNoLine, Keyed, NoneCounted, before_at, count_before, count_now, is_key, now_at}
+pub use Rattle.cil_keyed_lines.specs.Keyed.{AreApart, IsLineOf, IsNoLine, Keyed, NoneCounted, before_at, count_before, count_now, is_key, now_at}
 pub use Rattle.cil_keyed_lines.specs.declared.symbol_key.SymbolKey.{SymbolKey}
 pub use Rattle.cil_lines.specs.Line.{IsNextPresent, IsPresence, NonePresent, hit}
 pub use Rattle.cil_recorded.proofs.LogLemmas.{hit_in, hit_nothing, hit_off, hit_on, hit_out}
-pub use Rattle.cil_recorded.specs.Log.{IsTurned, came_by, came_in, hit_at, went_by, went_in}
+pub use Rattle.cil_recorded.specs.Log.{hit_at}
 pub use Rattle.cil_recorded.specs.declared.recorded_lines.changes.Change.{Change}
-pub use Rattle.cil_sums.proofs.RiseLemmas.{rises-added, rises-bits, rises-both, rises-map, rises-more, rises-next, rises-none, rises-same}
+pub use Rattle.cil_sums.proofs.RiseLemmas.{rises-added, rises-bits, rises-first, rises-map, rises-more, rises-next, rises-none, rises-same}
 pub use Rattle.cil_sums.specs.Rises.{RisesBy, below}
 pub use Rattle.cil_symbol_changes.specs.Counts.{AreCounted, AreSoMany, came_at, has_come, has_come_at, has_risen, present_at, went_at}
 pub use Rattle.cil_symbol_changes.specs.Gained.{AreGained, AreKept, AreKnown, AreKnownIn, IsIn, IsShort, IsTo, chunk_by}
