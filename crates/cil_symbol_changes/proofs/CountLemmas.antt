@@ -1,5 +1,5 @@
 -- How many accesses came, by places and by keys.
-use Rattle.cil_symbol_changes.proofs.Common.{◌≡◌, ◌≢◌, ◌-◌, ◌^◌, ◌<◌, ◌&&◌, ℕ, Bool, true, false, not, Some, List, map, length, get_or, nat_lt, position, refl, sym, ap, subst, ◌∙◌, arith, true≢false, Contains, lt-ltb, ltb-true, length-map, get_or_from_slice_get, same_Some, slice_get-get_or, Keyed, IsLineOf, before_at, is_key, now_at, count_before, count_now, SymbolKey, below, RisesBy, AreCounted, AreSoMany, came_at, has_come, has_come_at, has_risen, present_at, went_at}
+use Rattle.cil_symbol_changes.proofs.Common.{◌≡◌, ◌≢◌, ◌-◌, ◌^◌, ◌<◌, ◌&&◌, ℕ, Bool, true, false, not, Some, map, length, get_or, nat_lt, position, refl, sym, ap, subst, ◌∙◌, arith, true≢false, Contains, lt-ltb, ltb-true, length-map, get_or_from_slice_get, same_Some, slice_get-get_or, Keyed, IsLineOf, before_at, is_key, now_at, count_before, count_now, SymbolKey, below, RisesBy, AreCounted, AreSoMany, came_at, has_come, has_come_at, has_risen, present_at, went_at}
 use Rattle.std.specs.List.{IsDistinct}
 use Rattle.cil_keyed_lines.proofs.KeyedLemmas.{key_placed, no_key, placed_at, placed_within}
 use Rattle.cil_sums.proofs.PairLemmas.{from-mapped, mapped, pairs-map}

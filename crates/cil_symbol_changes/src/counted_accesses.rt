@@ -21,7 +21,7 @@ fn place_count<A: Allocator>(lines: &KeyedLines<A>, place: usize) -> Result<u128
     Ok(count)
 }
 
-/// The same, where the place before has so many.
+/// The same, where the number of the place before is told: a place of the same line has it too.
 fn next_count<A: Allocator>(
     lines: &KeyedLines<A>,
     place: usize,
@@ -49,8 +49,9 @@ fn count_places<A: Allocator>(lines: &KeyedLines<A>) -> Result<u128, AllocError>
     Ok(count)
 }
 
-/// How many accesses lines count: those that some rule gives. It takes time by the places, and by the words of each line that isn't
-/// that of the place before too; and no memory. More than 2^128 - 2, which no memory holds, are answered as out of memory.
+/// How many accesses lines count: those that some rule gives. A place that names the same line as the place before it has its number. So
+/// it takes time by the places and by the words of the lines of the others, and no memory. More than 2^128 - 2, which no memory holds,
+/// are answered as out of memory.
 pub fn count_accesses<A: Allocator>(lines: &KeyedLines<A>) -> Result<u128, AllocError>
     ensures { IfOk result (AreSoMany (has_come (λ key t. 0) (count_now lines.now))) }
 {

@@ -74,7 +74,7 @@ fn place_counts<A: Allocator>(
     Ok(counts)
 }
 
-/// The same, where those of the place before are so many.
+/// The same, where the numbers of the place before are told: a place that is alike has these too.
 fn next_counts<A: Allocator>(
     lines: &KeyedLines<A>,
     past: &Past<A>,
@@ -111,10 +111,10 @@ fn count_places<A: Allocator>(
 }
 
 /// How many accesses appeared in lines since the last settling, and how many went: those that some rule gives now and none gave before,
-/// and those that some rule gave and none gives now. It takes time and memory by the places, and by the steps since then. The words of a
-/// place in which a target may have turned are looked at where the place doesn't share its line with the place before it, now and
-/// before the steps: then it has the counts of that place. No access is put together, none is given a name, and no list of them is made.
-/// More than 2^128 - 2, which no memory holds, are answered as out of memory.
+/// and those that some rule gave and none gives now. A place that names the same lines as the place before it, now and before the steps,
+/// has its numbers. Of each other place the words are looked at in which a target may have turned. So it takes time by the places and
+/// these words, and memory by the places, the lines and the steps. No access is put together, and no list of them is made. More than
+/// 2^128 - 2, which no memory holds, are answered as out of memory.
 pub fn count_changes<A: Allocator + Copy>(
     alloc: A,
     lines: &KeyedLines<A>,

@@ -1,4 +1,4 @@
-use Rattle.cil_symbol_changes.proofs.Common.{arith, bit_at, has_risen, subst, sym, RisesBy}
+use Rattle.cil_symbol_changes.proofs.Common.{bit_at, has_risen, subst, sym, RisesBy}
 use Rattle.cil_symbol_changes.proofs.WordCountLemmas.{bits-risen}
 use Rattle.cil_symbol_changes.proofs.counted_changes.ChangeCounts.of_word.Goals as goal
 
