@@ -2,7 +2,7 @@
 use Rattle.cil_symbol_changes.proofs.Common.{◌≡◌, ◌↔◌, ℕ, ◌+◌, ◌-◌, ◌++◌, ◌<◌, ◌≤◌, suc, List, [], ◌∷◌, Option, None, Some, MatchOption, length, map, min, position, slice_get, refl, sym, ap, subst, ◌∙◌, inl, inr, arith, sum_by, take, take_all, take_more, cases_eq, cases_lt, get_or_past, sum_by-cons, sum_by_more_le, same_Some, slice_get_within, AccessNumbers, Chunk, Keyed, IsLineOf, IsNoLine, NoneCounted, is_key, count_before, count_now, SymbolKey, hit, hit_at, Change, hit_in, hit_nothing, hit_off, AreGained, AreKnown, AreKnownIn, IsIn, IsTo, access_by, ArePresentNumbered, IsNew, AreAppeared, HasAppeared, IsAmong, LinePlace}
 use Rattle.std.proofs.Common.{set}
 use Rattle.std.proofs.lemmas.List.{get_or-set_other, length-set, map_push, take_more_set}
-use Rattle.cil_keyed_lines.proofs.KeyedLemmas.{line_of_key}
+use Rattle.cil_keyed_lines.proofs.SharedLemmas.{line_of_key}
 use Rattle.cil_recorded.specs.Differences.{appeared_at, gone_at}
 use Rattle.cil_symbol_changes.specs.SourceOrder.{change_of}
 use Rattle.cil_symbol_changes.proofs.GainedLemmas.{gained-alike, gained-none}
@@ -144,19 +144,29 @@ module _ (numbers : List ℕ) (lines : Keyed) where
             let present = told.present in
             record { place = l; key = told.key; line = line; target = told.target; among = omega (arith, one, absent, present); same = told.same }
 
--- a key with a counter above 0 has a line
-has-line : (lines : Keyed) (key : SymbolKey) → (NoneCounted lines key → ⊥) → (l : ℕ) × IsLineOf lines l key
-has-line lines key some = by (position (is_key key) lines.keys) (line_of_key lines key (position (is_key key) lines.keys) refl)
+-- a key with a counter above 0 has a place
+has-place : (lines : Keyed) (key : SymbolKey) → (NoneCounted lines key → ⊥) → (l : ℕ) × (position (is_key key) lines.keys ≡ Some l)
+has-place lines key some = by (position (is_key key) lines.keys) refl (line_of_key lines key (position (is_key key) lines.keys) refl)
   where
-    by : (o : Option ℕ) → MatchOption o (NoneCounted lines key) (λ l. IsLineOf lines l key) → (l : ℕ) × IsLineOf lines l key
-    by None none = absurd (some none)
-    by (Some l) line = (l, line)
+    by : (o : Option ℕ) → position (is_key key) lines.keys ≡ o → MatchOption o (NoneCounted lines key) (λ l. IsLineOf lines l key) → (l : ℕ) × (position (is_key key) lines.keys ≡ Some l)
+    by None at none = absurd (some none)
+    by (Some l) at line = (l, at)
+
+pub place-now : (lines : Keyed) (key : SymbolKey) (t : ℕ) → 0 < count_now lines key t → (l : ℕ) × (position (is_key key) lines.keys ≡ Some l)
+place-now lines key t some = has-place lines key (λ none. let zero = (none t).0 in omega (arith, some, zero))
+
+pub place-before : (lines : Keyed) (key : SymbolKey) (t : ℕ) → 0 < count_before lines key t → (l : ℕ) × (position (is_key key) lines.keys ≡ Some l)
+place-before lines key t some = has-place lines key (λ none. let zero = (none t).1 in omega (arith, some, zero))
+
+-- its line is there
+pub line-led : (lines : Keyed) (l : ℕ) (key : SymbolKey) → position (is_key key) lines.keys ≡ Some l → IsLineOf lines l key
+line-led lines l key leads = line_of_key lines key (Some l) (sym leads)
 
 pub line-now : (lines : Keyed) (key : SymbolKey) (t : ℕ) → 0 < count_now lines key t → (l : ℕ) × IsLineOf lines l key
-line-now lines key t some = has-line lines key (λ none. let zero = (none t).0 in omega (arith, some, zero))
+line-now lines key t some = let (l, leads) = place-now lines key t some in (l, line-led lines l key leads)
 
 pub line-before : (lines : Keyed) (key : SymbolKey) (t : ℕ) → 0 < count_before lines key t → (l : ℕ) × IsLineOf lines l key
-line-before lines key t some = has-line lines key (λ none. let zero = (none t).1 in omega (arith, some, zero))
+line-before lines key t some = let (l, leads) = place-before lines key t some in (l, line-led lines l key leads)
 
 -- ---- changes turned round
 

@@ -4,4 +4,4 @@ pub mod OrderLemmas
 pub mod ChangeLemmas
 pub mod PresentLemmas
 pub mod CountLemmas
-pub mod PresentCountLemmas
+pub mod WordCountLemmas

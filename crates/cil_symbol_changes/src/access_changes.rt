@@ -19,7 +19,8 @@ pub struct AccessChanges<A: Allocator = Global> {
 /// gives now and none gave before, and those that some rule gave and none gives now. The symbols of
 /// the names of the ones have numbers in one list, and those of the others in another one, each at
 /// the place of the symbol; where two symbols had one number, their accesses couldn't be told apart.
-/// It takes time by the steps since then and by what changed, and looks at no other line.
+/// It takes time by the places, by the steps since then and by what changed, and looks at the lines of no
+/// other place.
 pub fn changes<A: Allocator + Copy>(
     alloc: A,
     lines: &KeyedLines<A>,

@@ -1,10 +1,11 @@
 //! How many accesses appeared and how many went in lines of their counters.
 
-ghost use Rattle.std.specs.Prelude.{◌≡◌, ◌+◌, ◌<◌, ◌^◌, count_ones, sum_by, IfOk};
-ghost use Rattle.cil_symbol_changes.specs.Common.{All, count_before, count_now, came, has_come, went, AreSoMany};
+ghost use Rattle.std.specs.Prelude.{◌≡◌, ◌+◌, ◌-◌, ◌<◌, ◌^◌, min, IfOk};
+ghost use Rattle.std.specs.Int.{bit_at};
+ghost use Rattle.cil_keyed_lines.specs.Past.{IsPast};
+ghost use Rattle.cil_symbol_changes.specs.Common.{came_at, count_before, count_now, has_come, has_risen, went_at, AreCounted, AreSoMany};
 
-use cil_keyed_lines::KeyedLines;
-use cil_recorded::{Change, Step};
+use cil_keyed_lines::{KeyedLines, Past};
 use std::alloc::{AllocError, Allocator};
 
 /// How many accesses appeared, and how many went.
@@ -14,70 +15,106 @@ pub struct ChangeCounts {
     pub removed: u128,
 }
 
-/// The numbers with those of the targets of a word that appeared, and of those that went.
-fn with_targets(counts: ChangeCounts, appeared: u64, gone: u64) -> ChangeCounts
-    requires few_added { counts.added < 2 ^ 96 }
-    requires few_removed { counts.removed < 2 ^ 96 }
-    ensures added { result.added ≡ counts.added + count_ones appeared }
-    ensures removed { result.removed ≡ counts.removed + count_ones gone }
-    ensures few_added { result.added < counts.added + 2 ^ 32 }
-    ensures few_removed { result.removed < counts.removed + 2 ^ 32 }
-    ensures appeared { appeared < 2 ^ 64 }
-    ensures gone { gone < 2 ^ 64 }
-{
-    ChangeCounts {
-        added: counts.added + u128::from(appeared.count_ones()),
-        removed: counts.removed + u128::from(gone.count_ones()),
+impl ChangeCounts {
+    /// None appeared, and none went.
+    fn none() -> Self
+        ensures added { result.added ≡ 0 }
+        ensures removed { result.removed ≡ 0 }
+    {
+        ChangeCounts {
+            added: 0,
+            removed: 0,
+        }
+    }
+
+    /// How many targets of a word appeared and how many went, by those whose counters were above 0 and those whose are.
+    fn of_word(was: u64, is: u64) -> Self
+        ensures { AreCounted (λ b. has_risen (bit_at was b) (bit_at is b))
+            (λ b. has_risen (bit_at is b) (bit_at was b)) result }
+    {
+        ChangeCounts {
+            added: u128::from((is & !was).count_ones()),
+            removed: u128::from((was & !is).count_ones()),
+        }
+    }
+
+    /// The sums, or the greatest `u128` where one is greater.
+    fn plus(self, more: ChangeCounts) -> Self
+        ensures added { result.added ≡ min (self.added + more.added) (2 ^ 128 - 1) }
+        ensures removed { result.removed ≡ min (self.removed + more.removed) (2 ^ 128 - 1) }
+    {
+        ChangeCounts {
+            added: self.added.saturating_add(more.added),
+            removed: self.removed.saturating_add(more.removed),
+        }
     }
 }
 
-/// How often steps let targets appear, and how often they let them go. There are fewer steps than 2^64, and fewer than 2^32 targets in
-/// each, so that the numbers fit.
-fn count_steps(log: &[Step]) -> ChangeCounts
-    ensures added { result.added ≡ sum_by (λ s. count_ones (came s)) log.now }
-    ensures removed { result.removed ≡ sum_by (λ s. count_ones (went s)) log.now }
-    ensures few_added { result.added < 2 ^ 96 }
-    ensures few_removed { result.removed < 2 ^ 96 }
-    ensures turned { All (λ s. s.turned < 2 ^ 64) log.now }
+/// How many targets of a place appeared and how many went since the last settling. The greatest `usize` as a word, which no line has,
+/// would be answered as out of memory.
+fn place_counts<A: Allocator>(
+    lines: &KeyedLines<A>,
+    past: &Past<A>,
+    place: usize,
+) -> Result<ChangeCounts, AllocError>
+    requires { IsPast lines.now past.now }
+    ensures { IfOk result (AreCounted (came_at lines.now place) (went_at lines.now place)) }
 {
-    let mut counts = ChangeCounts {
-        added: 0,
-        removed: 0,
-    };
-    for step in log {
-        counts = if step.up {
-            with_targets(counts, step.turned, 0)
-        } else {
-            with_targets(counts, 0, step.turned)
-        };
+    let mut counts = ChangeCounts::none();
+    if lines.is_same(past, place) {
+        return Ok(counts);
     }
-    counts
+    let mut from = 0;
+    while let Some(word) = lines.next_turned_word(past, place, from) {
+        let was = lines.present_before(past, place, word);
+        let is = lines.present(place, word);
+        counts = counts.plus(ChangeCounts::of_word(was, is));
+        from = word.checked_add(1).ok_or(AllocError)?;
+    }
+    Ok(counts)
 }
 
-/// The numbers of the targets that appeared in changes of lines, and of those that went. There are fewer changes than 2^64, so that they
-/// fit, too.
-fn count_targets(changes: &[Change]) -> ChangeCounts
-    ensures added { result.added ≡ sum_by (λ c. count_ones c.appeared) changes.now }
-    ensures removed { result.removed ≡ sum_by (λ c. count_ones c.gone) changes.now }
-    ensures few_added { result.added < 2 ^ 96 }
-    ensures few_removed { result.removed < 2 ^ 96 }
-    ensures appeared { All (λ c. c.appeared < 2 ^ 64) changes.now }
-    ensures gone { All (λ c. c.gone < 2 ^ 64) changes.now }
+/// The same, where the numbers of the place before are told: a place that is alike has these too.
+fn next_counts<A: Allocator>(
+    lines: &KeyedLines<A>,
+    past: &Past<A>,
+    place: usize,
+    before: ChangeCounts,
+) -> Result<ChangeCounts, AllocError>
+    requires past { IsPast lines.now past.now }
+    requires before { 0 < place
+        → AreCounted (came_at lines.now (place - 1)) (went_at lines.now (place - 1)) before }
+    ensures { IfOk result (AreCounted (came_at lines.now place) (went_at lines.now place)) }
 {
-    let mut counts = ChangeCounts {
-        added: 0,
-        removed: 0,
-    };
-    for change in changes {
-        counts = with_targets(counts, change.appeared, change.gone);
+    if place > 0 && lines.are_alike(past, place, place - 1) {
+        return Ok(before);
     }
-    counts
+    place_counts(lines, past, place)
+}
+
+/// How many accesses of all places appeared and how many went, or the greatest `u128` where they are more.
+fn count_places<A: Allocator>(
+    lines: &KeyedLines<A>,
+    past: &Past<A>,
+) -> Result<ChangeCounts, AllocError>
+    requires { IsPast lines.now past.now }
+    ensures { IfOk result (AreCounted (has_come (count_before lines.now) (count_now lines.now))
+        (has_come (count_now lines.now) (count_before lines.now))) }
+{
+    let mut counts = ChangeCounts::none();
+    let mut of_place = ChangeCounts::none();
+    for place in 0..lines.len() {
+        of_place = next_counts(lines, past, place, of_place)?;
+        counts = counts.plus(of_place);
+    }
+    Ok(counts)
 }
 
 /// How many accesses appeared in lines since the last settling, and how many went: those that some rule gives now and none gave before,
-/// and those that some rule gave and none gives now. Where all steps turned targets one way, each target turned once, and the steps are
-/// counted as they stand. Else those of a word are put together first, which takes memory. It takes time by the steps since then. No
-/// access is put together, and none is given a name.
+/// and those that some rule gave and none gives now. A place that names the same lines as the place before it, now and before the steps,
+/// has its numbers. Of each other place the words are looked at in which a target may have turned. So it takes time by the places and
+/// these words, and memory by the places, the lines and the steps. No access is put together, and no list of them is made. More than
+/// 2^128 - 2, which no memory holds, are answered as out of memory.
 pub fn count_changes<A: Allocator + Copy>(
     alloc: A,
     lines: &KeyedLines<A>,
@@ -85,10 +122,10 @@ pub fn count_changes<A: Allocator + Copy>(
     ensures added { IfOk result (λ n. AreSoMany (has_come (count_before lines.now) (count_now lines.now)) n.added) }
     ensures removed { IfOk result (λ n. AreSoMany (has_come (count_now lines.now) (count_before lines.now)) n.removed) }
 {
-    let turned = count_steps(lines.log());
-    if turned.added == 0 || turned.removed == 0 {
-        return Ok(turned);
+    let past = lines.past(alloc)?;
+    let counts = count_places(lines, &past)?;
+    if counts.added == u128::MAX || counts.removed == u128::MAX {
+        return Err(AllocError);
     }
-    let changes = lines.changes(alloc)?;
-    Ok(count_targets(&changes))
+    Ok(counts)
 }

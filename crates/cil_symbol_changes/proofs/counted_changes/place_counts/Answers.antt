@@ -1,0 +1,23 @@
+use Rattle.cil_symbol_changes.proofs.WordCountLemmas.{turned-all, turned-more, turned-none, word-behind}
+use Rattle.cil_symbol_changes.proofs.counted_changes.place_counts.Goals as goal
+
+pub returns-then-is_same : goal.returns-then-is_same
+returns-then-is_same g c =
+    let lines = c.args.lines.now in
+    let place = c.args.place in
+    let counts = c.none-counts.result in
+    turned-all lines place 0 counts (c.is_same.ensures c.if-is_same.true) (turned-none lines place counts c.none-counts.ensures.added c.none-counts.ensures.removed)
+
+pub loop-word-init : goal.loop-word-init
+loop-word-init g c = turned-none c.args.lines.now c.args.place c.none-counts.result c.none-counts.ensures.added c.none-counts.ensures.removed
+
+pub loop-word-preserved : goal.loop-word-preserved
+loop-word-preserved g c =
+    let word = c.in-Some.word in
+    let behind = c.in_ok-from.from in
+    turned-more c.args.lines.now c.args.place word c.present_before-was.result c.present-is.result c.loop-word.from behind c.present_before-was.type_inv c.present-is.type_inv c.present_before-was.ensures c.present-is.ensures c.in-Some.ensures
+    (word-behind c.checked_add.result word behind c.in_ok-from.ensures.ok_part c.checked_add.ensures) c.loop-word.counts c.of_word.result c.plus-counts.result c.plus-counts.ensures.added c.plus-counts.ensures.removed
+    c.of_word.ensures c.loop-word.invariant
+
+pub returns : goal.returns
+returns g c = turned-all c.args.lines.now c.args.place c.loop-word.from c.loop-word.counts c.in_default.ensures c.loop-word.invariant
