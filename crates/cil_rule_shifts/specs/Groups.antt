@@ -68,6 +68,6 @@ pub record AreKeysOf (among : ℕ → Bool) (head : RuleHead) (keys : List Symbo
 -- what goes and comes, and how much, from targets that were to those that are
 pub record AreMovesOf (was is : ℕ → Bool) (moved : List Moved) : Type 0 where
   pub words : AreMoves moved
-  pub went : (t : ℕ) → went moved t ≡ one_if (was t && not (is t))
-  pub came : (t : ℕ) → came moved t ≡ one_if (is t && not (was t))
+  pub gone : (t : ℕ) → went moved t ≡ one_if (was t && not (is t))
+  pub come : (t : ℕ) → came moved t ≡ one_if (is t && not (was t))
   pub ones : RisesBy (λ t. differs (was t) (is t)) 0 (ones_of moved)

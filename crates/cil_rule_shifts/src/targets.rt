@@ -26,7 +26,11 @@ impl<A: Allocator> Targets<A> {
         ensures itself { result ≡ true → (s t : ℕ) → takes self.now s t ≡ (s == t) }
         ensures same { result ≡ false → ArePlain self.now }
     {
-        matches!(self, Targets::Itself)
+        match self {
+            Targets::Nothing => false,
+            Targets::Itself => true,
+            Targets::These(_) => false,
+        }
     }
 
     /// The targets of a word that a source has.
