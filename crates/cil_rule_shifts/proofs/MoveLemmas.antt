@@ -201,6 +201,17 @@ module _ (was is : ℕ → Bool) where
       quiet : (t : ℕ) → from ≤ t / 64 → was t ≡ is t
       quiet t past = let no = none t past in no-first (was t) (is t) no ∙ sym (no-second (was t) (is t) no)
 
+-- where nothing moves, the targets are the same
+pub same-moved : (was is : ℕ → Bool) (moved : List Moved) → AreMovesOf was is moved → length moved ≡ 0 → (t : ℕ) → was t ≡ is t
+same-moved was is [] moves none t = by (was t) (is t) (moves.gone t) (moves.come t)
+  where
+    by : (a b : Bool) → 0 ≡ one_if (a && not b) → 0 ≡ one_if (b && not a) → a ≡ b
+    by true true gone come = refl
+    by true false gone come = absurd (omega (arith, gone))
+    by false true gone come = absurd (omega (arith, come))
+    by false false gone come = refl
+same-moved was is (m ∷ moved) moves none t = absurd (omega (arith, none))
+
 -- the words of targets that are numbers of the code
 pub short-word : {A : Type 0} (was is : Targets A) (source from word : ℕ) → AreShort was → AreShort is → source < 2 ^ 64 → IsNextWord (λ t. takes was source t || takes is source t) from word
     → word < 2 ^ 58

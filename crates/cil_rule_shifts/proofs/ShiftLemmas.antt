@@ -80,6 +80,32 @@ source-moved from source s after between before was is low same so_far step =
           ]
     ]
 
+-- what the next source had has counters
+pub source-above : (from source s between before : ℕ) (was is : Bool) → from ≤ source → between + one_if (nat_lt s from && was) ≡ before + one_if (nat_lt s from && is) → one_if was ≤ before
+    → one_if ((source == s) && was) ≤ between
+source-above from source s between before was is low so_far counted =
+    elim (cases_eq source s) [
+      | inl at ↦ let front = le-ltb s from (omega (arith, low, at)) in omega (arith, so_far, counted, left-out _ was front, left-out _ is front, kept _ was (eq-eqb source s at))
+      | inr apart ↦ omega (arith, left-out _ was (ne_eqb source s apart))
+    ]
+
+-- within the next source no counter is further above what it was than what comes
+pub source-bounded : (from source s after between before : ℕ) (was is : Bool) → from ≤ source → between + one_if (nat_lt s from && was) ≡ before + one_if (nat_lt s from && is)
+    → after ≤ between + one_if ((source == s) && is) → after ≤ before + one_if is
+source-bounded from source s after between before was is low so_far step =
+    elim (cases_lt s from) [
+      | inl first ↦
+          let front = lt-ltb s from first in
+          let here = ne_eqb source s (λ e. omega (arith, e, first, low)) in
+          omega (arith, so_far, step, kept _ was front, kept _ is front, left-out _ is here)
+      | inr behind ↦
+          let front = le-ltb s from behind in
+          elim (cases_eq source s) [
+            | inl at ↦ omega (arith, so_far, step, left-out _ was front, left-out _ is front, kept _ is (eq-eqb source s at))
+            | inr apart ↦ omega (arith, so_far, step, left-out _ was front, left-out _ is front, left-out _ is (ne_eqb source s apart))
+          ]
+    ]
+
 -- no source follows; those passed over have the same as before
 pub sources-moved : (from s after before : ℕ) (was is : Bool) → (from ≤ s → was ≡ is) → after + one_if (nat_lt s from && was) ≡ before + one_if (nat_lt s from && is) → after + one_if was ≡ before + one_if is
 sources-moved from s after before was is same so_far =

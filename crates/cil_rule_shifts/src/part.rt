@@ -27,8 +27,8 @@ fn targets_before<'r, A: Allocator + Copy>(
         ≡ (is_among sources.entry s && reaches sources.entry.was.now s t) }
 {
     match sources.part {
+        Part::Lost | Part::Kept => &sources.was.targets,
         Part::Got => none,
-        _ => &sources.was.targets,
     }
 }
 
@@ -42,7 +42,7 @@ fn targets_now<'r, A: Allocator + Copy>(sources: Sources<'r, A>, none: &'r Targe
 {
     match sources.part {
         Part::Lost => none,
-        _ => &sources.is.targets,
+        Part::Kept | Part::Got => &sources.is.targets,
     }
 }
 
