@@ -1,4 +1,5 @@
-//! The counters of the keys of some sources, moved from the targets that these had to those that they have.
+//! The counters of the keys of some sources, moved from the targets that these had to those that
+//! they have.
 
 ghost use Rattle.std.specs.Prelude.{◌≡◌, ◌≤◌, ◌*◌, ◌-◌, ◌^◌, ℕ, false, true, length, min, nat_eq, IfOk, OnOk};
 ghost use Rattle.std.specs.List.{IsDistinct};
@@ -18,8 +19,8 @@ use crate::targets::Targets;
 use cil_keyed_lines::{KeyedLines, Moved, SymbolKey};
 use std::alloc::{AllocError, Allocator, Global};
 
-/// Sources with the targets that they had and those that they have, and whether their counters move for good. Otherwise the steps are
-/// logged, so that they can be taken back.
+/// Some sources with the targets that they had and those that they have, and whether their counters
+/// move for good. Otherwise the steps are logged, so that they can be taken back.
 #[derive(Clone, Copy)]
 pub struct Group<'r, A: Allocator = Global> {
     pub sources: Sources<'r, A>,
@@ -28,7 +29,8 @@ pub struct Group<'r, A: Allocator = Global> {
     pub for_good: bool,
 }
 
-/// Moves the counters of keys alike, and answers how many moved.
+/// Moves the counters of keys alike, and answers how many moved. Where nothing moves, no key is put
+/// in.
 fn shift_keys<A: Allocator + Copy>(
     lines: &mut KeyedLines<A>,
     alloc: A,
@@ -49,6 +51,9 @@ fn shift_keys<A: Allocator + Copy>(
     ensures moved { IfOk result
         (λ n. n ≡ min (length keys.now * ones_of moved.now) (2 ^ 128 - 1)) }
 {
+    if moved.is_empty() {
+        return Ok(0);
+    }
     if for_good {
         lines.add(alloc, keys, moved)
     } else {
@@ -56,7 +61,8 @@ fn shift_keys<A: Allocator + Copy>(
     }
 }
 
-/// The same for the keys of all sources of a group, which have the same targets.
+/// Moves the counters of the keys of the sources of a group at once, and answers how many moved. All
+/// sources have the same targets.
 fn shift_alike<A: Allocator + Copy>(
     lines: &mut KeyedLines<A>,
     alloc: A,
@@ -89,7 +95,8 @@ fn shift_alike<A: Allocator + Copy>(
     shift_keys(lines, alloc, &keys, &moved, group.for_good)
 }
 
-/// The same for the keys of one source.
+/// Moves the counters of the keys of one source from the targets that it had to those that it has,
+/// and answers how many moved.
 fn shift_source<A: Allocator + Copy>(
     lines: &mut KeyedLines<A>,
     alloc: A,
@@ -117,7 +124,8 @@ fn shift_source<A: Allocator + Copy>(
     shift_keys(lines, alloc, &keys, &moved, group.for_good)
 }
 
-/// The same source by source.
+/// Moves the counters of the keys of the sources of a group, source by source, and answers how many
+/// moved.
 fn shift_each<A: Allocator + Copy>(
     lines: &mut KeyedLines<A>,
     alloc: A,
@@ -150,8 +158,9 @@ fn shift_each<A: Allocator + Copy>(
     Ok(moved)
 }
 
-/// Moves the counters of the keys of the sources of a group, and answers how many moved: source by
-/// source where the target of each source was or is itself, and not both.
+/// Moves the counters of the keys of the sources of a group, and answers how many moved. They move
+/// source by source where the target of each source was or is itself; where it was and is, nothing
+/// moves.
 pub fn shift_group<A: Allocator + Copy>(
     lines: &mut KeyedLines<A>,
     alloc: A,

@@ -1,4 +1,5 @@
-//! The counters of the keys of a part of the sources of a rule, moved from what it gave to what it gives.
+//! The counters of the keys of a part of the sources of a rule, moved from what it gave to what it
+//! gives.
 
 ghost use Rattle.std.specs.Prelude.{◌≡◌, ◌&&◌, ℕ, false, true, IfOk, OnOk};
 ghost use Rattle.cil_keyed_lines.specs.Keyed.{steps_in, RiseAtMost, StaysBefore};
