@@ -5,5 +5,5 @@ pub mod PermitLemmas
 pub mod OrderedLemmas
 pub mod OtherLemmas
 pub mod MoveLemmas
-pub mod TurnedLemmas
-pub mod PieceLemmas
+pub mod KeyLemmas
+pub mod PartLemmas

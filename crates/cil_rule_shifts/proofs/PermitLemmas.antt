@@ -1,5 +1,5 @@
--- Lists of permits, one permit more, and those that another list has.
-use Rattle.cil_rule_shifts.proofs.Common.{◌≡◌, ℕ, ◌+◌, ◌<◌, ◌≤◌, ◌==◌, ◌&&◌, ◌||◌, Bool, true, false, List, [], ◌∷◌, cond, length, take, get_or, refl, sym, ap, ◌∙◌, inl, inr, arith, true≢false, cases_lt, eq-eqb, eqb-true, is_key, is_kind, SymbolKey, differs, has_permit, is_line, is_permit, one_if, permit_cmp, AreInOrder, Permit, RuleHead}
+-- Lists of permits, and those that another list has.
+use Rattle.cil_rule_shifts.proofs.Common.{◌≡◌, ℕ, ◌+◌, ◌<◌, ◌≤◌, ◌==◌, ◌&&◌, ◌||◌, Bool, true, false, List, [], ◌∷◌, cond, length, take, get_or, refl, sym, ap, ◌∙◌, inl, inr, arith, true≢false, cases_lt, eq-eqb, eqb-true, differs, has_permit, is_permit, permit_cmp, AreInOrder, Permit}
 use Rattle.std.proofs.Common.{Result, Ok, Err, filter, is_ok}
 use Rattle.std.specs.List.Sorted.{IsBinarySearchResult, IsNonDecreasingBy, IsSearchInRange}
 use Rattle.std.specs.Ordering.{is_lt, nat_cmp, ordering_index, ordering_reverse, ordering_then}
@@ -13,9 +13,7 @@ use Rattle.std.proofs.lemmas.List.{length-take-le, get_or-take, get_or_default}
 use Rattle.std.proofs.lemmas.List.Folds.{list_any_at, list_any_more, Any-from_list_any}
 use Rattle.std.proofs.lemmas.List.Sorted.{searchable_from_sorted}
 use Rattle.std.proofs.lemmas.Map.Keys.{Less-from_sorted}
-use Rattle.cil_keyed_lines.proofs.KeyedLemmas.{kind_itself}
 use Rattle.cil_rule_shifts.specs.contracts.permit.PermitPartialEq.TheImpl as derived
-use Rattle.cil_rule_shifts.proofs.ShiftLemmas.{any-taken, either-one, one-less}
 use lib.Pointwise.{pointwise}
 
 -- ---- their order
@@ -41,14 +39,14 @@ equal-not-less same = cc
 greater-not-equal : Greater ≡ Equal → ⊥
 greater-not-equal same = cc
 
--- ---- one permit more
+-- ---- the next permit
 
 module _ (xs : List Permit) (ordered : AreInOrder xs) (i : ℕ) (d : Permit) (within : i < length xs) where
   abbrev next : Permit
   next = get_or xs i d
 
   -- the next one doesn't stand in the front
-  new-permit : (c q : ℕ) → is_permit c q next ≡ true → has_permit (take i xs) c q ≡ false
+  pub new-permit : (c q : ℕ) → is_permit c q next ≡ true → has_permit (take i xs) c q ≡ false
   new-permit c q here = false_from_ne_true (has_permit (take i xs) c q) (λ front. by (Any-from_list_any (is_permit c q) (take i xs) front))
     where
       by : (k : ℕ) × (x : Permit) × (k < length (take i xs)) × (get_or (take i xs) k x ≡ x) × (is_permit c q x ≡ true) → ⊥
@@ -59,88 +57,6 @@ module _ (xs : List Permit) (ordered : AreInOrder xs) (i : ℕ) (d : Permit) (wi
           let first : get_or xs k x ≡ x = sym (get_or-take i xs k x below) ∙ is in
           let second : get_or xs i x ≡ next = get_or_default xs i x d within in
           equal-not-less (sym (tied c q x next same here) ∙ sym (λ j. permit_cmp (first j) (second j)) ∙ less)
-
-  has-next : has_permit xs next.class next.permission ≡ true
-  has-next = list_any_at (is_permit next.class next.permission) xs i d within (is-itself next)
-
-  -- those of one more
-  permits-more : (b w : Bool) (c q : ℕ) → one_if ((b && has_permit (take i xs) c q) && w) + one_if ((b && is_permit c q next) && w) ≡ one_if ((b && has_permit (take (i + 1) xs) c q) && w)
-  permits-more true w c q =
-      either-one (has_permit (take i xs) c q) (is_permit c q next) w (new-permit c q)
-      ∙ sym (ap (λ b. one_if (b && w)) (list_any_more (is_permit c q) xs i d within))
-  permits-more false w c q = refl
-
-  -- are those of the whole list
-  permits-within : (b w : Bool) (c q : ℕ) → one_if ((b && has_permit (take i xs) c q) && w) + one_if ((b && is_permit c q next) && w) ≤ one_if ((b && has_permit xs c q) && w)
-  permits-within b w c q = let less = one-less (b && has_permit (take (i + 1) xs) c q) (b && has_permit xs c q) w (there b) in omega (arith, permits-more b w c q, less)
-    where
-      there : (b : Bool) → (b && has_permit (take (i + 1) xs) c q) ≡ true → (b && has_permit xs c q) ≡ true
-      there true front = any-taken (is_permit c q) xs (i + 1) front
-      there false front = front
-
--- ---- the head of a rule
-
-no-line : (s b w : Bool) → ((s && (b && false)) && w) ≡ false
-no-line true true w = refl
-no-line true false w = refl
-no-line false b w = refl
-
--- a head with the first permits alone
-abbrev pub first : ℕ → RuleHead → RuleHead
-first i head = record head { permits = record head.permits { now = take i head.permits.now } }
-
--- the key of a source's line for a permit
-abbrev pub of_head : ℕ → RuleHead → Permit → SymbolKey
-of_head source head p = record { kind = head.kind; source = source; class = p.class; permission = p.permission }
-
-pub no-permit : (source : ℕ) (head : RuleHead) (k : SymbolKey) (w : Bool) → (is_line source (first 0 head) k && w) ≡ false
-no-permit source head k w = no-line (source == k.source) (is_kind head.kind k.kind) w
-
-module _ (source : ℕ) (head : RuleHead) (ordered : AreInOrder head.permits.now) (i : ℕ) (d : Permit) (within : i < length head.permits.now) where
-  abbrev all : List Permit
-  all = head.permits.now
-
-  abbrev new : Permit
-  new = get_or head.permits.now i d
-
-  abbrev key : SymbolKey
-  key = of_head source head new
-
-  -- the lines of one more permit
-  pub head-more : (k : SymbolKey) (w : Bool) → one_if (is_line source (first i head) k && w) + one_if (is_key key k && w) ≡ one_if (is_line source (first (i + 1) head) k && w)
-  head-more k w = by (is_kind head.kind k.kind) (source == k.source)
-    where
-      by : (b s : Bool) → one_if ((s && (b && has_permit (take i all) k.class k.permission)) && w) + one_if ((b && (s && is_permit k.class k.permission new)) && w)
-          ≡ one_if ((s && (b && has_permit (take (i + 1) all) k.class k.permission)) && w)
-      by true s = permits-more all ordered i d within s w k.class k.permission
-      by false true = refl
-      by false false = refl
-
-  -- are lines of the whole list
-  pub head-within : (k : SymbolKey) (w : Bool) → one_if (is_line source (first i head) k && w) + one_if (is_key key k && w) ≤ one_if (is_line source head k && w)
-  head-within k w = by (is_kind head.kind k.kind) (source == k.source)
-    where
-      by : (b s : Bool) → one_if ((s && (b && has_permit (take i all) k.class k.permission)) && w) + one_if ((b && (s && is_permit k.class k.permission new)) && w)
-          ≤ one_if ((s && (b && has_permit all k.class k.permission)) && w)
-      by true s = permits-within all ordered i d within s w k.class k.permission
-      by false true = omega arith
-      by false false = omega arith
-
-  is-line : (ps : List Permit) → ((source == source) && (is_kind head.kind head.kind && has_permit ps new.class new.permission)) ≡ has_permit ps new.class new.permission
-  is-line ps =
-      ap (λ b. b && (is_kind head.kind head.kind && has_permit ps new.class new.permission)) (eq-eqb source source refl)
-      ∙ ap (λ b. b && has_permit ps new.class new.permission) (kind_itself head.kind)
-
-  -- what the line of the next permit had has counters
-  pub above-line : (now before : ℕ) (was is : Bool) → one_if (is_line source head key && was) ≤ before
-      → now + one_if (is_line source (first i head) key && was) ≡ before + one_if (is_line source (first i head) key && is) → one_if was ≤ now
-  above-line now before was is counted moved =
-      let here : is_line source head key ≡ true = is-line all ∙ has-next all ordered i d within in
-      let not_yet : is_line source (first i head) key ≡ false = is-line (take i all) ∙ new-permit all ordered i d within new.class new.permission (is-itself new) in
-      let no_was : one_if (is_line source (first i head) key && was) ≡ 0 = ap (λ b. one_if (b && was)) not_yet in
-      let no_is : one_if (is_line source (first i head) key && is) ≡ 0 = ap (λ b. one_if (b && is)) not_yet in
-      let whole : one_if (is_line source head key && was) ≡ one_if was = ap (λ b. one_if (b && was)) here in
-      omega (arith, no_was, no_is, whole, counted, moved)
 
 -- ---- a search, a test and a filter
 

@@ -1,5 +1,5 @@
 pub mod Permits
 pub mod Reach
 pub mod Moves
-pub mod Pieces
+pub mod Groups
 pub mod Amounts

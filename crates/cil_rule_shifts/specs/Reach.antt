@@ -2,7 +2,7 @@
 use Rattle.std.specs.Prelude.{◌≡◌, ◌≤◌, ◌+◌, ◌-◌, ◌*◌, ◌^◌, ◌/◌, ◌&&◌, ◌==◌, ◌<◌, ℕ, Bool, true, false, MatchOption, Option, cond, nat_lt}
 use Rattle.std.specs.Int.{bit_at}
 use Rattle.cil_lines.specs.Line.{Counters, count_of}
-use Rattle.cil_keyed_lines.specs.Keyed.{is_key, is_kind}
+use Rattle.cil_keyed_lines.specs.Keyed.{is_kind}
 use Rattle.cil_keyed_lines.specs.declared.symbol_key.SymbolKey.{SymbolKey}
 use Rattle.cil_text.specs.declared.statement.RuleKind.{RuleKind}
 use Rattle.cil_rule_shifts.specs.Permits.{has_permit, AreInOrder}
@@ -46,10 +46,6 @@ gives reach head key t = reaches reach key.source t && has_head head key
 abbrev pub gives_at : {A : Type 0} → Reach A → RuleHead → SymbolKey × ℕ → Bool
 gives_at reach head p = gives reach head p.0 p.1
 
--- from a source
-abbrev pub gives_from : {A : Type 0} → ℕ → Reach A → RuleHead → SymbolKey × ℕ → Bool
-gives_from source reach head p = (source == p.0.source) && gives_at reach head p
-
 -- the kind of a rule, with what it permits in a policy
 abbrev pub head_of : {A : Type 0} → RuleKind → Grant A → RuleHead
 head_of kind grant = record { kind = kind; permits = grant.permits }
@@ -61,14 +57,6 @@ grants kind grant = gives_at grant.reach.now (head_of kind grant)
 -- whether a key is of a source and a rule's kind and permits
 abbrev pub is_line : ℕ → RuleHead → SymbolKey → Bool
 is_line source head key = (source == key.source) && has_head head key
-
--- whether the source of a key has a target, in the line of that key
-abbrev pub takes_in : {A : Type 0} → SymbolKey → Targets A → SymbolKey × ℕ → Bool
-takes_in key targets p = is_key key p.0 && takes targets key.source p.1
-
--- whether a source has it, in its lines for a rule's kind and permits
-abbrev pub takes_for : {A : Type 0} → ℕ → RuleHead → Targets A → SymbolKey × ℕ → Bool
-takes_for source head targets p = is_line source head p.0 && takes targets source p.1
 
 -- the targets of each source are numbers of the code
 abbrev pub AreShort : {A : Type 0} → Targets A → Type 0

@@ -2,14 +2,16 @@
 #![tactic(auto)]
 
 mod grant;
+mod group;
 mod head;
+mod keys;
+mod moved;
+mod part;
 mod permit;
-mod pieces;
 mod put;
 mod reach;
 mod shift;
 mod targets;
-mod turned;
 mod words;
 
 pub use grant::Grant;

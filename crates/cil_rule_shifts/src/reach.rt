@@ -1,7 +1,7 @@
 //! What a rule reaches.
 
-ghost use Rattle.std.specs.Prelude.{◌≡◌, ℕ, false, true};
-ghost use Rattle.cil_rule_shifts.specs.Moves.{has_either};
+ghost use Rattle.std.specs.Prelude.{◌≡◌, ℕ, false};
+ghost use Rattle.cil_rule_shifts.specs.Groups.{has_either, is_among, AreSources};
 ghost use Rattle.cil_rule_shifts.specs.Reach.{has_source, IsFirst, IsFirstWord, IsMask, IsShort};
 
 use crate::targets::Targets;
@@ -33,39 +33,54 @@ impl<A: Allocator + Copy> Reach<A> {
     }
 }
 
-/// The sources of a word that are of one of two rules alone, or all of either.
-fn mask<A: Allocator>(was: &Reach<A>, is: &Reach<A>, all: bool, word: usize) -> u64
-    ensures { IsMask (has_either all was.now is.now) word result }
-{
-    let gone = was.sources.present(word);
-    let come = is.sources.present(word);
-    if all { gone | come } else { gone ^ come }
+/// Which sources, of those of what a rule reached and of those of what it reaches: those of the first
+/// alone, those of both, or those of the second alone.
+#[derive(Clone, Copy)]
+pub enum Part {
+    Lost,
+    Kept,
+    Got,
 }
 
-/// The first word from one on with a source of either.
-fn next_word<A: Allocator>(was: &Reach<A>, is: &Reach<A>, from: usize) -> Option<usize>
-    ensures { IsFirstWord (has_either true was.now is.now) from result }
+/// Some of the sources of what a rule reached and of what it reaches.
+#[derive(Clone, Copy)]
+pub struct Sources<'r, A: Allocator = Global> {
+    pub part: Part,
+    pub was: &'r Reach<A>,
+    pub is: &'r Reach<A>,
+}
+
+/// The sources of a word.
+fn mask<A: Allocator + Copy>(sources: Sources<'_, A>, word: usize) -> u64
+    ensures { IsMask (is_among sources.entry) word result }
+{
+    let was = sources.was.sources.present(word);
+    let is = sources.is.sources.present(word);
+    match sources.part {
+        Part::Lost => was & !is,
+        Part::Kept => was & is,
+        Part::Got => is & !was,
+    }
+}
+
+/// The first word from one on with a source of what the rule reached or of what it reaches.
+fn next_word<A: Allocator + Copy>(sources: Sources<'_, A>, from: usize) -> Option<usize>
+    ensures { IsFirstWord (has_either sources.entry) from result }
 {
     earlier(
-        was.sources.next_present_word(from),
-        is.sources.next_present_word(from),
+        sources.was.sources.next_present_word(from),
+        sources.is.sources.next_present_word(from),
     )
 }
 
-/// The first word from one on with a source of one rule alone, or with one of either.
-fn next_turned_word<A: Allocator>(
-    was: &Reach<A>,
-    is: &Reach<A>,
-    all: bool,
-    from: usize,
-) -> Option<usize>
-    requires was { IsShort was.now }
-    requires is { IsShort is.now }
-    ensures { IsFirstWord (has_either all was.now is.now) from result }
+/// The first word from one on with one of the sources.
+fn next_source_word<A: Allocator + Copy>(sources: Sources<'_, A>, from: usize) -> Option<usize>
+    requires { AreSources sources }
+    ensures { IsFirstWord (is_among sources.entry) from result }
 {
     let mut at = from;
-    while let Some(word) = next_word(was, is, at) {
-        if mask(was, is, all, word) != 0 {
+    while let Some(word) = next_word(sources, at) {
+        if mask(sources, word) != 0 {
             return Some(word);
         }
         at = word + 1;
@@ -73,22 +88,16 @@ fn next_turned_word<A: Allocator>(
     None
 }
 
-/// The first symbol from one on that is a source of one rule alone, or one of either.
-pub fn next_source<A: Allocator>(
-    was: &Reach<A>,
-    is: &Reach<A>,
-    all: bool,
-    from: usize,
-) -> Option<usize>
-    requires was { IsShort was.now }
-    requires is { IsShort is.now }
-    ensures { IsFirst (has_either all was.now is.now) from result }
+/// The first of the sources from a symbol on.
+pub fn next_source<A: Allocator + Copy>(sources: Sources<'_, A>, from: usize) -> Option<usize>
+    requires { AreSources sources }
+    ensures { IsFirst (is_among sources.entry) from result }
 {
-    let bits = mask(was, is, all, from / WORD) >> (from % WORD);
+    let bits = mask(sources, from / WORD) >> (from % WORD);
     if bits != 0 {
         return Some(from + bits.trailing_zeros() as usize);
     }
-    let word = next_turned_word(was, is, all, from / WORD + 1)?;
-    let bits = mask(was, is, all, word);
+    let word = next_source_word(sources, from / WORD + 1)?;
+    let bits = mask(sources, word);
     Some(WORD * word + bits.trailing_zeros() as usize)
 }

@@ -1,7 +1,8 @@
 //! The targets of a rule.
 
-ghost use Rattle.std.specs.Prelude.{◌≡◌, ◌/◌, ◌^◌, ◌==◌, ◌<◌, ◌&&◌, ℕ};
+ghost use Rattle.std.specs.Prelude.{◌≡◌, ◌/◌, ◌^◌, ◌==◌, ◌<◌, ◌&&◌, ℕ, false, true};
 ghost use Rattle.cil_lines.specs.Line.{hit};
+ghost use Rattle.cil_rule_shifts.specs.Groups.{ArePlain};
 ghost use Rattle.cil_rule_shifts.specs.Reach.{one_if, takes, IsFirstWord};
 
 use cil_lines::Line;
@@ -20,6 +21,18 @@ pub enum Targets<A: Allocator = Global> {
 }
 
 impl<A: Allocator> Targets<A> {
+    /// Whether the target of each source is itself; otherwise all sources have the same targets.
+    pub fn is_itself(&self) -> bool
+        ensures itself { result ≡ true → (s t : ℕ) → takes self.now s t ≡ (s == t) }
+        ensures same { result ≡ false → ArePlain self.now }
+    {
+        match self {
+            Targets::Nothing => false,
+            Targets::Itself => true,
+            Targets::These(_) => false,
+        }
+    }
+
     /// The targets of a word that a source has.
     pub fn word(&self, source: usize, word: usize) -> u64
         requires { word < 2 ^ 58 }

@@ -1,25 +1,37 @@
-use Rattle.cil_rule_shifts.proofs.Common.{◌≡◌, ◌+◌, ◌*◌, ◌<◌, ◌∙◌, ℕ, ap, sym, bit_at_or, bit_at_xor, bit_at, goes_over, has_source, one_if}
-use Rattle.cil_rule_shifts.proofs.MoveLemmas.{bit-either, bit-turned}
+use Rattle.cil_rule_shifts.proofs.Common.{◌≡◌, ◌+◌, ◌*◌, ◌<◌, ◌^◌, ◌∙◌, ℕ, ap, min, sym, w64, bit_at, bit_at_and, bit_at_not, bit_not, has_source, in_part, one_if}
+use Rattle.cil_rule_shifts.proofs.MoveLemmas.{bit-both, bit-without}
 use Rattle.cil_rule_shifts.proofs.ReachLemmas.{present-one}
 use Rattle.cil_rule_shifts.proofs.reach.mask.Given as given
 use Rattle.cil_rule_shifts.proofs.reach.mask.Goals as goal
-use Rattle.cil_rule_shifts.proofs.reach.mask.Goals.{After-present-come}
+use Rattle.cil_rule_shifts.proofs.reach.mask.Goals.{After-present-is}
 
--- the sources of each rule by their bits
-gone : (g : given.Over) (c : After-present-come g) (b : ℕ) → b < 64 → bit_at c.present-gone.result b ≡ one_if (has_source c.args.was.now (64 * c.args.word + b))
-gone g c b within = c.present-gone.ensures b within ∙ present-one c.args.was.now.sources (64 * c.args.word + b)
+-- the sources of each by their bits
+was : (g : given.Over) (c : After-present-is g) (b : ℕ) → b < 64 → bit_at c.present-was.result b ≡ one_if (has_source c.args.sources.was.now (64 * c.args.word + b))
+was g c b within = c.present-was.ensures b within ∙ present-one c.args.sources.was.now.sources (64 * c.args.word + b)
 
-come : (g : given.Over) (c : After-present-come g) (b : ℕ) → b < 64 → bit_at c.present-come.result b ≡ one_if (has_source c.args.is.now (64 * c.args.word + b))
-come g c b within = c.present-come.ensures b within ∙ present-one c.args.is.now.sources (64 * c.args.word + b)
+is : (g : given.Over) (c : After-present-is g) (b : ℕ) → b < 64 → bit_at c.present-is.result b ≡ one_if (has_source c.args.sources.is.now (64 * c.args.word + b))
+is g c b within = c.present-is.ensures b within ∙ present-one c.args.sources.is.now.sources (64 * c.args.word + b)
 
-pub returns-then-all : goal.returns-then-all
-returns-then-all g c b within =
-    let at = (goal.at.returns-then-all g c).After-present-come in
-    bit_at_or c.present-gone.result c.present-come.result b ∙ bit-either _ _ (has_source c.args.was.now (64 * c.args.word + b)) (has_source c.args.is.now (64 * c.args.word + b)) (gone g at b within) (come g at b within)
-    ∙ sym (ap (λ all. one_if (goes_over all (has_source c.args.was.now (64 * c.args.word + b)) (has_source c.args.is.now (64 * c.args.word + b)))) c.if-all.true)
+pub returns-in-Lost : goal.returns-in-Lost
+returns-in-Lost g c b within =
+    let at = (goal.at.returns-in-Lost g c).After-present-is in
+    let had = has_source c.args.sources.was.now (64 * c.args.word + b) in
+    let has = has_source c.args.sources.is.now (64 * c.args.word + b) in
+    bit_at_and c.present-was.result (bit_not w64 c.present-is.result) b ∙ ap (min (bit_at c.present-was.result b)) (bit_at_not w64 c.present-is.result b c.present-is.type_inv within)
+    ∙ bit-without (bit_at c.present-was.result b) (bit_at c.present-is.result b) had has (was g at b within) (is g at b within) ∙ sym (ap (λ part. one_if (in_part part had has)) c.in-Lost.is)
 
-pub returns-else-all : goal.returns-else-all
-returns-else-all g c b within =
-    let at = (goal.at.returns-else-all g c).After-present-come in
-    bit_at_xor c.present-gone.result c.present-come.result b ∙ bit-turned _ _ (has_source c.args.was.now (64 * c.args.word + b)) (has_source c.args.is.now (64 * c.args.word + b)) (gone g at b within) (come g at b within)
-    ∙ sym (ap (λ all. one_if (goes_over all (has_source c.args.was.now (64 * c.args.word + b)) (has_source c.args.is.now (64 * c.args.word + b)))) c.if-all.false)
+pub returns-in-Kept : goal.returns-in-Kept
+returns-in-Kept g c b within =
+    let at = (goal.at.returns-in-Kept g c).After-present-is in
+    let had = has_source c.args.sources.was.now (64 * c.args.word + b) in
+    let has = has_source c.args.sources.is.now (64 * c.args.word + b) in
+    bit_at_and c.present-was.result c.present-is.result b ∙ bit-both (bit_at c.present-was.result b) (bit_at c.present-is.result b) had has (was g at b within) (is g at b within)
+    ∙ sym (ap (λ part. one_if (in_part part had has)) c.in-Kept.is)
+
+pub returns-in-Got : goal.returns-in-Got
+returns-in-Got g c b within =
+    let at = (goal.at.returns-in-Got g c).After-present-is in
+    let had = has_source c.args.sources.was.now (64 * c.args.word + b) in
+    let has = has_source c.args.sources.is.now (64 * c.args.word + b) in
+    bit_at_and c.present-is.result (bit_not w64 c.present-was.result) b ∙ ap (min (bit_at c.present-is.result b)) (bit_at_not w64 c.present-was.result b c.present-was.type_inv within)
+    ∙ bit-without (bit_at c.present-is.result b) (bit_at c.present-was.result b) has had (is g at b within) (was g at b within) ∙ sym (ap (λ part. one_if (in_part part had has)) c.in-Got.is)

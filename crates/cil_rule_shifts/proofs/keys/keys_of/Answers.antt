@@ -1,0 +1,25 @@
+use Rattle.cil_rule_shifts.proofs.Common.{◌∙◌, ◌+◌, ◌&&◌, arith, nat_lt, subst, sym, is_among, AreKeysOf}
+use Rattle.cil_rule_shifts.proofs.KeyLemmas.{keys-apart, keys-done, keys-more, keys-new}
+use Rattle.cil_rule_shifts.proofs.ShiftLemmas.{short-source}
+use Rattle.cil_rule_shifts.proofs.keys.keys_of.Goals as goal
+
+pub loop-source-init : goal.loop-source-init
+loop-source-init g c = subst (AreKeysOf (λ s. nat_lt s 0 && is_among c.args.sources s) c.args.head) (sym c.new-keys.ensures.items) (keys-new (is_among c.args.sources) c.args.head)
+
+pub push_keys-requires-clause-distinct : goal.push_keys-requires-clause-distinct
+push_keys-requires-clause-distinct g c = c.loop-source.invariant.distinct
+
+pub push_keys-requires-clause-new : goal.push_keys-requires-clause-new
+push_keys-requires-clause-new g c =
+    keys-apart (is_among c.args.sources) c.args.head c.loop-source.from c.in-Some.source c.loop-source.keys.items c.loop-source.invariant c.in-Some.ensures
+
+pub overflow_add-from : goal.overflow_add-from
+overflow_add-from g c = let low = short-source c.args.sources c.loop-source.from c.in-Some.source c.requires.sources c.in-Some.ensures in omega (arith, low)
+
+pub loop-source-preserved : goal.loop-source-preserved
+loop-source-preserved g c =
+    keys-more (is_among c.args.sources) c.args.head c.loop-source.from c.in-Some.source c.loop-source.keys.items c.loop-source.invariant c.in-Some.ensures c.push_keys.new.keys.items
+    c.push_keys.ensures.distinct c.in_ok-push_keys.ensures.keys
+
+pub returns : goal.returns
+returns g c = keys-done (is_among c.args.sources) c.args.head c.loop-source.from c.loop-source.keys.items c.loop-source.invariant c.in_default.ensures

@@ -1,0 +1,40 @@
+//! What moves where the targets of a source change.
+
+ghost use Rattle.std.specs.Prelude.{IfOk};
+ghost use Rattle.cil_rule_shifts.specs.Groups.{AreMovesOf};
+ghost use Rattle.cil_rule_shifts.specs.Reach.{takes, AreShort};
+
+use crate::targets::Targets;
+use crate::words::next_word;
+use cil_keyed_lines::Moved;
+use std::alloc::{AllocError, Allocator};
+
+/// The words in which the targets that a source had and those that it has differ, with the targets
+/// that go and those that come.
+pub fn moved_of<A: Allocator + Copy>(
+    alloc: A,
+    source: usize,
+    was: &Targets<A>,
+    is: &Targets<A>,
+) -> Result<Vec<Moved, A>, AllocError>
+    requires was { AreShort was.now }
+    requires is { AreShort is.now }
+    ensures { IfOk result
+        (λ moved. AreMovesOf (takes was.now source) (takes is.now source) moved.items) }
+{
+    let mut moved = Vec::new(alloc);
+    let mut from = 0;
+    while let Some(word) = next_word(was, is, source, from) {
+        let before = was.word(source, word);
+        let now = is.word(source, word);
+        if before != now {
+            moved.push(Moved {
+                word,
+                gone: before & !now,
+                come: now & !before,
+            })?;
+        }
+        from = word + 1;
+    }
+    Ok(moved)
+}

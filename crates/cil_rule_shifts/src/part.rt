@@ -1,0 +1,81 @@
+//! The counters of the keys of a part of the sources of a rule, moved from what it gave to what it
+//! gives.
+
+ghost use Rattle.std.specs.Prelude.{◌≡◌, ◌&&◌, ℕ, false, true, IfOk, OnOk};
+ghost use Rattle.cil_keyed_lines.specs.Keyed.{steps_in, RiseAtMost, StaysBefore};
+ghost use Rattle.cil_rule_shifts.specs.Amounts.{ones, AreMoved, CountAtLeast};
+ghost use Rattle.cil_rule_shifts.specs.Groups.{gives_part, is_among, moves_part, AreSources};
+ghost use Rattle.cil_rule_shifts.specs.Permits.{AreInOrder};
+ghost use Rattle.cil_rule_shifts.specs.Reach.{reaches, takes, AreShort};
+ghost use Rattle.cil_sums.specs.Rises.{RisesBy};
+
+use crate::group::{Group, shift_group};
+use crate::head::RuleHead;
+use crate::reach::{Part, Sources};
+use crate::targets::Targets;
+use cil_keyed_lines::KeyedLines;
+use std::alloc::{AllocError, Allocator};
+
+/// The targets that sources had: none where they were no sources.
+fn targets_before<'r, A: Allocator + Copy>(
+    sources: Sources<'r, A>,
+    none: &'r Targets<A>,
+) -> &'r Targets<A>
+    requires sources { AreSources sources }
+    requires none { (s t : ℕ) → takes none.now s t ≡ false }
+    ensures short { AreShort result.now }
+    ensures targets { (s t : ℕ) → (is_among sources.entry s && takes result.now s t)
+        ≡ (is_among sources.entry s && reaches sources.entry.was.now s t) }
+{
+    match sources.part {
+        Part::Lost | Part::Kept => &sources.was.targets,
+        Part::Got => none,
+    }
+}
+
+/// The targets that sources have: none where they are no sources.
+fn targets_now<'r, A: Allocator + Copy>(sources: Sources<'r, A>, none: &'r Targets<A>) -> &'r Targets<A>
+    requires sources { AreSources sources }
+    requires none { (s t : ℕ) → takes none.now s t ≡ false }
+    ensures short { AreShort result.now }
+    ensures targets { (s t : ℕ) → (is_among sources.entry s && takes result.now s t)
+        ≡ (is_among sources.entry s && reaches sources.entry.is.now s t) }
+{
+    match sources.part {
+        Part::Lost => none,
+        Part::Kept | Part::Got => &sources.is.targets,
+    }
+}
+
+/// Moves the counters of what a rule gave some sources by its kind and permits to those of what it
+/// gives them, and answers how many moved. Where they move for good there is no step to take back,
+/// and none is logged.
+pub fn shift_part<A: Allocator + Copy>(
+    lines: &mut KeyedLines<A>,
+    alloc: A,
+    head: RuleHead<'_>,
+    sources: Sources<'_, A>,
+    for_good: bool,
+) -> Result<u128, AllocError>
+    requires permits { AreInOrder head.permits.now }
+    requires sources { AreSources sources }
+    requires counted { CountAtLeast lines.old (ones (gives_part sources sources.was.now head)) }
+    requires settled { for_good ≡ true → steps_in lines.old ≡ 0 }
+    ensures settled { for_good ≡ true → steps_in lines.new ≡ 0 }
+    ensures now { OnOk result (AreMoved lines.old lines.new
+        (ones (gives_part sources.entry sources.entry.was.now head.entry))
+        (ones (gives_part sources.entry sources.entry.is.now head.entry))) }
+    ensures bounded { RiseAtMost lines.old lines.new
+        (ones (gives_part sources.entry sources.entry.is.now head.entry)) }
+    ensures before { for_good ≡ false → StaysBefore lines.old lines.new }
+    ensures moved { IfOk result (RisesBy (moves_part sources.entry head.entry) 0) }
+{
+    let none = Targets::Nothing;
+    let group = Group {
+        sources,
+        was: targets_before(sources, &none),
+        is: targets_now(sources, &none),
+        for_good,
+    };
+    shift_group(lines, alloc, head, group)
+}
