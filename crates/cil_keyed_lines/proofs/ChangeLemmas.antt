@@ -1,5 +1,5 @@
 -- Changes that are put behind one another.
-use Rattle.cil_keyed_lines.proofs.Common.{◌≡◌, ◌≢◌, ℕ, suc, ◌+◌, ◌-◌, ◌*◌, ◌/◌, ◌%◌, ◌^◌, ◌<◌, ◌≤◌, List, [], ◌∷◌, ◌++◌, bit_and, get_or, length, refl, sym, ap, ◌∙◌, subst, inl, inr, arith, sum_by, w64, None, Option, Some, cases_eq, cases_lt, All, hit_at, hit_nothing, hit_off}
+use Rattle.cil_keyed_lines.proofs.Common.{◌≡◌, ◌≢◌, ℕ, suc, ◌+◌, ◌-◌, ◌*◌, ◌/◌, ◌%◌, ◌^◌, ◌<◌, ◌≤◌, List, [], ◌∷◌, ◌++◌, bit_and, refl, sym, ap, ◌∙◌, subst, inl, inr, arith, sum_by, w64, None, Option, Some, cases_eq, cases_lt, All, hit_at, hit_nothing, hit_off}
 use Rattle.std.proofs.lemmas.List.Elements.{All-push}
 use Rattle.std.proofs.lemmas.List.Sums.{sum_by_push}
 use Rattle.std.proofs.lemmas.Nat.{and-not, and_comm}
@@ -11,11 +11,11 @@ use Rattle.std.specs.Option.{SomeIff}
 use Rattle.std.specs.Prelude.{min}
 use Rattle.cil_recorded.proofs.LogLemmas.{hit_on, hit_out}
 use Rattle.cil_recorded.proofs.TurnLemmas.{ascends-push, next}
-use Rattle.cil_recorded.specs.Differences.{appeared_at, change_key, gone_at, key_of, Ascends}
+use Rattle.cil_recorded.specs.Differences.{change_key, key_of}
 use Rattle.cil_recorded.specs.declared.recorded_lines.changes.Change.{Change}
 use Rattle.cil_keyed_lines.proofs.PastLemmas.{key-most}
-use Rattle.cil_keyed_lines.specs.Changes.{came_at, went_at, AreAdded, AreAddedBelow, AreAddedTo, AreBelow, AreChanged, AreChangedBelow, AreChangedTo}
-use Rattle.cil_keyed_lines.specs.Keyed.{Keyed, before_at, now_at}
+use Rattle.cil_keyed_lines.specs.Changes.{came_at, went_at, AreAdded, AreAddedBelow, AreAddedTo, AreBelow}
+use Rattle.cil_keyed_lines.specs.Keyed.{Keyed}
 use Rattle.cil_keyed_lines.specs.Past.{IsSame}
 
 -- ---- the order

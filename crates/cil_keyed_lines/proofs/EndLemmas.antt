@@ -1,5 +1,5 @@
 -- Keys that are taken out with their lines, and the counters of the others.
-use Rattle.cil_keyed_lines.proofs.Common.{◌≡◌, ◌≢◌, ℕ, ◌+◌, ◌-◌, ◌<◌, false, if◌then◌else◌, List, [], ◌∷◌, ◌++◌, length, get_or, set, take, position, slice_get, Option, None, Some, IfSome, refl, sym, ap, ◌∙◌, inl, inr, arith, list_any, IsDistinct, swap_remove, SymbolKey, count_by, is_key, with_key, AreAmong}
+use Rattle.cil_keyed_lines.proofs.Common.{◌≡◌, ◌≢◌, ℕ, ◌-◌, ◌<◌, false, if◌then◌else◌, List, [], ◌∷◌, ◌++◌, length, get_or, set, take, position, slice_get, Option, None, Some, IfSome, refl, sym, ap, ◌∙◌, inl, inr, arith, list_any, IsDistinct, swap_remove, SymbolKey, count_by, is_key, with_key, AreAmong}
 use Rattle.std.proofs.lemmas.Bool.{cases_eq, cases_lt}
 use Rattle.std.proofs.lemmas.List.{get_or_default, length-append, length-set, length-take-le, get_or-take, get_or-set_same, get_or-set_other, get_or_at}
 use Rattle.std.proofs.lemmas.Option.{none-some, slice_get-get_or}

@@ -1,5 +1,5 @@
 -- The counters of keys, by the places of their lines.
-use Rattle.cil_keyed_lines.proofs.Common.{zero, suc, ◌≡◌, ◌≢◌, ℕ, ◌+◌, ◌<◌, ◌≤◌, ◌==◌, ◌&&◌, Bool, true, false, cond, if◌then◌else◌, nat_lt, List, [], ◌∷◌, ◌++◌, length, get_or, position, slice_get, None, Some, refl, sym, ap, ◌∙◌, true≢false, arith, rules, list_any, position_or_len, IsDistinct, same_counts, SymbolKey, count_by, is_key, is_kind, with_key}
+use Rattle.cil_keyed_lines.proofs.Common.{zero, suc, ◌≡◌, ℕ, ◌+◌, ◌<◌, ◌≤◌, ◌==◌, ◌&&◌, Bool, true, false, cond, if◌then◌else◌, nat_lt, List, [], ◌∷◌, ◌++◌, length, get_or, position, slice_get, None, Some, refl, sym, ap, ◌∙◌, true≢false, arith, rules, list_any, position_or_len, IsDistinct, same_counts, SymbolKey, count_by, is_key, is_kind, with_key}
 use Rattle.std.specs.Option.{option_map_or}
 use Rattle.std.proofs.lemmas.Bool.{eqb-true, eq-eqb, ltb-false, lt-ltb}
 use Rattle.std.proofs.lemmas.List.{length-append}

@@ -1,5 +1,5 @@
 -- Changes of lines, and the lines that places named before.
-use Rattle.cil_keyed_lines.proofs.Common.{◌≡◌, ◌≢◌, ◌⊎◌, ℕ, zero, suc, ◌+◌, ◌*◌, ◌/◌, ◌%◌, ◌^◌, ◌<◌, ◌≤◌, Bool, true, false, List, [], ◌∷◌, length, get_or, nat_lt, refl, sym, ap, ◌∙◌, inl, inr, arith, cases_eq, cases_lt, sum_by, subst, All, hit_at, hit_off}
+use Rattle.cil_keyed_lines.proofs.Common.{◌≡◌, ◌≢◌, ◌⊎◌, ℕ, zero, suc, ◌+◌, ◌/◌, ◌%◌, ◌^◌, ◌<◌, ◌≤◌, Bool, true, false, List, [], ◌∷◌, length, get_or, nat_lt, refl, sym, ap, ◌∙◌, inl, inr, arith, cases_eq, cases_lt, sum_by, subst, All, hit_at, hit_off}
 use Rattle.std.proofs.lemmas.Bool.{le-ltb, lt-ltb, ltb-false, ltb-true}
 use Rattle.cil_keyed_lines.proofs.Common.{ne_eqb, true≢false, ◌==◌, ◌&&◌, ◌||◌, eq-eqb}
 use Rattle.std.proofs.lemmas.List.Elements.{AllWithin-from_all}
@@ -8,7 +8,7 @@ use Rattle.std.specs.List.Sorted.{IsNonDecreasingBy, IsPartitionedBy}
 use Rattle.std.proofs.lemmas.List.{get_or_default}
 use Rattle.std.specs.Int.{bit_at}
 use Rattle.cil_recorded.proofs.LogLemmas.{hit_on, hit_out}
-use Rattle.cil_recorded.specs.Differences.{appeared_at, change_key, gone_at, key_of, Ascends}
+use Rattle.cil_recorded.specs.Differences.{change_key, key_of, Ascends}
 use Rattle.cil_recorded.specs.declared.recorded_lines.changes.Change.{Change}
 use Rattle.cil_keyed_lines.specs.Past.{is_before, turns_at, AreMarked, AreTurns, IsBelow, IsFrom, IsNextTurn, IsNextTurned, IsSame, IsSplit, NoTurn, NoneTurned}
 use Rattle.std.specs.Prelude.{not}

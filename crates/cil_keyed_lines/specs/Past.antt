@@ -3,7 +3,7 @@ use Rattle.std.specs.Prelude.{◌≡◌, ◌≢◌, ◌+◌, ◌-◌, ◌*◌, �
 use Rattle.std.specs.List.{All}
 use Rattle.std.specs.List.Sorted.{IsPartitionPoint}
 use Rattle.std.specs.Int.{bit_at}
-use Rattle.cil_recorded.specs.Differences.{appeared_at, change_key, gone_at, key_of, Ascends}
+use Rattle.cil_recorded.specs.Differences.{appeared_at, change_key, gone_at, Ascends}
 use Rattle.cil_recorded.specs.Recorded as recorded
 use Rattle.cil_recorded.specs.Recorded.{State}
 use Rattle.cil_recorded.specs.declared.recorded_lines.changes.Change.{Change}

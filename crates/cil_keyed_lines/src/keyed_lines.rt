@@ -12,8 +12,6 @@ ghost use Rattle.cil_keyed_lines.specs.Keyed.{before_at, count_before, count_now
 mod changes;
 mod past;
 
-pub use past::Past;
-
 use crate::ended::{cut, take_out_unnamed};
 use crate::moved::Moved;
 use crate::moves::move_places;
@@ -22,6 +20,7 @@ use crate::names::{Names, Rename};
 use crate::symbol_key::SymbolKey;
 use cil_recorded::{RecordedLines, Step};
 use indexmap::IndexSet;
+pub use past::Past;
 use std::alloc::{AllocError, Allocator, Global};
 use std::hash::{BuildHasherDefault, FoldHasher};
 use std::marker::Model;

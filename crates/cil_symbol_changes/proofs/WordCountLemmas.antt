@@ -11,11 +11,6 @@ use Rattle.cil_symbol_changes.proofs.CountLemmas.{both-hold}
 
 -- ---- words
 
--- the word behind one, where its number was told
-pub word-behind : (told : Option ℕ) (word behind : ℕ) → told ≡ Some behind → SomeIff told (word + 1 < 2 ^ 64) (word + 1) → behind ≡ word + 1
-word-behind None word behind is sum = absurd (none-some behind is)
-word-behind (Some n) word behind is sum = sym (same_Some n behind is) ∙ sum.1
-
 -- targets that pass a test
 module _ (test : ℕ → Bool) where
   -- whether one does so in a word before one

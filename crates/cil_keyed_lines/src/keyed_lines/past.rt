@@ -53,11 +53,11 @@ fn first(changes: &[Change], line: usize, word: usize) -> usize
     ensures split { IsSplit changes.now line word result }
     ensures within { result ≤ length changes.now }
 {
-    changes.partition_point(|change: &Change| -> bool
-        ensures { result ≡ is_before line word change.now }
-    {
-        change.line < line || change.line == line && change.word < word
-    })
+    changes.partition_point(
+        |change: &Change| -> bool
+            ensures { result ≡ is_before line word change.now }
+        { change.line < line || change.line == line && change.word < word },
+    )
 }
 
 /// The change of a word of a line, or one of no target.

@@ -1,4 +1,4 @@
-use Rattle.cil_keyed_lines.proofs.Common.{◌≡◌, ℕ, [], ◌<◌, ◌≤◌, ap, arith, length, sym, subst}
+use Rattle.cil_keyed_lines.proofs.Common.{ℕ, ◌≤◌, ap, arith, length, sym, subst}
 use Rattle.cil_recorded.specs.Differences.{appeared_at, gone_at}
 use Rattle.cil_keyed_lines.proofs.ChangeLemmas.{added-every, added-first, added-next}
 use Rattle.cil_keyed_lines.specs.Changes.{came_at, went_at, AreBelow}

@@ -1,4 +1,3 @@
-use Rattle.cil_keyed_lines.proofs.Common.{◌<◌, ◌≤◌, ◌≡◌, ℕ}
 use Rattle.cil_keyed_lines.specs.Changes.{AreBelow, AreChangedTo}
 use Rattle.cil_keyed_lines.proofs.keyed_lines.KeyedLines.changes.Given as goal
 

@@ -1,4 +1,4 @@
-use Rattle.cil_keyed_lines.proofs.Common.{◌+◌, ◌^◌, ◌<◌, arith, bit_and, refl, rules, subst, sym, w64}
+use Rattle.cil_keyed_lines.proofs.Common.{◌^◌, ◌<◌, arith, bit_and, refl, rules, subst, sym, w64}
 use Rattle.std.specs.Int.{bit_not}
 use Rattle.cil_recorded.specs.Differences.{appeared_at, gone_at}
 use Rattle.cil_keyed_lines.proofs.ChangeLemmas.{added-all, added-none, added-same, added-word, below-place, below-word, bit-lacks, same-came, same-went, word-behind}

@@ -1,4 +1,4 @@
-use Rattle.cil_keyed_lines.proofs.Common.{◌≡◌, ℕ, ◌+◌, ◌-◌, ◌≤◌, false, get_or, length}
+use Rattle.cil_keyed_lines.proofs.Common.{◌≡◌, ℕ, ◌+◌, ◌-◌, false, get_or, length}
 use Rattle.cil_keyed_lines.proofs.keyed_lines.past.mark.Given as goal
 
 -- no line has got a mark

@@ -1,4 +1,4 @@
-use Rattle.cil_keyed_lines.proofs.Common.{◌≡◌, ◌<◌, ◌^◌, ℕ, Bool, arith, ap, eq-eqb, false, get_or, if◌then◌else◌, ne_eqb, sym, true, true≢false, ◌∙◌, cases_eq, inl, inr, ◌≢◌, ◌==◌}
+use Rattle.cil_keyed_lines.proofs.Common.{◌<◌, ◌^◌, ap, eq-eqb, false, get_or, if◌then◌else◌, ne_eqb, sym, true, true≢false, ◌∙◌, cases_eq, inl, inr, ◌≢◌}
 use Rattle.std.proofs.lemmas.List.Elements.{All-more}
 use Rattle.cil_recorded.specs.declared.recorded_lines.changes.Change.{Change}
 use Rattle.cil_keyed_lines.proofs.keyed_lines.past.marks.Goals as goal

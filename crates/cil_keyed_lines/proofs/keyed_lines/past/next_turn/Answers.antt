@@ -1,4 +1,4 @@
-use Rattle.cil_keyed_lines.proofs.Common.{◌≡◌, ◌≢◌, ◌⊎◌, ℕ, ◌/◌, ◌^◌, ◌<◌, ◌≤◌, ◌∙◌, ap, arith, get_or, inl, inr, length, rules, subst, sym}
+use Rattle.cil_keyed_lines.proofs.Common.{◌≢◌, ◌⊎◌, ℕ, ◌/◌, ◌^◌, ◌<◌, ◌≤◌, ◌∙◌, ap, arith, get_or, inl, inr, length, rules, subst, sym}
 use Rattle.std.proofs.lemmas.List.{get_or_default}
 use Rattle.cil_recorded.specs.Differences.{key_of}
 use Rattle.cil_recorded.specs.declared.recorded_lines.changes.Change.{Change}
