@@ -190,15 +190,15 @@ module _ {A : Type 0} (modules names : List (List ℕ)) (policy statements : Lis
       → Adds (set_of modules names) (is_set_below (length names)) parts.sets.items new.sets.items (set_if policy s)
       → AreRules modules names policy new.rules.items (flat_map (rule_if policy) (statements ++ s ∷ []))
       → ArePartsOf modules names policy (statements ++ s ∷ []) new
-  parts-more new so_far same types attributes classes sets rules = record {
-    types_are = all type_if so_far.types_are types;
-    types_below = fitting so_far.types_below types;
-    attributes_are = all attribute_if so_far.attributes_are attributes;
-    attributes_below = fitting so_far.attributes_below attributes;
-    classes_are = all (class_if policy) so_far.classes_are classes;
-    classes_below = fitting so_far.classes_below classes;
+  parts-more new so_far same more_types more_attributes more_classes more_sets rules = record {
+    types_are = all type_if so_far.types_are more_types;
+    types_below = fitting so_far.types_below more_types;
+    attributes_are = all attribute_if so_far.attributes_are more_attributes;
+    attributes_below = fitting so_far.attributes_below more_attributes;
+    classes_are = all (class_if policy) so_far.classes_are more_classes;
+    classes_below = fitting so_far.classes_below more_classes;
     permission_sets_are = subst (λ l. ArePermissionSets modules names policy l (permission_sets_of policy)) (sym same) so_far.permission_sets_are;
-    sets_are = record { is = all (set_if policy) so_far.sets_are.is sets; below = fitting so_far.sets_are.below sets };
+    sets_are = record { is = all (set_if policy) so_far.sets_are.is more_sets; below = fitting so_far.sets_are.below more_sets };
     rules_are = rules;
   }
     where
