@@ -4,8 +4,8 @@ use Rattle.cil_optionals.proofs.ProviderLemmas.{statement-at}
 use Rattle.cil_optionals.proofs.OthersLemmas.{asks-there, asks-lacking}
 use Rattle.cil_optionals.proofs.others.asked.Goals as goal
 
-pub overflow_cast-index-then-not-branch : goal.overflow_cast-index-then-not-branch
-overflow_cast-index-then-not-branch g c =
+pub overflow_cast-index : goal.overflow_cast-index
+overflow_cast-index g c =
     let r = c.requires.ready in
     let p = c.args.policy.now in
     let low = around-low p c.args.joined.now.modules.items r.0 c.args.i c.index.result.now r.1 c.requires.within c.index.ensures in
