@@ -223,9 +223,9 @@ short-word was is source from word was_short is_short fits next =
     ]
 
 -- masks of a word that are the same have the same targets
-pub same-word : (word mask t : ℕ) (f g : Bool) → hit word mask t ≡ one_if ((t / 64 == word) && f) → hit word mask t ≡ one_if ((t / 64 == word) && g) → t / 64 ≡ word → f ≡ g
-same-word word mask t f g first second same =
-    same-from_counts f g (sym (here f) ∙ sym first ∙ second ∙ here g)
+pub same-word : (word a b t : ℕ) (f g : Bool) → a ≡ b → hit word a t ≡ one_if ((t / 64 == word) && f) → hit word b t ≡ one_if ((t / 64 == word) && g) → t / 64 ≡ word → f ≡ g
+same-word word a b t f g masks first second same =
+    same-from_counts f g (sym (here f) ∙ sym first ∙ ap (λ mask. hit word mask t) masks ∙ second ∙ here g)
   where
     here : (h : Bool) → one_if ((t / 64 == word) && h) ≡ one_if h
     here h = ap (λ b. one_if (b && h)) (eq-eqb (t / 64) word same)

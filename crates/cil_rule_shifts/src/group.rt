@@ -85,7 +85,7 @@ fn shift_alike<A: Allocator + Copy>(
     ensures before { group.entry.for_good ≡ false → StaysBefore lines.old lines.new }
     ensures moved { IfOk result
         (RisesBy (moves_to (is_among group.entry.sources) head.entry
-            group.entry.was.now group.entry.is.now) 0) }
+        group.entry.was.now group.entry.is.now) 0) }
 {
     let moved = moved_of(alloc, 0, group.was, group.is)?;
     if moved.is_empty() {
@@ -146,7 +146,7 @@ fn shift_each<A: Allocator + Copy>(
     ensures before { group.entry.for_good ≡ false → StaysBefore lines.old lines.new }
     ensures moved { IfOk result
         (RisesBy (moves_to (is_among group.entry.sources) head.entry
-            group.entry.was.now group.entry.is.now) 0) }
+        group.entry.was.now group.entry.is.now) 0) }
 {
     let mut moved: u128 = 0;
     let mut from = 0;
@@ -181,7 +181,7 @@ pub fn shift_group<A: Allocator + Copy>(
     ensures before { group.entry.for_good ≡ false → StaysBefore lines.old lines.new }
     ensures moved { IfOk result
         (RisesBy (moves_to (is_among group.entry.sources) head.entry
-            group.entry.was.now group.entry.is.now) 0) }
+        group.entry.was.now group.entry.is.now) 0) }
 {
     match (group.was.is_itself(), group.is.is_itself()) {
         (true, true) => Ok(0),

@@ -34,7 +34,10 @@ fn targets_before<'r, A: Allocator + Copy>(
 }
 
 /// The targets that sources have: none where they are no sources.
-fn targets_now<'r, A: Allocator + Copy>(sources: Sources<'r, A>, none: &'r Targets<A>) -> &'r Targets<A>
+fn targets_now<'r, A: Allocator + Copy>(
+    sources: Sources<'r, A>,
+    none: &'r Targets<A>,
+) -> &'r Targets<A>
     requires sources { AreSources sources }
     requires none { (s t : ℕ) → takes none.now s t ≡ false }
     ensures short { AreShort result.now }

@@ -1,4 +1,4 @@
-use Rattle.cil_rule_shifts.proofs.Common.{◌≡◌, ◌+◌, ◌&&◌, ◌∙◌, ◌==◌, ap, arith, count_now, gives_to, is_among, nat_eq, one_if, refl, sym}
+use Rattle.cil_rule_shifts.proofs.Common.{◌∙◌, ap, arith, count_now, gives_to, is_among, one_if, refl}
 use Rattle.cil_rule_shifts.proofs.KeyLemmas.{at-source, below-done, below-more, below-new, same-given}
 use Rattle.cil_rule_shifts.proofs.ShiftLemmas.{none-below, short-source, source-above, source-bounded, source-moved, sources-moved}
 use Rattle.cil_rule_shifts.proofs.group.shift_each.Goals as goal
@@ -27,7 +27,7 @@ shift_source-requires-clause-counted g c k t =
     let source = c.in-Some.source in
     let next = c.in-Some.ensures in
     let less = source-above c.loop-source.from source k.source (count_now c.loop-source.lines k t) (count_now c.args.lines.now k t) (gives_to among head was (k, t)) (gives_to among head is (k, t))
-        next.from_on (c.loop-source.invariant.now k t) (c.requires.counted k t) in
+    next.from_on (c.loop-source.invariant.now k t) (c.requires.counted k t) in
     omega (arith, less, ap one_if (at-source among head was source next.holds k t))
 
 pub shift_source-requires-clause-settled : goal.shift_source-requires-clause-settled
@@ -45,8 +45,8 @@ loop-source-preserved g c =
     record {
       now = λ k t.
           source-moved c.loop-source.from source k.source (count_now c.shift_source.new.lines k t) (count_now c.loop-source.lines k t) (count_now c.args.lines.now k t) (gives_to among head was (k, t))
-              (gives_to among head is (k, t)) next.from_on (λ low high. same-given among head was is k t (next.first k.source low high)) (so_far.now k t)
-              (omega (arith, c.in_ok-here.ensures.now k t, ap one_if (at-source among head was source next.holds k t), ap one_if (at-source among head is source next.holds k t)));
+          (gives_to among head is (k, t)) next.from_on (λ low high. same-given among head was is k t (next.first k.source low high)) (so_far.now k t)
+          (omega (arith, c.in_ok-here.ensures.now k t, ap one_if (at-source among head was source next.holds k t), ap one_if (at-source among head is source next.holds k t)));
       before = λ kept k t. c.in_ok-here.ensures.before kept k t ∙ so_far.before kept k t;
       settled = c.in_ok-here.ensures.settled;
       moved = below-more among head was is c.loop-source.from source c.loop-source.moved c.in_ok-here.here c.saturating_add-moved.result next so_far.moved c.in_ok-here.ensures.moved c.saturating_add-moved.ensures;

@@ -1,4 +1,4 @@
-use Rattle.cil_rule_shifts.proofs.Common.{◌≡◌, ◌∙◌, ◌||◌, ap, eqb-true, has_key, is_key, is_line, nat_eq, subst, sym, takes, AreKeysOf, AreMovesOf, IsDistinct}
+use Rattle.cil_rule_shifts.proofs.Common.{◌∙◌, ◌||◌, ap, eqb-true, has_key, is_key, is_line, nat_eq, subst, sym, takes, AreKeysOf, AreMovesOf, IsDistinct}
 use Rattle.std.proofs.lemmas.Result.{IfOk-weaker}
 use Rattle.cil_rule_shifts.proofs.KeyLemmas.{keys-above, keys-bounded, keys-now, keys-one, keys-rise, none-distinct, AreAlike}
 use Rattle.cil_rule_shifts.proofs.group.shift_source.Given as given

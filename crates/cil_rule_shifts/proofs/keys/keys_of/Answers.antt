@@ -1,4 +1,4 @@
-use Rattle.cil_rule_shifts.proofs.Common.{◌∙◌, ◌+◌, ◌&&◌, arith, nat_lt, subst, sym, is_among, AreKeysOf}
+use Rattle.cil_rule_shifts.proofs.Common.{◌&&◌, arith, nat_lt, subst, sym, is_among, AreKeysOf}
 use Rattle.cil_rule_shifts.proofs.KeyLemmas.{keys-apart, keys-done, keys-more, keys-new}
 use Rattle.cil_rule_shifts.proofs.ShiftLemmas.{short-source}
 use Rattle.cil_rule_shifts.proofs.keys.keys_of.Goals as goal

@@ -1,4 +1,4 @@
-use Rattle.cil_rule_shifts.proofs.Common.{◌≡◌, ◌∙◌, ◌<◌, ◌^◌, ◌+◌, arith, bit_and, not, ◌++◌, ◌∷◌, ◌&&◌, ◌==◌, ◌/◌, [], ap, subst, sym, hit, one_if, takes, w64, bit_not, ℕ}
+use Rattle.cil_rule_shifts.proofs.Common.{◌≡◌, ◌<◌, ◌^◌, ◌+◌, arith, bit_and, not, ◌++◌, ◌∷◌, ◌&&◌, ◌==◌, ◌/◌, [], subst, sym, hit, one_if, takes, w64, bit_not, ℕ}
 use Rattle.std.specs.Int.Bits.{and_lt}
 use Rattle.cil_rule_shifts.proofs.MoveLemmas.{hit-without, moves-done, moves-more, moves-new, moves-skip, same-word, short-word, AreMovesBelow}
 use Rattle.cil_rule_shifts.proofs.moved.moved_of.Goals as goal
@@ -35,7 +35,7 @@ loop-word-preserved g c =
       | else-before-now w ↦
           subst (λ v. AreMovesBelow was is (word + 1) v.items) (sym w.moved-is)
           (moves-skip was is from word items so_far c.in-Some.ensures
-          (λ t here. same-word word a t (was t) (is t) (c.word-before.ensures t) (ap (λ m. hit word m t) w.if-before-now.false ∙ c.word-now.ensures t) here))
+          (λ t. same-word word a b t (was t) (is t) w.if-before-now.false (c.word-before.ensures t) (c.word-now.ensures t)))
     ]
 
 pub returns : goal.returns
