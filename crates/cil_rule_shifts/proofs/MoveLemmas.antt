@@ -1,9 +1,8 @@
 -- What moves word by word where the targets of a source change.
-use Rattle.cil_rule_shifts.proofs.Common.{◌≡◌, ◌⊎◌, ℕ, ◌+◌, ◌*◌, ◌/◌, ◌%◌, ◌^◌, ◌<◌, ◌≤◌, ◌==◌, ◌&&◌, ◌||◌, ◌++◌, ◌-◌, Bool, true, false, not, nat_lt, List, [], ◌∷◌, length, get_or, min, w64, bit_and, bit_not, count_ones, refl, sym, ap, ◌∙◌, subst, inl, inr, arith, true≢false, bit_at, cases_eq, cases_lt, eq-eqb, le-ltb, ne_eqb, eqb-true, bit_at_above, bit_at_and, bit_at_not, hit, hit-here, hit-there, differs, one_if, takes, AreMoves, AreMovesOf, AreShort, IsNextWord, Moved, NoneFromWord, Targets, came, move_at, ones_of, went, RisesBy, rises-added, rises-bits, rises-both, rises-map, rises-none, rises-same, same-from_counts}
+use Rattle.cil_rule_shifts.proofs.Common.{◌≡◌, ◌⊎◌, ℕ, ◌+◌, ◌*◌, ◌/◌, ◌%◌, ◌^◌, ◌<◌, ◌≤◌, ◌==◌, ◌&&◌, ◌||◌, ◌++◌, ◌-◌, Bool, true, false, not, nat_lt, List, [], ◌∷◌, length, min, w64, bit_and, bit_not, count_ones, refl, sym, ap, ◌∙◌, subst, inl, inr, arith, true≢false, bit_at, cases_eq, cases_lt, eq-eqb, le-ltb, ne_eqb, eqb-true, bit_at_above, bit_at_and, bit_at_not, hit, hit-here, hit-there, differs, one_if, takes, AreMoves, AreMovesOf, AreShort, IsNextWord, Moved, NoneFromWord, Targets, came, move_at, ones_of, went, RisesBy, rises-added, rises-bits, rises-both, rises-map, rises-none, rises-same, same-from_counts}
 use Rattle.std.proofs.lemmas.Bool.{and_parts}
 use Rattle.std.proofs.lemmas.List.{get_or_append_left, get_or_push, length-append}
 use Rattle.std.proofs.lemmas.List.Sums.{sum_by_push}
-use Rattle.std.specs.Int.Bits.{and_lt}
 use Rattle.cil_rule_shifts.proofs.ReachLemmas.{no-first, no-second, one-true}
 use Rattle.cil_rule_shifts.proofs.ShiftLemmas.{same-either-way, source-all, source-more, wider}
 
@@ -223,9 +222,9 @@ short-word was is source from word was_short is_short fits next =
     ]
 
 -- masks of a word that are the same have the same targets
-pub same-word : (word mask t : ℕ) (f g : Bool) → hit word mask t ≡ one_if ((t / 64 == word) && f) → hit word mask t ≡ one_if ((t / 64 == word) && g) → t / 64 ≡ word → f ≡ g
-same-word word mask t f g first second same =
-    same-from_counts f g (sym (here f) ∙ sym first ∙ second ∙ here g)
+pub same-word : (word a b t : ℕ) (f g : Bool) → a ≡ b → hit word a t ≡ one_if ((t / 64 == word) && f) → hit word b t ≡ one_if ((t / 64 == word) && g) → t / 64 ≡ word → f ≡ g
+same-word word a b t f g masks first second same =
+    same-from_counts f g (sym (here f) ∙ sym first ∙ ap (λ mask. hit word mask t) masks ∙ second ∙ here g)
   where
     here : (h : Bool) → one_if ((t / 64 == word) && h) ≡ one_if h
     here h = ap (λ b. one_if (b && h)) (eq-eqb (t / 64) word same)

@@ -65,11 +65,6 @@ module _ {A : Type 0} (none is : Reach A) (nowhere : (s : ℕ) → has_source no
       by true x h = refl
       by false x h = refl
 
-  pub got-had : (k : SymbolKey) (t : ℕ) → (in_part Got (has_source none k.source) (has_source is k.source) && gives none head k t) ≡ false
-  got-had k t =
-      ap (λ b. in_part Got (has_source none k.source) (has_source is k.source) && b) (gives-none none head k t (nowhere k.source))
-      ∙ and-false (in_part Got (has_source none k.source) (has_source is k.source))
-
   pub got-moves : (p : SymbolKey × ℕ) → (in_part Got (has_source none p.0.source) (has_source is p.0.source) && moves_where none is head p) ≡ gives is head p.0 p.1
   got-moves p =
       ap (λ b. in_part Got (has_source none p.0.source) (has_source is p.0.source) && differs b (gives is head p.0 p.1)) (gives-none none head p.0 p.1 (nowhere p.0.source)) ∙ got-gives p.0 p.1

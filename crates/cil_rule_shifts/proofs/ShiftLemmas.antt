@@ -2,7 +2,7 @@
 use Rattle.cil_rule_shifts.proofs.Common.{◌≡◌, ℕ, ◌+◌, ◌-◌, ◌^◌, ◌<◌, ◌≤◌, ◌==◌, ◌&&◌, ◌||◌, Bool, true, false, nat_lt, refl, sym, ap, ◌∙◌, inl, inr, arith, true≢false, add-zero, zero-add, cases_eq, cases_lt, eq-eqb, ne_eqb, lt-ltb, le-ltb, has_either, has_source, in_part, is_among, one_if, AreSources, IsNext, Part, Sources}
 use Rattle.std.proofs.Math.Bool.{and-false, or-false, or-true}
 use Rattle.cil_rule_shifts.specs.declared.reach.Part.TheVariants.{Lost, Kept, Got}
-use Rattle.cil_rule_shifts.proofs.ReachLemmas.{and-no, no-first, no-second}
+use Rattle.cil_rule_shifts.proofs.ReachLemmas.{and-no}
 
 -- two numbers are the same either way
 pub same-either-way : (a b : ℕ) → (a == b) ≡ (b == a)

@@ -1,4 +1,4 @@
-use Rattle.cil_rule_shifts.proofs.Common.{◌≡◌, ◌∙◌, ◌+◌, ℕ, ap, count_now, eqb-true, length, one_if, subst, sym, vec_len, is_among, takes, AreKeysOf, AreMovesOf}
+use Rattle.cil_rule_shifts.proofs.Common.{◌≡◌, ◌∙◌, ◌+◌, ℕ, ap, count_now, eqb-true, length, one_if, sym, vec_len, is_among, takes}
 use Rattle.std.proofs.lemmas.Result.{IfOk-weaker}
 use Rattle.cil_rule_shifts.proofs.KeyLemmas.{keys-above, keys-bounded, keys-now, keys-rise, none-moves, same-gives, AreAlike}
 use Rattle.cil_rule_shifts.proofs.MoveLemmas.{same-moved}
@@ -12,12 +12,12 @@ alike g c =
     let was = c.args.group.was.now in
     let is = c.args.group.is.now in
     record {
-      of = subst (AreKeysOf (is_among c.args.group.sources) c.args.head) (sym c.deref.ensures.value) c.in_ok-keys.ensures;
+      of = rw c.deref.ensures.value c.in_ok-keys.ensures;
       had = takes was 0;
       has = takes is 0;
       were = λ s t _. c.requires.alike s t;
       are = λ s t _. c.requires.alike_now s t;
-      moves = subst (AreMovesOf (takes was 0) (takes is 0)) (sym c.deref-2.ensures.value) c.in_ok-moved.ensures;
+      moves = rw c.deref-2.ensures.value c.in_ok-moved.ensures;
     }
 
 pub shift_keys-requires-clause-keys : goal.shift_keys-requires-clause-keys

@@ -1,4 +1,4 @@
-use Rattle.cil_rule_shifts.proofs.Common.{◌≡◌, ◌+◌, ◌&&◌, ◌∙◌, ◌==◌, ap, arith, count_now, gives_to, is_among, nat_eq, one_if, refl, sym}
+use Rattle.cil_rule_shifts.proofs.Common.{◌∙◌, ap, arith, count_now, gives_to, is_among, one_if, refl}
 use Rattle.cil_rule_shifts.proofs.KeyLemmas.{at-source, below-done, below-more, below-new, same-given}
 use Rattle.cil_rule_shifts.proofs.ShiftLemmas.{none-below, short-source, source-above, source-bounded, source-moved, sources-moved}
 use Rattle.cil_rule_shifts.proofs.group.shift_each.Goals as goal

@@ -1,4 +1,4 @@
-use Rattle.cil_rule_shifts.proofs.Common.{◌≡◌, ◌∙◌, ◌||◌, ap, eqb-true, has_key, is_key, is_line, nat_eq, subst, sym, takes, AreKeysOf, AreMovesOf, IsDistinct}
+use Rattle.cil_rule_shifts.proofs.Common.{◌∙◌, ◌||◌, ap, eqb-true, has_key, is_line, nat_eq, sym, takes}
 use Rattle.std.proofs.lemmas.Result.{IfOk-weaker}
 use Rattle.cil_rule_shifts.proofs.KeyLemmas.{keys-above, keys-bounded, keys-now, keys-one, keys-rise, none-distinct, AreAlike}
 use Rattle.cil_rule_shifts.proofs.group.shift_source.Given as given
@@ -6,7 +6,7 @@ use Rattle.cil_rule_shifts.proofs.group.shift_source.Goals as goal
 use Rattle.cil_rule_shifts.proofs.group.shift_source.Goals.{After-deref-2}
 
 pub push_keys-requires-clause-distinct : goal.push_keys-requires-clause-distinct
-push_keys-requires-clause-distinct g c = subst (IsDistinct is_key) (sym c.new-keys.ensures.items) none-distinct
+push_keys-requires-clause-distinct g c = rw c.new-keys.ensures.items none-distinct
 
 -- the keys are those of the source
 alike : (g : given.Over) (c : After-deref-2 g) → AreAlike (nat_eq c.args.source) c.args.head c.deref.result.now c.deref-2.result.now c.args.group.was.now c.args.group.is.now
@@ -16,13 +16,12 @@ alike g c =
     let was = c.args.group.was.now in
     let is = c.args.group.is.now in
     record {
-      of = subst (AreKeysOf (nat_eq source) head) (sym c.deref.ensures.value)
-          (keys-one source head c.push_keys.new.keys.items c.push_keys.ensures.distinct (λ k. c.in_ok-push_keys.ensures.keys k ∙ ap (λ l. has_key l k || is_line source head k) c.new-keys.ensures.items));
+      of = rw c.deref.ensures.value (keys-one source head c.push_keys.new.keys.items c.push_keys.ensures.distinct (λ k. c.in_ok-push_keys.ensures.keys k ∙ ap (λ l. has_key l k || is_line source head k) c.new-keys.ensures.items));
       had = takes was source;
       has = takes is source;
       were = λ s t same. ap (λ n. takes was n t) (sym (eqb-true source s same));
       are = λ s t same. ap (λ n. takes is n t) (sym (eqb-true source s same));
-      moves = subst (AreMovesOf (takes was source) (takes is source)) (sym c.deref-2.ensures.value) c.in_ok-moved.ensures;
+      moves = rw c.deref-2.ensures.value c.in_ok-moved.ensures;
     }
 
 pub shift_keys-requires-clause-keys : goal.shift_keys-requires-clause-keys

@@ -1,10 +1,10 @@
-use Rattle.cil_rule_shifts.proofs.Common.{◌∙◌, ◌+◌, ◌&&◌, arith, nat_lt, subst, sym, is_among, AreKeysOf}
+use Rattle.cil_rule_shifts.proofs.Common.{arith, is_among}
 use Rattle.cil_rule_shifts.proofs.KeyLemmas.{keys-apart, keys-done, keys-more, keys-new}
 use Rattle.cil_rule_shifts.proofs.ShiftLemmas.{short-source}
 use Rattle.cil_rule_shifts.proofs.keys.keys_of.Goals as goal
 
 pub loop-source-init : goal.loop-source-init
-loop-source-init g c = subst (AreKeysOf (λ s. nat_lt s 0 && is_among c.args.sources s) c.args.head) (sym c.new-keys.ensures.items) (keys-new (is_among c.args.sources) c.args.head)
+loop-source-init g c = rw c.new-keys.ensures.items (keys-new (is_among c.args.sources) c.args.head)
 
 pub push_keys-requires-clause-distinct : goal.push_keys-requires-clause-distinct
 push_keys-requires-clause-distinct g c = c.loop-source.invariant.distinct

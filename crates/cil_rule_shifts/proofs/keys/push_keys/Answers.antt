@@ -1,5 +1,5 @@
-use Rattle.cil_rule_shifts.proofs.Common.{◌≡◌, ◌||◌, ◌+◌, ◌++◌, ◌∷◌, [], get_or, has_key, is_key, is_line, subst, sym, IsDistinct, List, Permit, SymbolKey}
-use Rattle.cil_rule_shifts.proofs.KeyLemmas.{first, no-permit, of_head, pushed-are, pushed-distinct}
+use Rattle.cil_rule_shifts.proofs.Common.{has_key, Permit}
+use Rattle.cil_rule_shifts.proofs.KeyLemmas.{no-permit, pushed-are, pushed-distinct}
 use Rattle.cil_rule_shifts.proofs.keys.push_keys.Goals as goal
 
 none : Permit
@@ -17,8 +17,7 @@ loop-permit-preserved g c =
     let old = c.args.keys.now.items in
     let keys = c.loop-permit.keys.items in
     let so_far = c.loop-permit.invariant in
-    let pushed = keys ++ of_head source head (get_or head.permits.now i none) ∷ [] in
-    subst (λ (l : List SymbolKey). IsDistinct is_key l × ((k : SymbolKey) → has_key l k ≡ (has_key old k || is_line source (first (i + 1) head) k))) (sym {b = pushed} c.in_ok-push.ensures.items) (
+    rw c.in_ok-push.ensures.items (
       pushed-distinct source head c.requires.permits i none c.loop-permit-test.true old keys so_far.1 c.requires.new so_far.0,
       pushed-are source head c.requires.permits i none c.loop-permit-test.true old keys so_far.1,
     )

@@ -1,6 +1,6 @@
-use Rattle.cil_rule_shifts.proofs.Common.{◌≡◌, ◌∙◌, ◌<◌, ◌^◌, ◌+◌, arith, bit_and, not, ◌++◌, ◌∷◌, ◌&&◌, ◌==◌, ◌/◌, [], ap, subst, sym, hit, one_if, takes, w64, bit_not, ℕ}
+use Rattle.cil_rule_shifts.proofs.Common.{◌≡◌, ◌<◌, ◌^◌, arith, bit_and, not, ◌&&◌, ◌==◌, ◌/◌, hit, one_if, takes, w64, bit_not, ℕ}
 use Rattle.std.specs.Int.Bits.{and_lt}
-use Rattle.cil_rule_shifts.proofs.MoveLemmas.{hit-without, moves-done, moves-more, moves-new, moves-skip, same-word, short-word, AreMovesBelow}
+use Rattle.cil_rule_shifts.proofs.MoveLemmas.{hit-without, moves-done, moves-more, moves-new, moves-skip, same-word, short-word}
 use Rattle.cil_rule_shifts.proofs.moved.moved_of.Goals as goal
 use Rattle.cil_rule_shifts.proofs.moved.moved_of.Goals.{then-before-now+in_ok-push, else-before-now}
 
@@ -8,7 +8,7 @@ pub loop-word-init : goal.loop-word-init
 loop-word-init g c =
     let was = takes c.args.was.now c.args.source in
     let is = takes c.args.is.now c.args.source in
-    subst (AreMovesBelow was is 0) (sym c.new-moved.ensures.items) (moves-new was is)
+    rw c.new-moved.ensures.items (moves-new was is)
 
 pub loop-word-preserved : goal.loop-word-preserved
 loop-word-preserved g c =
@@ -27,15 +27,12 @@ loop-word-preserved g c =
     let low : word < 2 ^ 58 = short-word c.args.was.now c.args.is.now c.args.source from word c.requires.was c.requires.is c.ranges.source.fits c.in-Some.ensures in
     let gone_fits : gone < 2 ^ 64 = and_lt 64 a (bit_not w64 b) c.word-before.type_inv (omega arith) in
     let come_fits : come < 2 ^ 64 = and_lt 64 b (bit_not w64 a) c.word-now.type_inv (omega arith) in
-    let pushed = items ++ record { word = word; gone = gone; come = come } ∷ [] in
     elim c.if-before-now.branch [
       | then-before-now+in_ok-push w ↦
-          subst (λ v. AreMovesBelow was is (word + 1) v.items) (sym w.moved-is)
-          (subst (AreMovesBelow was is (word + 1)) (sym {b = pushed} w.in_ok-push.ensures.items) (moves-more was is from word items so_far c.in-Some.ensures gone come low gone_fits come_fits goes comes))
+          rw w.moved-is (rw w.in_ok-push.ensures.items (moves-more was is from word items so_far c.in-Some.ensures gone come low gone_fits come_fits goes comes))
       | else-before-now w ↦
-          subst (λ v. AreMovesBelow was is (word + 1) v.items) (sym w.moved-is)
-          (moves-skip was is from word items so_far c.in-Some.ensures
-          (λ t here. same-word word a t (was t) (is t) (c.word-before.ensures t) (ap (λ m. hit word m t) w.if-before-now.false ∙ c.word-now.ensures t) here))
+          rw w.moved-is (moves-skip was is from word items so_far c.in-Some.ensures
+          (λ t. same-word word a b t (was t) (is t) w.if-before-now.false (c.word-before.ensures t) (c.word-now.ensures t)))
     ]
 
 pub returns : goal.returns

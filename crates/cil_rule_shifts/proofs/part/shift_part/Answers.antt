@@ -1,4 +1,4 @@
-use Rattle.cil_rule_shifts.proofs.Common.{◌≡◌, ◌&&◌, ◌∙◌, ap, arith, differs, gives, gives_part, gives_to, is_among, moves_part, moves_to, one_if, refl, rises-same, sym, ℕ, SymbolKey}
+use Rattle.cil_rule_shifts.proofs.Common.{◌≡◌, ◌∙◌, ap, arith, differs, gives, gives_part, gives_to, is_among, moves_part, moves_to, one_if, refl, rises-same, sym, ℕ, SymbolKey}
 use Rattle.std.proofs.lemmas.Result.{IfOk-weaker}
 use Rattle.cil_rule_shifts.proofs.KeyLemmas.{split}
 use Rattle.cil_rule_shifts.proofs.PartLemmas.{part-gives}

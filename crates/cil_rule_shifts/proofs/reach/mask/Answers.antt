@@ -1,4 +1,4 @@
-use Rattle.cil_rule_shifts.proofs.Common.{◌≡◌, ◌+◌, ◌*◌, ◌<◌, ◌^◌, ◌∙◌, ℕ, ap, min, sym, w64, bit_at, bit_at_and, bit_at_not, bit_not, has_source, in_part, one_if}
+use Rattle.cil_rule_shifts.proofs.Common.{◌≡◌, ◌+◌, ◌*◌, ◌<◌, ◌∙◌, ℕ, ap, min, sym, w64, bit_at, bit_at_and, bit_at_not, bit_not, has_source, in_part, one_if}
 use Rattle.cil_rule_shifts.proofs.MoveLemmas.{bit-both, bit-without}
 use Rattle.cil_rule_shifts.proofs.ReachLemmas.{present-one}
 use Rattle.cil_rule_shifts.proofs.reach.mask.Given as given
