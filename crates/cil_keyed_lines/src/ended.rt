@@ -99,3 +99,31 @@ pub fn cut<A: Allocator>(
     names.cut(places, end);
     lines.truncate(end);
 }
+
+/// Packs the lines if there are more than twice as many as when they were packed last, or as there are keys. As it looks at
+/// all keys and lines then, it waits until there is a line for some keys: so it takes no longer than the lines that came
+/// pay for. It answers how many lines there were when they were packed last. It takes no memory.
+pub fn pack_grown<A: Allocator>(
+    keys: &IndexSet<SymbolKey, BuildHasherDefault<FoldHasher>, A>,
+    names: &mut Names<A>,
+    lines: &mut RecordedLines<A>,
+    packed: usize,
+) -> usize
+    requires shared { AreKeyed keys.now.keys names.old lines.old (length keys.now.keys)
+        (lines_in lines.old) }
+    requires log { names.old.log ≡ [] }
+    requires steps { steps_in lines.old ≡ 0 }
+    ensures shared { AreKeyed keys.now.keys names.new lines.new (length keys.now.keys)
+        (lines_in lines.new) }
+    ensures log { names.new.log ≡ [] }
+    ensures steps { steps_in lines.new ≡ 0 }
+    ensures now { (k : SymbolKey) (t : ℕ)
+        → count_by (now_in names.new lines.new) keys.now.keys k t
+        ≡ count_by (now_in names.old lines.old) keys.now.keys k t }
+{
+    if lines.len() / 2 <= packed.max(keys.len() / 8).min(keys.len()) {
+        return packed;
+    }
+    names.pack(lines);
+    lines.len()
+}
