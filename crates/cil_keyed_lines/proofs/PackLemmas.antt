@@ -8,30 +8,6 @@ use Rattle.cil_keyed_lines.specs.Packed.{AreFilled, IsNow}
 use Rattle.cil_recorded.proofs.LogLemmas.{before_none}
 use Rattle.std.proofs.lemmas.List.{get_or_past}
 
--- ---- lines that go to where no place names one
-
--- Gaps are filled below a line, and lines from an end on have gone there, or no place names them.
-pub record AreFilling (u0 u : List ℕ) (s0 s : State) (low end : ℕ) : Type 0 where
-  pub from : 1 ≤ low
-  pub some : 0 < end
-  pub most : end ≤ length u
-  pub len : length u ≡ length u0
-  pub fits : lines_in s ≤ end
-  pub steps : steps_in s ≡ 0
-  pub first : (t : ℕ) → count_now s 0 t ≡ count_now s0 0 t
-  pub same : (l : ℕ) → l < end → slice_index u l ≡ slice_index u0 l
-  pub left : (l : ℕ) → l ≢ 0 → 0 < slice_index u0 l → l < end → IsNow s0 s l l
-  pub gone : (l : ℕ) → l ≢ 0 → 0 < slice_index u0 l → end ≤ l → (slice_index u l ≢ 0) × (slice_index u l < low) × IsNow s0 s l (slice_index u l)
-
--- ---- places that name lines that went
-
--- The first places name their lines where these went, and the others as before.
-pub record AreFollowing (n0 n went_to : List ℕ) (end place : ℕ) : Type 0 where
-  pub len : length n ≡ length n0
-  pub left : (p : ℕ) → slice_index n0 p < end → slice_index n p ≡ slice_index n0 p
-  pub gone : (p : ℕ) → p < place → end ≤ slice_index n0 p → slice_index n p ≡ slice_index went_to (slice_index n0 p)
-  pub rest : (p : ℕ) → place ≤ p → slice_index n p ≡ slice_index n0 p
-
 -- no line past these is told of
 pub used_within : (n u : List ℕ) (lines : ℕ) → ((l : ℕ) → l ≢ 0 → slice_index u l ≡ uses n l) → ((p : ℕ) → slice_index n p ≢ 0 → slice_index n p < lines)
     → (l : ℕ) → l ≢ 0 → 0 < slice_index u l → l < lines

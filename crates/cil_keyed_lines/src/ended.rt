@@ -100,9 +100,9 @@ pub fn cut<A: Allocator>(
     lines.truncate(end);
 }
 
-/// Packs the lines if there are more than twice as many as when they were packed last, or as there are keys. As it looks at
-/// all keys and lines then, it waits until there is a line for some keys: so it takes no longer than the lines that came
-/// pay for. It answers how many lines there were when they were packed last. It takes no memory.
+/// Packs the lines if there are more than twice as many as when they were packed last, and more than a quarter as many as
+/// keys. Packing looks at all lines and keys, so lines have come since that pay for it. It answers how many lines there were
+/// when they were packed last. It takes no memory.
 pub fn pack_grown<A: Allocator>(
     keys: &IndexSet<SymbolKey, BuildHasherDefault<FoldHasher>, A>,
     names: &mut Names<A>,
@@ -121,7 +121,7 @@ pub fn pack_grown<A: Allocator>(
         → count_by (now_in names.new lines.new) keys.now.keys k t
         ≡ count_by (now_in names.old lines.old) keys.now.keys k t }
 {
-    if lines.len() / 2 <= packed.max(keys.len() / 8).min(keys.len()) {
+    if lines.len() / 2 <= packed.max(keys.len() / 8) {
         return packed;
     }
     names.pack(lines);

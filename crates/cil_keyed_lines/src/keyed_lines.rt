@@ -350,8 +350,8 @@ impl<A: Allocator> KeyedLines<A> {
     }
 
     /// Keeps the steps, so that they can't be taken back any more, and takes out the keys that name no line. It takes no
-    /// memory, and looks at no key that no step changed, and no line but those behind the last that a key names, unless
-    /// there are more than twice as many lines as when they were packed last, or as there are keys: then it packs them.
+    /// memory, and looks at no key that no step changed, and no line but those behind the last that a key names. Only where
+    /// it packs the lines, as many have come since they were packed last, it looks at all keys and lines.
     pub fn settle(&mut self)
         ensures keys { AreAmong self.new.keys self.old.keys }
         ensures counted { AllCounted self.new }
@@ -367,12 +367,7 @@ impl<A: Allocator> KeyedLines<A> {
         take_out_unnamed(&mut self.keys, &mut self.names, &mut self.changes);
         let places = self.keys.len();
         cut(&mut self.keys, &mut self.names, &mut self.lines, places);
-        self.packed = pack_grown(
-            &self.keys,
-            &mut self.names,
-            &mut self.lines,
-            self.packed,
-        );
+        self.packed = pack_grown(&self.keys, &mut self.names, &mut self.lines, self.packed);
         self.keys_before = places;
         self.lines_before = self.lines.len();
     }

@@ -1,4 +1,4 @@
-use Rattle.cil_keyed_lines.proofs.Common.{◌≡◌, ◌∙◌, AreKeyed, ap, arith, count_now, get_or, has_place, length, lines_in, subst, sym, ℕ}
+use Rattle.cil_keyed_lines.proofs.Common.{◌≡◌, ◌∙◌, AreKeyed, ap, arith, count_by, count_now, get_or, has_place, length, lines_in, now_in, subst, sym, ℕ}
 use Rattle.cil_keyed_lines.proofs.EndedLemmas.{among_take}
 use Rattle.cil_keyed_lines.proofs.SharedLemmas.{all_counted, counted_left, counts_kept, lined_left, same_before}
 use Rattle.std.proofs.lemmas.List.{get_or_past, length-take-le}
@@ -41,23 +41,28 @@ pub returns-clause-now : goal.returns-clause-now
 returns-clause-now g c k t =
     let old = c.self.inside in
     let now : (l t : ℕ) → count_now c.settle_into-2.new.self l t ≡ count_now old.lines l t = λ l t. c.settle_into-2.ensures.now l t ∙ c.give_up_words.ensures.now l t ∙ c.settle_into.ensures.now l t in
-    rw (← c.self.view_is)
-    (c.pack_grown-self-inside.ensures.now k t
-    ∙ c.cut.ensures.now k t
+    let keys = c.cut.new.keys.keys in
+    let pack = c.pack_grown-self-inside in
+    let cut : count_by (now_in c.cut.new.names c.cut.new.lines) keys k t ≡ count_by (now_in old.names old.lines) old.keys.keys k t =
+    c.cut.ensures.now k t
     ∙ counts_kept old.keys.keys c.take_out_unnamed.new.keys.keys old.names c.settle_into-3.new.self c.take_out_unnamed.new.names old.lines c.settle_into-2.new.self old.keys_before old.lines_before c.self.invariant
-    c.settle_into-3.ensures.named c.take_out_unnamed.ensures.taken now k t)
+    c.settle_into-3.ensures.named c.take_out_unnamed.ensures.taken now k t in
+    let packed : count_by (now_in pack.new.names pack.new.lines) keys k t ≡ count_by (now_in old.names old.lines) old.keys.keys k t = pack.ensures.now k t ∙ cut in
+    rw (← c.self.view_is) packed
 
 pub returns-clause-before : goal.returns-clause-before
 returns-clause-before g c k t =
-    let pack = c.pack_grown-self-inside in
     let old = c.self.inside in
     let now : (l t : ℕ) → count_now c.settle_into-2.new.self l t ≡ count_now old.lines l t = λ l t. c.settle_into-2.ensures.now l t ∙ c.give_up_words.ensures.now l t ∙ c.settle_into.ensures.now l t in
-    rw (← c.self.view_is)
-    (same_before c.cut.new.keys.keys pack.new.names pack.new.lines _ (lines_in pack.new.lines) pack.ensures.shared pack.ensures.log pack.ensures.steps k t
-    ∙ pack.ensures.now k t
-    ∙ c.cut.ensures.now k t
+    let keys = c.cut.new.keys.keys in
+    let pack = c.pack_grown-self-inside in
+    let cut : count_by (now_in c.cut.new.names c.cut.new.lines) keys k t ≡ count_by (now_in old.names old.lines) old.keys.keys k t =
+    c.cut.ensures.now k t
     ∙ counts_kept old.keys.keys c.take_out_unnamed.new.keys.keys old.names c.settle_into-3.new.self c.take_out_unnamed.new.names old.lines c.settle_into-2.new.self old.keys_before old.lines_before c.self.invariant
-    c.settle_into-3.ensures.named c.take_out_unnamed.ensures.taken now k t)
+    c.settle_into-3.ensures.named c.take_out_unnamed.ensures.taken now k t in
+    let packed : count_by (now_in pack.new.names pack.new.lines) keys k t ≡ count_by (now_in old.names old.lines) old.keys.keys k t = pack.ensures.now k t ∙ cut in
+    rw (← c.self.view_is)
+    (same_before keys pack.new.names pack.new.lines _ (lines_in pack.new.lines) pack.ensures.shared pack.ensures.log pack.ensures.steps k t ∙ packed)
 
 pub returns-clause-counted : goal.returns-clause-counted
 returns-clause-counted g c =

@@ -7,4 +7,4 @@ pub join-requires-clause-fits : goal.join-requires-clause-fits
 join-requires-clause-fits g c some =
     let i = c.loop-line.line-index in
     let line = slice_index c.args.named.now i in
-    omega (arith, c.loop-line.invariant.counted line some, uses_most (take i c.args.named.now) line, length-take-le i c.args.named.now (omega (arith, c.loop-line.auto.line-index-end)), c.type_inv.named)
+    omega (arith, c.loop-line.invariant.counted line some, uses_most (take i c.args.named.now) line, length-take-le i c.args.named.now (omega (arith, c.loop-line.auto.line-index-end)))
