@@ -9,5 +9,6 @@ pub mod RunLemmas
 pub mod KeyLemmas
 pub mod EndedLemmas
 pub mod SharedLemmas
+pub mod PackLemmas
 pub mod PastLemmas
 pub mod ChangeLemmas

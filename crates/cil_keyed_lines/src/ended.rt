@@ -99,3 +99,31 @@ pub fn cut<A: Allocator>(
     names.cut(places, end);
     lines.truncate(end);
 }
+
+/// Packs the lines if there are more than twice as many as when they were packed last, and more than a quarter as many as
+/// keys. Packing looks at all lines and keys, so lines have come since that pay for it. It answers how many lines there were
+/// when they were packed last. It takes no memory.
+pub fn pack_grown<A: Allocator>(
+    keys: &IndexSet<SymbolKey, BuildHasherDefault<FoldHasher>, A>,
+    names: &mut Names<A>,
+    lines: &mut RecordedLines<A>,
+    packed: usize,
+) -> usize
+    requires shared { AreKeyed keys.now.keys names.old lines.old (length keys.now.keys)
+        (lines_in lines.old) }
+    requires log { names.old.log ≡ [] }
+    requires steps { steps_in lines.old ≡ 0 }
+    ensures shared { AreKeyed keys.now.keys names.new lines.new (length keys.now.keys)
+        (lines_in lines.new) }
+    ensures log { names.new.log ≡ [] }
+    ensures steps { steps_in lines.new ≡ 0 }
+    ensures now { (k : SymbolKey) (t : ℕ)
+        → count_by (now_in names.new lines.new) keys.now.keys k t
+        ≡ count_by (now_in names.old lines.old) keys.now.keys k t }
+{
+    if lines.len() / 2 <= packed.max(keys.len() / 8) {
+        return packed;
+    }
+    names.pack(lines);
+    lines.len()
+}

@@ -12,7 +12,7 @@ ghost use Rattle.cil_keyed_lines.specs.Keyed.{before_at, count_before, count_now
 mod changes;
 mod past;
 
-use crate::ended::{cut, take_out_unnamed};
+use crate::ended::{cut, pack_grown, take_out_unnamed};
 use crate::moved::Moved;
 use crate::moves::move_places;
 use crate::named::{Named, put_in_order};
@@ -89,6 +89,8 @@ pub struct KeyedLines<A: Allocator = Global> {
     /// How many keys and lines there were before the steps.
     keys_before: usize,
     lines_before: usize,
+    /// How many lines there were when they were packed last.
+    packed: usize,
     /// The room of the logs while keys are taken out, and nothing otherwise.
     steps: Vec<Step, A>,
     changes: Vec<Rename, A>,
@@ -118,6 +120,7 @@ impl<A: Allocator + Copy> KeyedLines<A> {
             lines: RecordedLines::new(alloc),
             keys_before: 0,
             lines_before: 0,
+            packed: 0,
             steps: Vec::new(alloc),
             changes: Vec::new(alloc),
         }
@@ -347,7 +350,8 @@ impl<A: Allocator> KeyedLines<A> {
     }
 
     /// Keeps the steps, so that they can't be taken back any more, and takes out the keys that name no line. It takes no
-    /// memory, and looks at no key that no step changed, and no line but those behind the last that a key names.
+    /// memory, and looks at no key that no step changed, and no line but those behind the last that a key names. Only where
+    /// it packs the lines, as many have come since they were packed last, it looks at all keys and lines.
     pub fn settle(&mut self)
         ensures keys { AreAmong self.new.keys self.old.keys }
         ensures counted { AllCounted self.new }
@@ -363,6 +367,7 @@ impl<A: Allocator> KeyedLines<A> {
         take_out_unnamed(&mut self.keys, &mut self.names, &mut self.changes);
         let places = self.keys.len();
         cut(&mut self.keys, &mut self.names, &mut self.lines, places);
+        self.packed = pack_grown(&self.keys, &mut self.names, &mut self.lines, self.packed);
         self.keys_before = places;
         self.lines_before = self.lines.len();
     }

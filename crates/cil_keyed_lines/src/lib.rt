@@ -12,7 +12,9 @@
 //! - There are two logs: the steps of words of lines (`cil_recorded`), and the keys that changed their line, each with the line that
 //!   it named before (`names.rt`). `undo` takes both back without memory, and cuts off the keys and the lines that came (`ended.rt`).
 //!   `settle` drops both, takes out the keys that name line 0, which are all among those that changed, and cuts off the lines behind
-//!   the last that a key names. A line between others that no key names keeps its place, without memory for words.
+//!   the last that a key names. A line between others that no key names keeps its place, without memory for words, until `settle`
+//!   packs the lines: the last ones move to such places, without memory, once there are more than twice as many lines as when they
+//!   were packed last, and more than a quarter as many as keys (`names/packed.rt`).
 //! - What a key counts, now and before the steps, is told by key and target: no contract tells which keys share a line.
 #![tactic(auto)]
 

@@ -4,6 +4,8 @@ ghost use Rattle.std.specs.Prelude.{◌≡◌, ◌≢◌, ◌↔◌, ◌+◌, �
 ghost use Rattle.std.specs.List.{All};
 ghost use Rattle.cil_keyed_lines.specs.Names.{has_place, name_before, name_now, one_if, unnamed, uses, AreLogged};
 
+mod packed;
+
 use std::alloc::{AllocError, Allocator, Global};
 use std::marker::Model;
 use std::mem;
@@ -40,7 +42,7 @@ fn leave<A: Allocator>(users: &mut Vec<usize, A>, line: usize)
 }
 
 /// A place names a line from now on.
-fn join<A: Allocator>(users: &mut Vec<usize, A>, line: usize)
+pub fn join<A: Allocator>(users: &mut Vec<usize, A>, line: usize)
     requires line { line ≢ 0 → line < length users.old.items }
     requires fits { line ≢ 0 → slice_index users.old.items line < 2 ^ 63 }
     ensures len { length users.new.items ≡ length users.old.items }

@@ -1,7 +1,7 @@
-use Rattle.cil_keyed_lines.proofs.Common.{◌≡◌, ◌∙◌, ap, arith, count_now, get_or, has_place, length, lines_in, sym, ℕ}
+use Rattle.cil_keyed_lines.proofs.Common.{◌≡◌, ◌∙◌, AreKeyed, ap, arith, count_by, count_now, get_or, has_place, length, lines_in, now_in, subst, sym, ℕ}
 use Rattle.cil_keyed_lines.proofs.EndedLemmas.{among_take}
 use Rattle.cil_keyed_lines.proofs.SharedLemmas.{all_counted, counted_left, counts_kept, lined_left, same_before}
-use Rattle.std.proofs.lemmas.List.{get_or_past}
+use Rattle.std.proofs.lemmas.List.{get_or_past, length-take-le}
 use Rattle.cil_keyed_lines.proofs.keyed_lines.KeyedLines.settle.Goals as goal
 
 pub take_out_unnamed-requires-clause-paired : goal.take_out_unnamed-requires-clause-paired
@@ -41,26 +41,36 @@ pub returns-clause-now : goal.returns-clause-now
 returns-clause-now g c k t =
     let old = c.self.inside in
     let now : (l t : ℕ) → count_now c.settle_into-2.new.self l t ≡ count_now old.lines l t = λ l t. c.settle_into-2.ensures.now l t ∙ c.give_up_words.ensures.now l t ∙ c.settle_into.ensures.now l t in
-    rw (← c.self.view_is)
-    (c.cut.ensures.now k t
+    let keys = c.cut.new.keys.keys in
+    let pack = c.pack_grown-self-inside in
+    let cut : count_by (now_in c.cut.new.names c.cut.new.lines) keys k t ≡ count_by (now_in old.names old.lines) old.keys.keys k t =
+    c.cut.ensures.now k t
     ∙ counts_kept old.keys.keys c.take_out_unnamed.new.keys.keys old.names c.settle_into-3.new.self c.take_out_unnamed.new.names old.lines c.settle_into-2.new.self old.keys_before old.lines_before c.self.invariant
-    c.settle_into-3.ensures.named c.take_out_unnamed.ensures.taken now k t)
+    c.settle_into-3.ensures.named c.take_out_unnamed.ensures.taken now k t in
+    let packed : count_by (now_in pack.new.names pack.new.lines) keys k t ≡ count_by (now_in old.names old.lines) old.keys.keys k t = pack.ensures.now k t ∙ cut in
+    rw (← c.self.view_is) packed
 
 pub returns-clause-before : goal.returns-clause-before
 returns-clause-before g c k t =
     let old = c.self.inside in
     let now : (l t : ℕ) → count_now c.settle_into-2.new.self l t ≡ count_now old.lines l t = λ l t. c.settle_into-2.ensures.now l t ∙ c.give_up_words.ensures.now l t ∙ c.settle_into.ensures.now l t in
-    rw (← c.self.view_is)
-    (same_before c.cut.new.keys.keys c.cut.new.names c.cut.new.lines _ (lines_in c.cut.new.lines) c.cut.ensures.shared c.cut.ensures.log c.cut.ensures.steps k t
-    ∙ c.cut.ensures.now k t
+    let keys = c.cut.new.keys.keys in
+    let pack = c.pack_grown-self-inside in
+    let cut : count_by (now_in c.cut.new.names c.cut.new.lines) keys k t ≡ count_by (now_in old.names old.lines) old.keys.keys k t =
+    c.cut.ensures.now k t
     ∙ counts_kept old.keys.keys c.take_out_unnamed.new.keys.keys old.names c.settle_into-3.new.self c.take_out_unnamed.new.names old.lines c.settle_into-2.new.self old.keys_before old.lines_before c.self.invariant
-    c.settle_into-3.ensures.named c.take_out_unnamed.ensures.taken now k t)
+    c.settle_into-3.ensures.named c.take_out_unnamed.ensures.taken now k t in
+    let packed : count_by (now_in pack.new.names pack.new.lines) keys k t ≡ count_by (now_in old.names old.lines) old.keys.keys k t = pack.ensures.now k t ∙ cut in
+    rw (← c.self.view_is)
+    (same_before keys pack.new.names pack.new.lines _ (lines_in pack.new.lines) pack.ensures.shared pack.ensures.log pack.ensures.steps k t ∙ packed)
 
 pub returns-clause-counted : goal.returns-clause-counted
-returns-clause-counted g c = all_counted c.cut.new.keys.keys c.cut.new.names c.cut.new.lines _ (lines_in c.cut.new.lines) c.cut.ensures.shared c.cut.ensures.log
+returns-clause-counted g c =
+    let pack = c.pack_grown-self-inside in
+    all_counted c.cut.new.keys.keys pack.new.names pack.new.lines _ (lines_in pack.new.lines) pack.ensures.shared pack.ensures.log
 
 pub returns-clause-changes : goal.returns-clause-changes
-returns-clause-changes g c = omega (arith, ap length c.cut.ensures.log, c.cut.ensures.steps)
+returns-clause-changes g c = omega (arith, ap length c.pack_grown-self-inside.ensures.log, c.pack_grown-self-inside.ensures.steps)
 
 pub returns-clause-keys : goal.returns-clause-keys
 returns-clause-keys g c key at =
@@ -68,4 +78,9 @@ returns-clause-keys g c key at =
     (c.take_out_unnamed.ensures.taken.among key (among_take c.take_out_unnamed.new.keys.keys c.len-places.result (omega (arith, c.len-places.ensures.len)) key (rw c.cut.ensures.keys at at)))
 
 pub invariant_of-self : goal.invariant_of-self
-invariant_of-self g c = rw c.len-self-inside.ensures c.cut.ensures.shared
+invariant_of-self g c =
+    let keys = c.cut.new.keys.keys in
+    let pack = c.pack_grown-self-inside in
+    let places : length keys ≡ c.len-places.result =
+    omega (arith, ap length c.cut.ensures.keys, length-take-le c.len-places.result c.take_out_unnamed.new.keys.keys (omega (arith, c.len-places.ensures.len))) in
+    rw c.len-self-inside.ensures (subst (λ n. AreKeyed keys pack.new.names pack.new.lines n (lines_in pack.new.lines)) places pack.ensures.shared)
