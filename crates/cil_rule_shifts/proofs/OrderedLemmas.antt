@@ -1,12 +1,10 @@
 -- Permits put in their order, each once.
-use Rattle.cil_rule_shifts.proofs.Common.{◌≡◌, ℕ, ◌<◌, ◌==◌, ◌&&◌, Bool, true, false, cond, nat_lt, List, length, get_or, refl, sym, ap, ◌∙◌, subst, arith, eqb-true, ltb-true, ne_eqb, has_permit, is_permit, permit_cmp, Permit}
+use Rattle.cil_rule_shifts.proofs.Common.{◌≡◌, ℕ, ◌<◌, ◌==◌, Bool, true, false, List, length, get_or, refl, sym, ap, ◌∙◌, subst, eqb-true, has_permit, is_permit, permit_cmp, Permit}
 use Rattle.std.proofs.Common.{Contains}
-use Rattle.std.specs.Cmp.{IsEquivalence}
+use Rattle.std.specs.Cmp.{both_tied, unsigned_ties, IsEquivalence}
 use Rattle.std.specs.List.{dedup}
 use Rattle.std.specs.List.Sorted.{IsPermutation}
-use Rattle.std.specs.Ordering.{eq_by_cmp, is_eq, nat_cmp, ordering_then}
-use Rattle.std.specs.declared.cmp.Ordering.{Ordering}
-use Rattle.std.specs.declared.cmp.Ordering.TheVariants.{Less, Equal, Greater}
+use Rattle.std.specs.Ordering.{eq_by_cmp}
 use Rattle.std.proofs.lemmas.Bool.{and_parts}
 use Rattle.std.proofs.lemmas.Cmp.{eq_by_cmp_equiv}
 use Rattle.std.proofs.lemmas.List.Folds.{list_any_at, Any-from_list_any}
@@ -15,35 +13,17 @@ use Rattle.std.proofs.lemmas.List.Sorted.{list_any-IsPermutation}
 use Rattle.cil_rule_shifts.specs.contracts.permit.PermitPartialEq.TheImpl as derived
 use Rattle.cil_rule_shifts.proofs.PermitLemmas.{is-itself, permit-total}
 
-tied-numbers : (a b : ℕ) → is_eq (nat_cmp a b) ≡ (a == b)
-tied-numbers a b = by (nat_lt a b) refl
-  where
-    by : (l : Bool) → nat_lt a b ≡ l → is_eq (cond l Less (cond (a == b) Equal Greater)) ≡ (a == b)
-    by true below = sym (ne_eqb a b (λ e. omega (arith, ltb-true a b below, e)))
-    by false below = either (a == b)
-      where
-        either : (e : Bool) → is_eq (cond e Equal Greater) ≡ e
-        either true = refl
-        either false = refl
-
-tied-both : (o p : Ordering) → is_eq (ordering_then o p) ≡ (is_eq o && is_eq p)
-tied-both Less p = refl
-tied-both Equal p = refl
-tied-both Greater p = refl
-
 -- permits are equal where they tie
 pub ties : (x y : Permit) → derived.eq-value.it x y ≡ eq_by_cmp permit_cmp x y
-ties x y = sym (tied-both (nat_cmp x.class y.class) (nat_cmp x.permission y.permission) ∙ (λ i. tied-numbers x.class y.class i && tied-numbers x.permission y.permission i))
+ties x y = both_tied _ _ _ _ (unsigned_ties x.class y.class) (unsigned_ties x.permission y.permission)
 
 equal-permits : IsEquivalence derived.eq-value.it
 equal-permits = subst IsEquivalence (sym (λ i x y. ties x y i)) (eq_by_cmp_equiv permit-total)
 
 one-permit : (x y : Permit) → derived.eq-value.it x y ≡ true → x ≡ y
 one-permit x y same =
-    let parts = and_parts (x.class == y.class) (x.permission == y.permission) same in
-    let classes = eqb-true x.class y.class parts.0 in
-    let permissions = eqb-true x.permission y.permission parts.1 in
-    λ i. record { class = classes i; permission = permissions i }
+    let (classes, permissions) = and_parts (x.class == y.class) (x.permission == y.permission) same in
+    λ i. record { class = eqb-true x.class y.class classes i; permission = eqb-true x.permission y.permission permissions i }
 
 module _ (c q : ℕ) where
   abbrev permit : Permit

@@ -14,12 +14,13 @@ had-parts true true true false = refl
 
 -- and by one that it has: it was kept or got
 has-parts : (b q h n : Bool) → one_if (b && (q && (h && differs n false))) + one_if (b && (q && (n && differs h true))) ≡ one_if (b && (q && n))
-has-parts false q h n = refl
-has-parts true false h n = refl
-has-parts true true true true = refl
-has-parts true true true false = refl
-has-parts true true false true = refl
-has-parts true true false false = refl
+has-parts b q h n = let parts = had-parts b q n h in omega (arith, parts, ap (λ x. one_if (b && (q && x))) (either-way h n))
+  where
+    either-way : (h n : Bool) → (h && differs n false) ≡ (n && differs h false)
+    either-way true true = refl
+    either-way true false = refl
+    either-way false true = refl
+    either-way false false = refl
 
 -- where it moves, in three steps
 lost-moves : (a b q h n : Bool) → one_if (differs (a && (q && (h && differs n true))) false) + one_if (differs (a && (q && (h && differs n false))) (b && (q && (h && differs n false))))

@@ -7,7 +7,7 @@ use Rattle.cil_keyed_lines.specs.declared.moved.Moved.{Moved}
 use Rattle.cil_keyed_lines.specs.declared.symbol_key.SymbolKey.{SymbolKey}
 use Rattle.cil_sums.specs.Rises.{RisesBy}
 use Rattle.cil_rule_shifts.specs.Moves.{differs, moves_where}
-use Rattle.cil_rule_shifts.specs.Reach.{gives, has_head, has_source, one_if, takes, AreShort, IsShort}
+use Rattle.cil_rule_shifts.specs.Reach.{gives, has_head, has_source, one_if, reaches, takes, AreShort, IsShort}
 use Rattle.cil_rule_shifts.specs.declared.group.Group.{Group}
 use Rattle.cil_rule_shifts.specs.declared.head.RuleHead.{RuleHead}
 use Rattle.cil_rule_shifts.specs.declared.reach.Part.{Part}
@@ -43,6 +43,10 @@ pub record IsGroup {A : Type 0} (group : Group A) : Type 0 where
 -- all sources have the same targets
 abbrev pub ArePlain : {A : Type 0} → Targets A → Type 0
 ArePlain targets = (s t : ℕ) → takes targets s t ≡ takes targets 0 t
+
+-- the targets that some sources have by what a rule reaches
+abbrev pub AreTargetsOf : {A : Type 0} → Sources A → Reach A → Targets A → Type 0
+AreTargetsOf sources reach targets = (s t : ℕ) → (is_among sources s && takes targets s t) ≡ (is_among sources s && reaches reach s t)
 
 -- whether some sources have a target by a rule's kind and permits
 abbrev pub gives_to : {A : Type 0} → (ℕ → Bool) → RuleHead → Targets A → SymbolKey × ℕ → Bool

@@ -1,12 +1,12 @@
 //! The counters of the keys of a part of the sources of a rule, moved from what it gave to what it
 //! gives.
 
-ghost use Rattle.std.specs.Prelude.{◌≡◌, ◌&&◌, ℕ, false, true, IfOk, OnOk};
+ghost use Rattle.std.specs.Prelude.{◌≡◌, ℕ, false, true, IfOk, OnOk};
 ghost use Rattle.cil_keyed_lines.specs.Keyed.{steps_in, RiseAtMost, StaysBefore};
 ghost use Rattle.cil_rule_shifts.specs.Amounts.{ones, AreMoved, CountAtLeast};
-ghost use Rattle.cil_rule_shifts.specs.Groups.{gives_part, is_among, moves_part, AreSources};
+ghost use Rattle.cil_rule_shifts.specs.Groups.{gives_part, moves_part, AreSources, AreTargetsOf, IsGroup};
 ghost use Rattle.cil_rule_shifts.specs.Permits.{AreInOrder};
-ghost use Rattle.cil_rule_shifts.specs.Reach.{reaches, takes, AreShort};
+ghost use Rattle.cil_rule_shifts.specs.Reach.{takes};
 ghost use Rattle.cil_sums.specs.Rises.{RisesBy};
 
 use crate::group::{Group, shift_group};
@@ -16,37 +16,31 @@ use crate::targets::Targets;
 use cil_keyed_lines::KeyedLines;
 use std::alloc::{AllocError, Allocator};
 
-/// The targets that sources had: none where they were no sources.
-fn targets_before<'r, A: Allocator + Copy>(
+/// Sources with the targets that they had and those that they have: none where they were no sources,
+/// or are none.
+fn group_of<'r, A: Allocator + Copy>(
     sources: Sources<'r, A>,
     none: &'r Targets<A>,
-) -> &'r Targets<A>
+    for_good: bool,
+) -> Group<'r, A>
     requires sources { AreSources sources }
     requires none { (s t : ℕ) → takes none.now s t ≡ false }
-    ensures short { AreShort result.now }
-    ensures targets { (s t : ℕ) → (is_among sources.entry s && takes result.now s t)
-        ≡ (is_among sources.entry s && reaches sources.entry.was.now s t) }
+    ensures group { IsGroup result }
+    ensures sources { result.sources ≡ sources.entry }
+    ensures was { AreTargetsOf sources.entry sources.entry.was.now result.was.now }
+    ensures is { AreTargetsOf sources.entry sources.entry.is.now result.is.now }
+    ensures for_good { result.for_good ≡ for_good }
 {
-    match sources.part {
-        Part::Lost | Part::Kept => &sources.was.targets,
-        Part::Got => none,
-    }
-}
-
-/// The targets that sources have: none where they are no sources.
-fn targets_now<'r, A: Allocator + Copy>(
-    sources: Sources<'r, A>,
-    none: &'r Targets<A>,
-) -> &'r Targets<A>
-    requires sources { AreSources sources }
-    requires none { (s t : ℕ) → takes none.now s t ≡ false }
-    ensures short { AreShort result.now }
-    ensures targets { (s t : ℕ) → (is_among sources.entry s && takes result.now s t)
-        ≡ (is_among sources.entry s && reaches sources.entry.is.now s t) }
-{
-    match sources.part {
-        Part::Lost => none,
-        Part::Kept | Part::Got => &sources.is.targets,
+    let (was, is) = match sources.part {
+        Part::Lost => (&sources.was.targets, none),
+        Part::Kept => (&sources.was.targets, &sources.is.targets),
+        Part::Got => (none, &sources.is.targets),
+    };
+    Group {
+        sources,
+        was,
+        is,
+        for_good,
     }
 }
 
@@ -74,11 +68,6 @@ pub fn shift_part<A: Allocator + Copy>(
     ensures moved { IfOk result (RisesBy (moves_part sources.entry head.entry) 0) }
 {
     let none = Targets::Nothing;
-    let group = Group {
-        sources,
-        was: targets_before(sources, &none),
-        is: targets_now(sources, &none),
-        for_good,
-    };
+    let group = group_of(sources, &none, for_good);
     shift_group(lines, alloc, head, group)
 }

@@ -11,7 +11,7 @@ ghost use Rattle.cil_sums.specs.Rises.{RisesBy};
 use crate::grant::Grant;
 use crate::head::RuleHead;
 use crate::part::shift_part;
-use crate::permit::those;
+use crate::permit::{Permit, those};
 use crate::reach::{Part, Reach, Sources};
 use cil_keyed_lines::KeyedLines;
 use cil_text::RuleKind;
@@ -49,64 +49,9 @@ fn shift_permits<A: Allocator + Copy>(
     Ok(lost.saturating_add(kept).saturating_add(got))
 }
 
-/// Moves the counters of what a rule of a kind gave to those of what it gives by permits that may be
-/// others, and answers how many moved: first by the permits that it lost, then by those that it
-/// kept, and then by those that it got.
-fn shift_others<A: Allocator + Copy>(
-    lines: &mut KeyedLines<A>,
-    alloc: A,
-    kind: RuleKind,
-    was: Grant<'_, A>,
-    is: Grant<'_, A>,
-) -> Result<u128, AllocError>
-    requires was { IsGrant was }
-    requires is { IsGrant is }
-    requires counted { CountAtLeast lines.old (ones (grants kind was)) }
-    ensures now { OnOk result (AreMoved lines.old lines.new
-        (ones (grants kind was.entry)) (ones (grants kind is.entry))) }
-    ensures bounded { RiseAtMost lines.old lines.new (ones (grants kind is.entry)) }
-    ensures before { StaysBefore lines.old lines.new }
-    ensures moved { IfOk result (RisesBy (moves_from kind was.entry is.entry) 0) }
-{
-    let gone = those(alloc, was.permits, is.permits, true)?;
-    let kept = those(alloc, was.permits, is.permits, false)?;
-    let come = those(alloc, is.permits, was.permits, true)?;
-    let none = Reach::none(alloc);
-    let lost = shift_permits(
-        lines,
-        alloc,
-        RuleHead {
-            kind,
-            permits: &gone,
-        },
-        was.reach,
-        &none,
-    )?;
-    let turned = shift_permits(
-        lines,
-        alloc,
-        RuleHead {
-            kind,
-            permits: &kept,
-        },
-        was.reach,
-        is.reach,
-    )?;
-    let got = shift_permits(
-        lines,
-        alloc,
-        RuleHead {
-            kind,
-            permits: &come,
-        },
-        &none,
-        is.reach,
-    )?;
-    Ok(lost.saturating_add(turned).saturating_add(got))
-}
-
 /// Moves the counters of what a rule of a kind gave to those of what it gives, and answers how many
-/// moved, or the greatest `u128` where they are more. After an out of memory some counters may have
+/// moved, or the greatest `u128` where they are more. Where its permits changed, they move first by
+/// the permits that it lost, then by those that it kept, and then by those that it got. After an out of memory some counters may have
 /// moved; their steps are logged. No counter is more than 1 above what it was then, either.
 pub fn shift_rule<A: Allocator + Copy>(
     lines: &mut KeyedLines<A>,
@@ -125,12 +70,18 @@ pub fn shift_rule<A: Allocator + Copy>(
     ensures moved { IfOk result (RisesBy (moves_from kind was.entry is.entry) 0) }
 {
     if was.permits == is.permits {
-        let head = RuleHead {
-            kind,
-            permits: is.permits,
-        };
-        shift_permits(lines, alloc, head, was.reach, is.reach)
-    } else {
-        shift_others(lines, alloc, kind, was, is)
+        let permits = is.permits;
+        return shift_permits(lines, alloc, RuleHead { kind, permits }, was.reach, is.reach);
     }
+    let gone = those(alloc, was.permits, is.permits, true)?;
+    let kept = those(alloc, was.permits, is.permits, false)?;
+    let come = those(alloc, is.permits, was.permits, true)?;
+    let none = Reach::none(alloc);
+    let permits: &[Permit] = &gone;
+    let lost = shift_permits(lines, alloc, RuleHead { kind, permits }, was.reach, &none)?;
+    let permits: &[Permit] = &kept;
+    let turned = shift_permits(lines, alloc, RuleHead { kind, permits }, was.reach, is.reach)?;
+    let permits: &[Permit] = &come;
+    let got = shift_permits(lines, alloc, RuleHead { kind, permits }, &none, is.reach)?;
+    Ok(lost.saturating_add(turned).saturating_add(got))
 }
