@@ -51,8 +51,9 @@ fn shift_permits<A: Allocator + Copy>(
 
 /// Moves the counters of what a rule of a kind gave to those of what it gives, and answers how many
 /// moved, or the greatest `u128` where they are more. Where its permits changed, they move first by
-/// the permits that it lost, then by those that it kept, and then by those that it got. After an out of memory some counters may have
-/// moved; their steps are logged. No counter is more than 1 above what it was then, either.
+/// the permits that it lost, then by those that it kept, and then by those that it got. After an out
+/// of memory some counters may have moved; their steps are logged. No counter is more than 1 above
+/// what it was then, either.
 pub fn shift_rule<A: Allocator + Copy>(
     lines: &mut KeyedLines<A>,
     alloc: A,
