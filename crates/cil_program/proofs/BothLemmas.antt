@@ -1,5 +1,5 @@
 -- What is written on two sinks, and the exit status.
-use Rattle.cil_program.proofs.Common.{◌≡◌, ◌∙◌, ◌++◌, ◌≤◌, ◌<◌, ◌⊎◌, inl, inr, ℕ, List, [], Option, Result, Ok, Err, IfOk, IsErr, OnErr, refl, sym, subst, arith, Gains, GainsFront, HasFailed, Writes, WritesBoth, Tells, failed-later, front-longer, gains-both, gains-none, gains-then_front}
+use Rattle.cil_program.proofs.Common.{◌≡◌, ◌∙◌, ◌++◌, ◌≤◌, ◌<◌, ◌⊎◌, inl, inr, ℕ, List, [], Option, None, Result, Ok, Err, IfOk, IsErr, OnErr, refl, sym, subst, arith, Gains, GainsFront, HasFailed, Writes, WritesBoth, Tells, failed-later, front-longer, gains-both, gains-none, gains-then_front}
 use Rattle.std.specs.Result.{result_and}
 use Rattle.std.proofs.Math.Nat.{eq-or-lt_of_le}
 use Rattle.cil_stream.specs.declared.sink.SinkFault.{SinkFault}
@@ -7,9 +7,9 @@ use Rattle.cil_program.specs.CommandLine.{Written}
 use Rattle.cil_program.specs.Program.{IsAnswered}
 use Rattle.cil_program.proofs.CommandLineLemmas.{front-all, front-none}
 
--- a sink by what it tells
+-- a sink by what it took and how often it failed; nothing is said of what was flushed
 abbrev pub written_by : {W : Type 0} → (W → Option (List ℕ)) → (W → ℕ) → W → Written
-written_by taken failures w = record { taken = taken w; flushed = taken w; failures = failures w }
+written_by taken failures w = record { taken = taken w; flushed = None; failures = failures w }
 
 failed-kept : (old mid new : ℕ) → old ≤ mid → mid ≤ new → HasFailed old mid → HasFailed old new
 failed-kept old mid new a b (inl rose) = inl (omega (arith, rose, b))

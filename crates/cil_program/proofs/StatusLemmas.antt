@@ -26,7 +26,7 @@ module _ (printed told : List ℕ) (status : ℕ) where
 
   names-low : (content : List ℕ → Content) (paths : List (List ℕ)) (conditionals : Conditionals) (wanted : Wanted) (answer : List ℕ) → AnswersByNames content paths conditionals wanted printed answer status → status ≤ 3
   names-low content paths conditionals wanted answer (answers texts projected counts read are made) = projected-low paths projected counts wanted answer made
-  names-low content paths conditionals wanted answer (one_unreadable path reason among unreadable prints tells_it is) = omega (arith, is)
+  names-low content paths conditionals wanted answer (one_unreadable path reason among unread prints tells_it is) = omega (arith, is)
   names-low content paths conditionals wanted answer (one_not_projected path text name hint refusal among read names isnt prints tells_it is) = omega (arith, is)
   names-low content paths conditionals wanted answer (none_held prints tells_it is) = omega (arith, is)
 
@@ -40,7 +40,7 @@ module _ (printed told : List ℕ) (status : ℕ) where
 
   files-low : (content : List ℕ → Content) (paths : List (List ℕ)) (report : Report) → CompilesFiles content paths report printed told status → status ≤ 3
   files-low content paths report (compiles entries all made) = compiles-low _ entries report told made
-  files-low content paths report (is_unreadable path among unreadable prints tells_it is) = omega (arith, is)
+  files-low content paths report (is_unreadable path among unread prints tells_it is) = omega (arith, is)
   files-low content paths report (is_not_held prints tells_it is) = omega (arith, is)
 
   compiled-low : (foreign : Foreign) (content : List ℕ → Content) (paths : List (List ℕ)) (report : Report) → IsCompiled foreign content paths report printed told status → status ≤ 3

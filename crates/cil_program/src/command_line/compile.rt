@@ -1,7 +1,7 @@
 //! The compilation of entries at once.
 
-ghost use Rattle.std.specs.Prelude.{◌≡◌, ◌⊎◌, ◌≤◌, [], List, ℕ, map, length, IfOk, IsErrOf, OnErr};
-ghost use Rattle.cil_program.specs.Common.{Gains, GainsFront, HasFailed, IsMeaningOf, Of, accepts, Store, entry_of, Compiles};
+ghost use Rattle.std.specs.Prelude.{◌≡◌, ◌≤◌, [], List, ℕ, map, length, IfOk, IsErrOf};
+ghost use Rattle.cil_program.specs.Common.{Gains, GainsFront, HasFailed, IsMeaningOf, Of, accepts, Store, entry_of, Compiles, WritesBoth};
 ghost use Rattle.cil_resolve.specs.Resolved.{meaning_in};
 ghost use Rattle.cil_specs.specs.Violations.{Violation};
 ghost use Rattle.cil_program.specs.CommandLine.{status_of_violations};
@@ -81,18 +81,8 @@ pub fn compile_entries<W: Sink, E: Sink, A: Allocator + Copy>(
     out: &mut W,
     err: &mut E,
 ) -> Result<u8, SinkFault>
-    ensures ok { IfOk result (λ status. (printed : List ℕ) × (told : List ℕ)
-        × Gains (W.taken out.old) (W.taken out.new) printed
-        × Gains (E.taken err.old) (E.taken err.new) told
-        × Compiles asked.explained (map entry_of entries.now) asked.report printed told status) }
-    ensures err { OnErr result ((printed : List ℕ) × (told : List ℕ) × (status : ℕ)
-        × GainsFront (W.taken out.old) (W.taken out.new) printed
-        × GainsFront (E.taken err.old) (E.taken err.new) told
-        × Compiles asked.explained (map entry_of entries.now) asked.report printed told status) }
-    ensures failed { OnErr result (HasFailed (W.failures out.old) (W.failures out.new)
-        ⊎ HasFailed (E.failures err.old) (E.failures err.new)) }
-    ensures out_counted { W.failures out.old ≤ W.failures out.new }
-    ensures err_counted { E.failures err.old ≤ E.failures err.new }
+    ensures { WritesBoth W.taken W.failures out.old out.new E.taken E.failures err.old err.new
+        (Compiles asked.explained (map entry_of entries.now) asked.report) result }
 {
     let policy = match Policy::of(alloc, asked.seed, entries) {
         Ok(policy) => policy,

@@ -32,10 +32,10 @@ lacks-told {taken = taken} {failures = failures} {err_taken = err_taken} {err_fa
     (both-finished told status both same err_same counted err_counted ok three)
 
 pub returns-clause-status : goal.returns-clause-status
-returns-clause-status g c = both-low _ c.answer_compile-answered.result c.finish-2.result (λ printed told status. written-low printed told status _ _) c.answer_compile-answered.ensures c.finish-2.ensures.ok c.finish-2.ensures.err
+returns-clause-status g c = both-low _ c.answer_compile-answered.result c.finish-2.result (λ printed told status. written-low printed told status (λ _. untold) (rows_of (found_of c.in-Some-subcommand_matches.asked.now))) c.answer_compile-answered.ensures c.finish-2.ensures.ok c.finish-2.ensures.err
 
 pub returns-in-Some-clause-status : goal.returns-in-Some-clause-status
-returns-in-Some-clause-status g c = both-low _ c.answer_project-printed.result c.finish-in-Some.result (λ printed told status. printed-low printed told status _ _) c.answer_project-printed.ensures c.finish-in-Some.ensures.ok c.finish-in-Some.ensures.err
+returns-in-Some-clause-status g c = both-low _ c.answer_project-printed.result c.finish-in-Some.result (λ printed told status. printed-low printed told status (λ _. untold) (rows_of (found_of c.in-Some.asked.now))) c.answer_project-printed.ensures c.finish-in-Some.ensures.ok c.finish-in-Some.ensures.err
 
 pub returns-in-Err-clause-status : goal.returns-in-Err-clause-status
 returns-in-Err-clause-status g c = both-low _ c.tell-told.result c.finish.result (λ printed told status is. is.0) c.tell-told.ensures c.finish.ensures.ok c.finish.ensures.err

@@ -20,6 +20,4 @@ returns g c =
     let entries = map entry_of written in
     let of = subst (λ l. AllZip (λ f e. IsEntryFor f.path.now f.text.items (entry_of e)) l c.in-Ok.entries.items) c.as_slice.ensures.value c.in-Ok.ensures in
     let are = entries-for (λ f. f.path.now) (λ f. f.text.items) entry_of files written (subst (AllZip (λ f e. IsEntryFor f.path.now f.text.items (entry_of e)) files) (sym c.as_slice-2.ensures.value) of) in
-    let made = c.compile_entries.ensures in
-    both-after {P = Compiles true entries c.args.report} c.compile_entries.result c.in_ok-write_note.ensures (λ printed told status compiled. are_compiled c.args.report entries told refl are compiled refl)
-    (record { ok = made.ok; cut = made.err; failed = made.failed; out_counted = made.out_counted; err_counted = made.err_counted })
+    both-after {P = Compiles true entries c.args.report} c.compile_entries.result c.in_ok-write_note.ensures (λ printed told status compiled. are_compiled c.args.report entries told refl are compiled refl) c.compile_entries.ensures

@@ -1,4 +1,4 @@
-use Rattle.cil_program.proofs.Common.{Bool, Err, ◌≡◌, inl, inr, List, [], map, refl, ap, Entry, empty, gains-none, install_of, entry_of, refusal_of, Compiles, is_refused, lacks_memory}
+use Rattle.cil_program.proofs.Common.{Bool, Err, inl, inr, List, [], map, refl, ap, arith, Entry, empty, gains-none, install_of, entry_of, refusal_of, Compiles, is_refused, lacks_memory}
 use Rattle.cil_program.specs.Meanings.{refusal_text}
 use Rattle.cil_store_specs.specs.Next.{Refusal}
 use Rattle.cil_store.specs.Refusing.{AreRefused}
@@ -13,29 +13,28 @@ refusing explained entries report refusal (inr of) = is_refused refusal of refl 
 
 pub returns-in-Err : goal.returns-in-Err
 returns-in-Err g c =
-    let entries = map entry_of c.args.entries.now in
-    let made = both-told {taken = g.W.Sink.taken} {failures = g.W.Sink.failures} {out = c.args.out.now} {IsMeant = Compiles c.args.asked.explained entries c.args.asked.report} 1 _ c.write_refusal.ensures c.and.ensures
-    (refusing c.args.asked.explained entries c.args.asked.report (refusal_of c.in-Err.refusal) c.in-Err.ensures.err) in
-    record { ok = made.ok; err = made.cut; failed = made.failed; out_counted = made.out_counted; err_counted = made.err_counted }
+    both-told 1 _ c.write_refusal.ensures c.and.ensures
+    (refusing c.args.asked.explained (map entry_of c.args.entries.now) c.args.asked.report (refusal_of c.in-Err.refusal) c.in-Err.ensures.err)
 
-pub returns-in-Ok-write_report-clause-ok : goal.returns-in-Ok-write_report-clause-ok
-returns-in-Ok-write_report-clause-ok g c =
+pub returns-in-Ok-write_report : goal.returns-in-Ok-write_report
+returns-in-Ok-write_report g c =
     let (store, of, meant) = c.in-Ok.ensures.ok in
     let written = c.in-Ok-write_report.ensures.ok c.args.asked.explained (map entry_of c.args.entries.now) store of meant in
-    (written.0, [], written.1, gains-none (g.E.Sink.taken c.args.err.now), written.2)
+    record { ok = (written.0, [], written.1, gains-none (g.E.Sink.taken c.args.err.now), written.2); cut = tt; failed = tt; out_counted = c.write_report.ensures.counted; err_counted = omega arith }
 
 pub returns-in-Err-Memory : goal.returns-in-Err-Memory
 returns-in-Err-Memory g c =
-    let made = both-kept c.and.result (c.in-Err-Memory.ensures.memory (ap Err c.in-Err-Memory.field-0-is)) c.write_report.ensures.counted
-    (both-told {taken = g.W.Sink.taken} {failures = g.W.Sink.failures} {out = c.write_report.new.out} {IsMeant = Compiles c.args.asked.explained (map entry_of c.args.entries.now) c.args.asked.report} 1 _ c.write_no_memory.ensures c.and.ensures
-    (lacks_memory refl refl refl)) in
-    record { ok = made.ok; err = made.cut; failed = made.failed; out_counted = made.out_counted; err_counted = made.err_counted }
+    both-kept c.and-in-Err-Memory.result (c.in-Err-Memory.ensures.memory (ap Err c.in-Err-Memory.field-0-is)) c.write_report.ensures.counted
+    (both-told 1 _ c.write_no_memory.ensures c.and-in-Err-Memory.ensures (lacks_memory refl refl refl))
 
-pub returns-clause-failed : goal.returns-clause-failed
-returns-clause-failed g c = inl (c.in-Err-Sink.ensures.failed (ap Err c.in-Err-Sink.field-0-is))
-
-pub returns-clause-err : goal.returns-clause-err
-returns-clause-err g c =
+pub returns : goal.returns
+returns g c =
     let (store, of, meant) = c.in-Ok.ensures.ok in
-    let begun = c.in-Err-Sink.ensures.err c.args.asked.explained (map entry_of c.args.entries.now) store of meant (ap Err c.in-Err-Sink.field-0-is) in
-    (begun.0, [], begun.1, begun.2, front-none (g.E.Sink.taken c.args.err.now), begun.3)
+    let is = ap Err c.in-Err-Sink.field-0-is in
+    let begun = c.in-Err-Sink.ensures.err c.args.asked.explained (map entry_of c.args.entries.now) store of meant is in record {
+      ok = tt;
+      cut = (begun.0, [], begun.1, begun.2, front-none (g.E.Sink.taken c.args.err.now), begun.3);
+      failed = inl (c.in-Err-Sink.ensures.failed is);
+      out_counted = c.write_report.ensures.counted;
+      err_counted = omega arith;
+    }

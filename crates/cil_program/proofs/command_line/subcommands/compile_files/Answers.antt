@@ -36,6 +36,4 @@ returns g c =
     let read = subst (All (λ file. IsReadOf (content file.path.now) file.text.items)) (sym c.as_slice.ensures.value) c.in-Ok.ensures.texts in
     let all = subst (λ paths. AllZip (IsEntryAt content) paths entries) files_are
     (placed content (λ file. file.path.now) (λ file. file.text.items) entry_of c.as_slice.result.now c.as_slice-2.result.now read (rw c.as_slice-2.ensures.value c.in-Ok-entries_of.ensures)) in
-    let made = c.compile_entries.ensures in
-    both-wider {P = Compiles false entries c.args.asked.report} c.compile_entries.result (λ printed told status compiled. compiles entries all compiled)
-    (record { ok = made.ok; cut = made.err; failed = made.failed; out_counted = made.out_counted; err_counted = made.err_counted })
+    both-wider {P = Compiles false entries c.args.asked.report} c.compile_entries.result (λ printed told status compiled. compiles entries all compiled) c.compile_entries.ensures
