@@ -5,9 +5,6 @@ use Rattle.cil_program.proofs.Common.{ℕ, List, [], length, Option, Result, Ok,
 pub front-none : (old : Option (List ℕ)) → GainsFront old old []
 front-none old = (0, omega arith, gains-none old)
 
-pub front-nothing : (old : Option (List ℕ)) (text : List ℕ) → GainsFront old old text
-front-nothing old text = (0, omega arith, gains-none old)
-
 -- all of a text begins it
 pub front-all : (old new : Option (List ℕ)) (text : List ℕ) → Gains old new text → GainsFront old new text
 front-all old new text gains = (

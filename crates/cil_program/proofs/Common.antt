@@ -17,9 +17,9 @@ pub use Rattle.cil_store.specs.Stored.{entry_of}
 pub use Rattle.cil_store_specs.specs.Next.{at_place, by_store, for_memory, install_of}
 pub use Rattle.cil_store_specs.specs.Script.{refusal_line}
 pub use Rattle.cil_store_specs.specs.Store.{Entry, Store, empty}
-pub use Rattle.cil_stream.proofs.Gaining.{failed-later, front-longer, gains-both, gains-none, gains-then_front, on_err}
+pub use Rattle.cil_stream.proofs.Gaining.{failed-later, front-longer, gains-both, gains-none, gains-then_front}
 pub use Rattle.cil_stream.specs.Device.{Gains, GainsFront, HasFailed}
-pub use Rattle.clap.specs.Simple.{App, app_of, app_of_fields, is_simple, new_app, on_top, subcommand_of, with_rule, with_subcommand}
+pub use Rattle.clap.specs.Simple.{App, app_of, app_of_fields, is_simple, on_top, subcommand_of, with_rule, with_subcommand}
 pub use Rattle.clap.specs.Walk.{Row, Text, rows_of}
 pub use Rattle.std.proofs.Common.{All, Bool, Err, IfOk, IsErr, List, None, Ok, OnErr, OnOk, Option, Result, Some, [], ap, append-nil, ap₂, arith, codes, drop, false, inl, inr, length, map, option_map, refl, rules, subst, sym, take, true, true≢false, unwrap_or, ℕ, ◌++◌, ◌<◌, ◌||◌, ◌∙◌, ◌∷◌, ◌≡◌, ◌≢◌, ◌≤◌, ◌⊎◌}
 pub use Rattle.std.proofs.lemmas.List.{map-append, take-append-drop, take_all, take_more}

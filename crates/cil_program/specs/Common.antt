@@ -1,9 +1,8 @@
 -- The names from elsewhere that this crate's contracts cite most, passed on from one place.
 pub use Rattle.cil_program.specs.CommandLine.{AnswersSession, AsksSession, Compiles, CompilesFiles, IsTold, LacksMemory, Tells, WritesBoth, unreadable_line, untold}
-pub use Rattle.cil_program.specs.ByNames.{AnswersByNames, AnswersFor, IsRefusalBy, hint_by}
+pub use Rattle.cil_program.specs.ByNames.{AnswersByNames, AnswersFor}
 pub use Rattle.cil_program.specs.Conditionals.{conditionals_in, foreign_in, misuse_text}
 pub use Rattle.cil_program.specs.Given.{AnswersGiven}
-pub use Rattle.cil_program.specs.Meanings.{refusal_text}
 pub use Rattle.cil_program.specs.Program.{AnswersCompile, AnswersProject, IsReportAsked, IsToBePrinted, IsToBeWritten, IsWanted, compile_app, conditionals_asked, foreign_asked, program_app, project_app}
 pub use Rattle.cil_program.specs.Targets.{IsStored}
 pub use Rattle.cil_program.specs.Wanted.{compiled, in_folder, wanted_in}

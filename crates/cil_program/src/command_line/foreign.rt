@@ -1,6 +1,6 @@
 //! Files whose statements outside the language are taken by their names alone.
 
-ghost use Rattle.std.specs.Prelude.{◌≡◌, ◌≤◌, ◌++◌, ◌∷◌, [], List, ℕ, length, map, IfOk, IfErr, OnOk, OnErr};
+ghost use Rattle.std.specs.Prelude.{◌≡◌, ◌≤◌, ◌++◌, ◌∷◌, [], List, ℕ, length, map, IfOk, IfErr, OnOk};
 ghost use Rattle.cil_projection.specs.Conditions.{Collects, settings_of};
 ghost use Rattle.cil_projection.specs.Statements.{Projects, Tallies};
 ghost use Rattle.cil_program.specs.ByNames.{AreHindered, AreProjected, AreProjections, InTurn, IsGiven, IsKnown};

@@ -1,6 +1,6 @@
 //! What is written of the kinds of statements that were taken by their names.
 
-ghost use Rattle.std.specs.Prelude.{◌≡◌, flat_map};
+ghost use Rattle.std.specs.Prelude.{flat_map};
 ghost use Rattle.cil_program.specs.Common.{Writes};
 ghost use Rattle.cil_program.specs.Kinds.{kind_in, kind_line, kinds_text};
 

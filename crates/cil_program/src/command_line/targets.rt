@@ -1,6 +1,6 @@
 //! The files that projections are written to.
 
-ghost use Rattle.std.specs.Prelude.{◌≡◌, All, Contains, map, IfOk, IfErr, OnOk};
+ghost use Rattle.std.specs.Prelude.{All, Contains, map, IfOk, IfErr, OnOk};
 ghost use Rattle.std.specs.List.{AllZip};
 ghost use Rattle.std.specs.Path.{path_buf_bytes};
 ghost use Rattle.cil_program.specs.Targets.{IsTarget};

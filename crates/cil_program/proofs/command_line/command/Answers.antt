@@ -1,4 +1,4 @@
-use Rattle.cil_program.proofs.Common.{◌≡◌, ◌∙◌, ◌≤◌, ◌⊎◌, inl, inr, ℕ, List, [], Option, Result, IfOk, OnErr, HasFailed, WritesBoth, option_map, unwrap_or, ap, sym, subst, arith, take_all, Row, rows_of, Gains, GainsFront, gains-none, untold, IsToBePrinted, IsToBeWritten}
+use Rattle.cil_program.proofs.Common.{◌≡◌, ◌∙◌, ◌≤◌, ◌⊎◌, inl, inr, ℕ, List, [], Option, Result, IfOk, OnErr, HasFailed, WritesBoth, option_map, unwrap_or, ap, sym, subst, arith, take_all, rows_of, Gains, GainsFront, gains-none, untold, IsToBePrinted, IsToBeWritten}
 use Rattle.clap.specs.Matches.{found_of}
 use Rattle.clap.specs.declared.error.kind.ErrorKind.{ErrorKind}
 use Rattle.clap.specs.declared.error.kind.ErrorKind.TheVariants.{OutOfMemory}

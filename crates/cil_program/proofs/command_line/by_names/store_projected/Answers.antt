@@ -1,7 +1,7 @@
-use Rattle.cil_program.proofs.Common.{◌++◌, [], All, append-nil, map, refl, subst, arith, AllZip, IfOk-weaker, Ok, are_not_held, are_stored, note_line, one_unwritable}
+use Rattle.cil_program.proofs.Common.{[], All, append-nil, map, refl, subst, arith, AllZip, IfOk-weaker, Ok, are_not_held, are_stored, note_line, one_unwritable}
 use Rattle.std.specs.Prelude.{Contains}
 use Rattle.std.specs.Path.{path_buf_bytes}
-use Rattle.cil_program.specs.Targets.{IsPathIn, IsStored, IsTarget, unwritable_text}
+use Rattle.cil_program.specs.Targets.{IsPathIn, IsStored, IsTarget}
 use Rattle.cil_program.proofs.BothLemmas.{and-status, both-after, both-cut, both-told}
 use Rattle.cil_program.proofs.ZipLemmas.{all_zip-first, all_zip-found}
 use Rattle.cil_program.proofs.command_line.by_names.store_projected.Goals as goal

@@ -1,4 +1,4 @@
-use Rattle.cil_program.proofs.Common.{◌≡◌, ◌∙◌, IfOk-weaker}
+use Rattle.cil_program.proofs.Common.{◌∙◌, IfOk-weaker}
 use Rattle.cil_program.specs.Program.{files_app}
 use Rattle.cil_program.proofs.command_line.words.compile_command.Goals as goal
 

@@ -1,4 +1,4 @@
-use Rattle.cil_program.proofs.Common.{◌≡◌, ◌∙◌, Some, ap, IfOk-weaker}
+use Rattle.cil_program.proofs.Common.{◌∙◌, Some, ap, IfOk-weaker}
 use Rattle.clap.specs.Walk.{Rule}
 use Rattle.clap.specs.Words.{rule_of}
 use Rattle.cil_program.specs.Program.{files_app}
