@@ -14,7 +14,7 @@ pub use Rattle.cil_member_updates.specs.Passes.{gave_in, given_by, gives_in, gon
 pub use Rattle.cil_member_updates.specs.Places.{no_declared, no_set, set_at}
 pub use Rattle.cil_member_updates.specs.Policy.{AreCounts, counts_at}
 unfoldable pub use Rattle.cil_member_updates.specs.Policy.{given}
-pub use Rattle.cil_member_updates.specs.Reading.{AreVisits, CoversStayed, HasStayed, MayHold, MayMove, MustHold, MustMove, Reads, Stays, given_of, held_by, is_given, is_held, lowered, lowered_by, new_in, old_in, raised, raised_by, set_of, was_given, was_held}
+pub use Rattle.cil_member_updates.specs.Reading.{AreVisits, CoversStayed, EvaluatesWord, HasStayed, MayHold, MayMove, MustHold, MustMove, Reads, Stays, given_of, held_by, is_given, is_held, lowered, lowered_by, new_in, old_in, raised, raised_by, set_of, was_given, was_held}
 pub use Rattle.cil_member_updates.specs.Steps.{AreLowered, AreRenewed, ComesIn, EvaluatesGone, EvaluatesNew, GoesIn, MayGoIn, MayTurnIn, new_sets, old_sets}
 pub use Rattle.cil_parse.specs.Lexicon.{AreNumbersOf}
 pub use Rattle.cil_resolve.specs.Meter.{adjustments_in, evaluations_in}

@@ -1,7 +1,7 @@
 //! Lines of counters where programs don't reach: targets behind those of any policy, lists without a line, and rows without a step.
 
 use cil_accesses::{AccessNumbers, Accesses, Chunk};
-use cil_keyed_lines::{KeyedLines, SymbolKey};
+use cil_keyed_lines::{KeyedLines, Moved, SymbolKey};
 use cil_lines::Line;
 use cil_member_rows::MemberRows;
 use cil_recorded::RecordedLines;
@@ -113,7 +113,12 @@ fn list_fills(alloc: Global) -> Result<bool, AllocError> {
 fn keyed_list_fills(alloc: Global) -> Result<bool, AllocError> {
     let mut lines = KeyedLines::new(alloc);
     let was_empty = lines.is_empty();
-    lines.add(alloc, key(KEYS[0]), 2, 1)?;
+    let moved = Moved {
+        word: 2,
+        gone: 0,
+        come: 1,
+    };
+    lines.add(alloc, &[key(KEYS[0])], &[moved])?;
     Ok(was_empty && !lines.is_empty())
 }
 
