@@ -1,4 +1,4 @@
-//! Lines that no place names, which the last lines take the places of.
+//! Packing: the last lines move to where there are lines that no place names.
 
 ghost use Rattle.std.specs.Prelude.{◌≡◌, ◌≢◌, ◌<◌, ◌≤◌, [], ℕ, length, slice_index};
 ghost use Rattle.cil_recorded.specs.Recorded.{count_now, lines_in, steps_in};
@@ -15,7 +15,8 @@ use std::alloc::Allocator;
 fn fill_gaps<A: Allocator>(users: &mut Vec<usize, A>, lines: &mut RecordedLines<A>) -> usize
     requires some { 0 < length users.old.items }
     requires fits { lines_in lines.old ≤ length users.old.items }
-    requires within { (l : ℕ) → l ≢ 0 → 0 < slice_index users.old.items l → l < lines_in lines.old }
+    requires within { (l : ℕ) → l ≢ 0 → 0 < slice_index users.old.items l
+        → l < lines_in lines.old }
     requires settled { steps_in lines.old ≡ 0 }
     ensures some { 0 < result }
     ensures most { result ≤ length users.new.items }
@@ -91,12 +92,14 @@ impl<A: Allocator> Names<A> {
         requires steps { steps_in lines.old ≡ 0 }
         requires some { 0 < lines_in lines.old }
         requires fits { lines_in lines.old ≤ self.old.lines }
-        requires within { (p : ℕ) → name_now self.old p ≢ 0 → name_now self.old p < lines_in lines.old }
+        requires within { (p : ℕ) → name_now self.old p ≢ 0
+            → name_now self.old p < lines_in lines.old }
         ensures len { length self.new.named ≡ length self.old.named }
         ensures log { self.new.log ≡ [] }
         ensures steps { steps_in lines.new ≡ 0 }
         ensures fits { lines_in lines.new ≤ self.new.lines }
-        ensures within { (p : ℕ) → name_now self.new p ≢ 0 → name_now self.new p < lines_in lines.new }
+        ensures within { (p : ℕ) → name_now self.new p ≢ 0
+            → name_now self.new p < lines_in lines.new }
         ensures named { (p : ℕ) → name_now self.new p ≡ 0 → name_now self.old p ≡ 0 }
         ensures now { (p t : ℕ) → now_in self.new lines.new p t ≡ now_in self.old lines.old p t }
         ensures first { (t : ℕ) → count_now lines.new 0 t ≡ count_now lines.old 0 t }
