@@ -71,7 +71,13 @@ pub fn shift_rule<A: Allocator + Copy>(
 {
     if was.permits == is.permits {
         let permits = is.permits;
-        return shift_permits(lines, alloc, RuleHead { kind, permits }, was.reach, is.reach);
+        return shift_permits(
+            lines,
+            alloc,
+            RuleHead { kind, permits },
+            was.reach,
+            is.reach,
+        );
     }
     let gone = those(alloc, was.permits, is.permits, true)?;
     let kept = those(alloc, was.permits, is.permits, false)?;
@@ -80,7 +86,13 @@ pub fn shift_rule<A: Allocator + Copy>(
     let permits: &[Permit] = &gone;
     let lost = shift_permits(lines, alloc, RuleHead { kind, permits }, was.reach, &none)?;
     let permits: &[Permit] = &kept;
-    let turned = shift_permits(lines, alloc, RuleHead { kind, permits }, was.reach, is.reach)?;
+    let turned = shift_permits(
+        lines,
+        alloc,
+        RuleHead { kind, permits },
+        was.reach,
+        is.reach,
+    )?;
     let permits: &[Permit] = &come;
     let got = shift_permits(lines, alloc, RuleHead { kind, permits }, &none, is.reach)?;
     Ok(lost.saturating_add(turned).saturating_add(got))
