@@ -1,5 +1,12 @@
 -- The keys of sources, each once, and the counters that move where these move alike.
 use Rattle.cil_rule_shifts.proofs.Common.{◌≡◌, ℕ, ◌+◌, ◌-◌, ◌*◌, ◌^◌, ◌<◌, ◌≤◌, ◌==◌, ◌&&◌, ◌||◌, ◌++◌, Bool, true, false, not, if◌then◌else◌, nat_eq, nat_lt, List, [], ◌∷◌, length, take, get_or, min, refl, sym, ap, ◌∙◌, subst, arith, true≢false, le-ltb, ltb-true, add-zero, zero-add, eq-eqb, cases_eq, inl, inr, ne_eqb, is_key, is_kind, SymbolKey, came, differs, gives_to, has_head, has_key, has_permit, is_line, is_permit, moves_to, of_keys, one_if, ones_of, takes, went, AreInOrder, AreKeysOf, AreMovesOf, IsNext, Moved, NoneFrom, Permit, RuleHead, Targets, RisesBy, rises-added, rises-both, rises-map, rises-more, rises-none, rises-same, same-from_counts}
+use Rattle.std.proofs.Common.{IfOk, Ok, OnOk, Result}
+use Rattle.std.specs.Prelude.{IsErr}
+use Rattle.std.proofs.lemmas.Result.{IfOk-from_err, IfOk-weaker}
+use Rattle.cil_keyed_lines.specs.Keyed.{Keyed, count_now, steps_in, RiseAtMost, StaysBefore}
+use Rattle.cil_rule_shifts.specs.Amounts.{ones, AreMoved, CountAtLeast}
+use Rattle.cil_rule_shifts.specs.Groups.{had_by, AreShifted, CanMove}
+use Rattle.cil_rule_shifts.specs.declared.group.Group.{Group}
 use Rattle.std.specs.Cmp.{IsEquivalence}
 use Rattle.std.specs.List.{AllByRecursion, IsDistinct}
 use Rattle.std.proofs.Math.Bool.{and-false, and-true, or-false, or_assoc}
@@ -9,7 +16,7 @@ use Rattle.std.proofs.lemmas.List.Folds.{list_any-append, list_any_more}
 use Rattle.std.proofs.lemmas.Map.Keys.{IsDistinct-push}
 use Rattle.cil_keyed_lines.proofs.KeyedLemmas.{key_itself, kind_itself, one_key}
 use Rattle.cil_rule_shifts.proofs.PermitLemmas.{is-itself, new-permit}
-use Rattle.cil_rule_shifts.proofs.ShiftLemmas.{next-more, source-all, source-more, wider}
+use Rattle.cil_rule_shifts.proofs.ShiftLemmas.{next-more, source-all, source-more}
 
 -- ---- keys
 
@@ -234,6 +241,35 @@ module _ {A : Type 0} (among : ℕ → Bool) (head : RuleHead) (keys : List Symb
       (λ p. split (has_key keys p.0) (alike.had p.1) (alike.has p.1) ∙ sym (λ i. differs (of-keys was alike.had alike.were p.0 p.1 i) (of-keys is alike.has alike.are p.0 p.1 i)))
       (rises-keys (λ t. differs (alike.had t) (alike.has t)) (ones_of moved) alike.moves.ones keys alike.of.distinct)) (omega (arith, sum))
 
+-- the counters of keys of some sources of a group that have the same targets
+module _ {A : Type 0} (among : ℕ → Bool) (group : Group A) (lines : Keyed) (keys : List SymbolKey) (moved : List Moved) (alike : AreAlike among group.head keys moved group.was.now group.is.now) where
+  pub alike-can_move : CountAtLeast lines (ones (had_by among group)) → CanMove lines keys moved
+  alike-can_move counted = record {
+    distinct = alike.of.distinct;
+    words = alike.moves.words;
+    counted = λ k t. keys-above among group.head keys moved group.was.now group.is.now alike k t _ (counted k t);
+  }
+
+  pub alike-shifted : {E : Type 0} (after : Keyed) (result : Result ℕ E) → (group.for_good ≡ true → steps_in after ≡ 0) → OnOk result (AreMoved lines after (of_keys keys (went moved)) (of_keys keys (came moved)))
+      → RiseAtMost lines after (of_keys keys (came moved)) → (group.for_good ≡ false → StaysBefore lines after) → IfOk result (λ n. n ≡ min (length keys * ones_of moved) (2 ^ 128 - 1)) → AreShifted among group lines after result
+  alike-shifted after result settled now bounded before sum = record {
+    settled = settled;
+    now = IfOk-weaker result _ _ (λ _ step k t. keys-now among group.head keys moved group.was.now group.is.now alike k t _ _ (step k t)) now;
+    bounded = λ k t. keys-bounded among group.head keys moved group.was.now group.is.now alike k t _ _ (bounded k t);
+    before = before;
+    moved = IfOk-weaker result _ _ (λ n. keys-rise among group.head keys moved group.was.now group.is.now alike n) sum;
+  }
+
+-- where memory runs out before anything moved
+pub unshifted : {A E : Type 0} (among : ℕ → Bool) (group : Group A) (lines : Keyed) (result : Result ℕ E) → IsErr result → (group.for_good ≡ true → steps_in lines ≡ 0) → AreShifted among group lines lines result
+unshifted among group lines result none settled = record {
+  settled = settled;
+  now = IfOk-from_err result _ none;
+  bounded = λ k t. omega arith;
+  before = λ _ k t. refl;
+  moved = IfOk-from_err result _ none;
+}
+
 -- ---- targets that are the same
 
 module _ {A : Type 0} (among : ℕ → Bool) (head : RuleHead) (was is : Targets A) (same : (s t : ℕ) → takes was s t ≡ takes is s t) where
@@ -246,6 +282,17 @@ module _ {A : Type 0} (among : ℕ → Bool) (head : RuleHead) (was is : Targets
       itself : (b : Bool) → differs b b ≡ false
       itself true = refl
       itself false = refl
+
+-- where the targets are the same nothing moves
+pub same-shifted : {A E : Type 0} (among : ℕ → Bool) (group : Group A) (lines : Keyed) → (group.for_good ≡ true → steps_in lines ≡ 0) → ((s t : ℕ) → takes group.was.now s t ≡ takes group.is.now s t)
+    → AreShifted {E = E} among group lines lines (Ok 0)
+same-shifted among group lines settled same = record {
+  settled = settled;
+  now = λ k t. ap (λ b. count_now lines k t + one_if b) (same-gives among group.head group.was.now group.is.now same k t);
+  bounded = λ k t. omega arith;
+  before = λ _ k t. refl;
+  moved = none-moves among group.head group.was.now group.is.now same;
+}
 
 -- ---- source by source
 

@@ -1,7 +1,8 @@
 -- Counters moved at the sources that a rule lost, at those that it kept and at those that it got.
-use Rattle.cil_rule_shifts.proofs.Common.{◌≡◌, ℕ, ◌+◌, ◌-◌, ◌^◌, ◌≤◌, ◌&&◌, ◌||◌, Bool, true, false, not, min, refl, sym, ap, ◌∙◌, arith, true≢false, add-zero, AreTargetsOf, SymbolKey, differs, gives, gives_part, gives_to, has_head, has_source, in_part, is_among, moves_part, moves_where, one_if, reaches, takes, Reach, RuleHead, Sources, Part, Permit, Targets, RisesBy, rises-more, rises-none, rises-same, has_permit, is_kind, length, List, [], ◌∷◌}
-use Rattle.std.proofs.Math.Bool.{and-false, and-true}
+use Rattle.cil_rule_shifts.proofs.Common.{◌≡◌, ℕ, ◌+◌, ◌-◌, ◌^◌, ◌&&◌, ◌||◌, Bool, true, false, min, refl, sym, ap, ◌∙◌, arith, AreTargetsOf, SymbolKey, differs, gives, gives_part, gives_to, has_head, has_source, in_part, is_among, moves_where, one_if, reaches, takes, Reach, RuleHead, Sources, Part, Permit, Targets, RisesBy, rises-more, rises-none, has_permit, is_kind, length, List, [], ◌∷◌}
+use Rattle.std.proofs.Math.Bool.{and-false}
 use Rattle.cil_rule_shifts.proofs.ReachLemmas.{no-first, no-second}
+use Rattle.cil_rule_shifts.specs.declared.group.Group.{Group}
 use Rattle.cil_rule_shifts.specs.declared.reach.Part.TheVariants.{Lost, Kept, Got}
 
 -- ---- the parts
@@ -44,11 +45,11 @@ none-move was is head none =
 
 -- ---- the targets of a part
 
--- what some sources are given by their targets is what the rule gives them
-pub part-gives : {A : Type 0} (sources those : Sources A) → those ≡ sources → (reach : Reach A) (targets : Targets A) (head : RuleHead) → AreTargetsOf sources reach targets
-    → (p : SymbolKey × ℕ) → gives_to (is_among those) head targets p ≡ gives_part sources reach head p
-part-gives sources those one reach targets head same p =
-    ap (λ those. gives_to (is_among those) head targets p) one ∙ ap (λ b. b && has_head head p.0) (same p.0.source p.1)
+-- what the sources of a group are given by their targets is what the rule gives them
+pub part-gives : {A : Type 0} (head : RuleHead) (sources : Sources A) (group : Group A) → group.head ≡ head → group.sources ≡ sources → (reach : Reach A) (targets : Targets A) → AreTargetsOf sources reach targets
+    → (p : SymbolKey × ℕ) → gives_to (is_among group.sources) group.head targets p ≡ gives_part sources reach head p
+part-gives head sources group one those reach targets same p =
+    (λ i. gives_to (is_among (those i)) (one i) targets p) ∙ ap (λ b. b && has_head head p.0) (same p.0.source p.1)
     ∙ grouped (is_among sources p.0.source) (reaches reach p.0.source p.1) (has_head head p.0)
   where
     grouped : (a b c : Bool) → ((a && b) && c) ≡ (a && (b && c))

@@ -1,5 +1,5 @@
 -- Lists of permits, and those that another list has.
-use Rattle.cil_rule_shifts.proofs.Common.{◌≡◌, ℕ, ◌+◌, ◌<◌, ◌≤◌, ◌==◌, ◌&&◌, ◌||◌, Bool, true, false, List, [], ◌∷◌, cond, length, take, get_or, refl, sym, ap, ◌∙◌, inl, inr, arith, true≢false, cases_lt, eq-eqb, eqb-true, differs, has_permit, is_permit, permit_cmp, AreInOrder, Permit}
+use Rattle.cil_rule_shifts.proofs.Common.{◌≡◌, ℕ, ◌+◌, ◌<◌, ◌==◌, ◌&&◌, ◌||◌, Bool, true, false, List, [], ◌∷◌, cond, length, take, get_or, refl, sym, ap, ◌∙◌, inl, inr, arith, true≢false, cases_lt, eq-eqb, eqb-true, differs, has_permit, is_permit, permit_cmp, AreInOrder, Permit}
 use Rattle.std.proofs.Common.{Result, Ok, Err, filter, is_ok}
 use Rattle.std.specs.List.Sorted.{IsBinarySearchResult, IsNonDecreasingBy, IsSearchInRange}
 use Rattle.std.specs.Ordering.{is_lt, nat_cmp, ordering_index, ordering_reverse, ordering_then}
@@ -10,7 +10,7 @@ use Rattle.std.proofs.Math.Bool.{and-false}
 use Rattle.std.proofs.lemmas.Bool.{and_parts, false_from_ne_true}
 use Rattle.std.proofs.lemmas.Cmp.{nat_cmp_total, on_total, ranked, then_total, tied_itself}
 use Rattle.std.proofs.lemmas.List.{length-take-le, get_or-take, get_or_default}
-use Rattle.std.proofs.lemmas.List.Folds.{list_any_at, list_any_more, Any-from_list_any}
+use Rattle.std.proofs.lemmas.List.Folds.{list_any_at, Any-from_list_any}
 use Rattle.std.proofs.lemmas.List.Sorted.{searchable_from_sorted}
 use Rattle.std.proofs.lemmas.Map.Keys.{Less-from_sorted}
 use Rattle.cil_rule_shifts.specs.contracts.permit.PermitPartialEq.TheImpl as derived

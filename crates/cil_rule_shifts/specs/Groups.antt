@@ -1,12 +1,14 @@
 -- Sources whose targets change, with the keys and the words of theirs that move.
-use Rattle.std.specs.Prelude.{◌≡◌, ◌&&◌, ◌||◌, ℕ, Bool, List, not}
+use Rattle.std.specs.Prelude.{◌≡◌, ◌&&◌, ◌||◌, ℕ, Bool, IfOk, List, OnOk, Result, false, not, true}
 use Rattle.std.specs.List.{IsDistinct}
-use Rattle.cil_keyed_lines.specs.Keyed.{has_key, is_key}
+use Rattle.cil_keyed_lines.specs.Keyed.{Keyed, has_key, is_key, of_keys, steps_in, RiseAtMost, StaysBefore}
 use Rattle.cil_keyed_lines.specs.Moves.{came, ones_of, went, AreMoves}
 use Rattle.cil_keyed_lines.specs.declared.moved.Moved.{Moved}
 use Rattle.cil_keyed_lines.specs.declared.symbol_key.SymbolKey.{SymbolKey}
 use Rattle.cil_sums.specs.Rises.{RisesBy}
+use Rattle.cil_rule_shifts.specs.Amounts.{ones, AreMoved, CountAtLeast}
 use Rattle.cil_rule_shifts.specs.Moves.{differs, moves_where}
+use Rattle.cil_rule_shifts.specs.Permits.{AreInOrder}
 use Rattle.cil_rule_shifts.specs.Reach.{gives, has_head, has_source, one_if, reaches, takes, AreShort, IsShort}
 use Rattle.cil_rule_shifts.specs.declared.group.Group.{Group}
 use Rattle.cil_rule_shifts.specs.declared.head.RuleHead.{RuleHead}
@@ -36,6 +38,7 @@ pub record AreSources {A : Type 0} (sources : Sources A) : Type 0 where
   pub is : IsShort sources.is.now
 
 pub record IsGroup {A : Type 0} (group : Group A) : Type 0 where
+  pub permits : AreInOrder group.head.permits.now
   pub sources : AreSources group.sources
   pub was : AreShort group.was.now
   pub is : AreShort group.is.now
@@ -55,6 +58,36 @@ gives_to among head targets p = (among p.0.source && takes targets p.0.source p.
 -- whether they had it or have it, and not both
 abbrev pub moves_to : {A : Type 0} → (ℕ → Bool) → RuleHead → (was is : Targets A) → SymbolKey × ℕ → Bool
 moves_to among head was is p = differs (gives_to among head was p) (gives_to among head is p)
+
+-- the same of a group: whether some of its sources had an access, whether they have it, and whether it moves
+abbrev pub had_by : {A : Type 0} → (ℕ → Bool) → Group A → SymbolKey × ℕ → Bool
+had_by among group = gives_to among group.head group.was.now
+
+abbrev pub has_by : {A : Type 0} → (ℕ → Bool) → Group A → SymbolKey × ℕ → Bool
+has_by among group = gives_to among group.head group.is.now
+
+abbrev pub moves_by : {A : Type 0} → (ℕ → Bool) → Group A → SymbolKey × ℕ → Bool
+moves_by among group = moves_to among group.head group.was.now group.is.now
+
+-- What some of its sources had is counted, and nothing is there to take back where the counters move for good.
+pub record CanShift {A : Type 0} (among : ℕ → Bool) (group : Group A) (lines : Keyed) : Type 0 where
+  pub sound : IsGroup group
+  pub counted : CountAtLeast lines (ones (had_by among group))
+  pub settled : group.for_good ≡ true → steps_in lines ≡ 0
+
+-- The counters of some of its sources moved to what these have; where memory ran out, some of them may have.
+pub record AreShifted {A E : Type 0} (among : ℕ → Bool) (group : Group A) (old new : Keyed) (result : Result ℕ E) : Type 0 where
+  pub settled : group.for_good ≡ true → steps_in new ≡ 0
+  pub now : OnOk result (AreMoved old new (ones (had_by among group)) (ones (has_by among group)))
+  pub bounded : RiseAtMost old new (ones (has_by among group))
+  pub before : group.for_good ≡ false → StaysBefore old new
+  pub moved : IfOk result (RisesBy (moves_by among group) 0)
+
+-- keys, each once, and what moves at each of them; what goes is counted
+pub record CanMove (lines : Keyed) (keys : List SymbolKey) (moved : List Moved) : Type 0 where
+  pub distinct : IsDistinct is_key keys
+  pub words : AreMoves moved
+  pub counted : CountAtLeast lines (of_keys keys (went moved))
 
 -- whether a rule gives some sources an access by what it reaches and its permits
 abbrev pub gives_part : {A : Type 0} → Sources A → Reach A → RuleHead → SymbolKey × ℕ → Bool

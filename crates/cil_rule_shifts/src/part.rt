@@ -9,7 +9,7 @@ ghost use Rattle.cil_rule_shifts.specs.Permits.{AreInOrder};
 ghost use Rattle.cil_rule_shifts.specs.Reach.{takes};
 ghost use Rattle.cil_sums.specs.Rises.{RisesBy};
 
-use crate::group::{Group, shift_group};
+use crate::group::Group;
 use crate::head::RuleHead;
 use crate::reach::{Part, Sources};
 use crate::targets::Targets;
@@ -19,13 +19,16 @@ use std::alloc::{AllocError, Allocator};
 /// Sources with the targets that they had and those that they have: none where they were no sources,
 /// or are none.
 fn group_of<'r, A: Allocator + Copy>(
+    head: RuleHead<'r>,
     sources: Sources<'r, A>,
     none: &'r Targets<A>,
     for_good: bool,
 ) -> Group<'r, A>
+    requires permits { AreInOrder head.permits.now }
     requires sources { AreSources sources }
     requires none { (s t : ℕ) → takes none.now s t ≡ false }
     ensures group { IsGroup result }
+    ensures head { result.head ≡ head.entry }
     ensures sources { result.sources ≡ sources.entry }
     ensures was { AreTargetsOf sources.entry sources.entry.was.now result.was.now }
     ensures is { AreTargetsOf sources.entry sources.entry.is.now result.is.now }
@@ -37,6 +40,7 @@ fn group_of<'r, A: Allocator + Copy>(
         Part::Got => (none, &sources.is.targets),
     };
     Group {
+        head,
         sources,
         was,
         is,
@@ -68,6 +72,5 @@ pub fn shift_part<A: Allocator + Copy>(
     ensures moved { IfOk result (RisesBy (moves_part sources.entry head.entry) 0) }
 {
     let none = Targets::Nothing;
-    let group = group_of(sources, &none, for_good);
-    shift_group(lines, alloc, head, group)
+    group_of(head, sources, &none, for_good).shift(lines, alloc)
 }

@@ -1,0 +1,38 @@
+use Rattle.cil_rule_shifts.proofs.Common.{◌∙◌, ◌||◌, ap, eqb-true, has_key, is_line, nat_eq, sym, takes}
+use Rattle.cil_rule_shifts.proofs.KeyLemmas.{alike-can_move, alike-shifted, keys-one, none-distinct, unshifted, AreAlike}
+use Rattle.cil_rule_shifts.proofs.group.Group.shift_source.Given as given
+use Rattle.cil_rule_shifts.proofs.group.Group.shift_source.Goals as goal
+use Rattle.cil_rule_shifts.proofs.group.Group.shift_source.Goals.{After-deref-2}
+
+pub push_keys-requires-clause-distinct : goal.push_keys-requires-clause-distinct
+push_keys-requires-clause-distinct g c = rw c.new-keys.ensures.items none-distinct
+
+-- the keys are those of the source
+alike : (g : given.Over) (c : After-deref-2 g) → AreAlike (nat_eq c.args.source) c.args.self.head c.deref.result.now c.deref-2.result.now c.args.self.was.now c.args.self.is.now
+alike g c =
+    let source = c.args.source in
+    let head = c.args.self.head in
+    let was = c.args.self.was.now in
+    let is = c.args.self.is.now in
+    record {
+      of = rw c.deref.ensures.value (keys-one source head c.push_keys.new.keys.items c.push_keys.ensures.distinct (λ k. c.in_ok-push_keys.ensures.keys k ∙ ap (λ l. has_key l k || is_line source head k) c.new-keys.ensures.items));
+      had = takes was source;
+      has = takes is source;
+      were = λ s t same. ap (λ n. takes was n t) (sym (eqb-true source s same));
+      are = λ s t same. ap (λ n. takes is n t) (sym (eqb-true source s same));
+      moves = rw c.deref-2.ensures.value c.in_ok-moved.ensures;
+    }
+
+pub shift_keys-requires-clause-keys : goal.shift_keys-requires-clause-keys
+shift_keys-requires-clause-keys g c = alike-can_move _ c.args.self c.args.lines.now _ _ (alike g c) c.requires.counted
+
+pub returns : goal.returns
+returns g c =
+    let step = c.shift_keys.ensures in
+    alike-shifted _ c.args.self c.args.lines.now _ _ (alike g (goal.at.returns g c).After-deref-2) c.shift_keys.new.lines c.shift_keys.result step.settled step.now step.bounded step.before step.moved
+
+pub returns-in_err-moved : goal.returns-in_err-moved
+returns-in_err-moved g c = unshifted (nat_eq c.args.source) c.args.self c.args.lines.now _ c.from_residual.ensures.0 c.requires.settled
+
+pub returns-in_err-push_keys : goal.returns-in_err-push_keys
+returns-in_err-push_keys g c = unshifted (nat_eq c.args.source) c.args.self c.args.lines.now _ c.from_residual-in_err-push_keys.ensures.0 c.requires.settled
