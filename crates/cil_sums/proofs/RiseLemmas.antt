@@ -1,5 +1,5 @@
 -- Counts that rise by as many as there are things of a kind.
-use Rattle.std.proofs.Common.{◌≡◌, ◌≢◌, ◌⊎◌, ◌+◌, ◌-◌, ◌/◌, ◌%◌, ◌^◌, ◌<◌, ◌≤◌, ◌==◌, ◌&&◌, ℕ, zero, suc, Bool, true, false, cond, [], ◌∷◌, ◌++◌, map, length, get_or, min, count_ones, refl, sym, ap, subst, ◌∙◌, inl, inr, arith, true≢false, pow-suc, add-zero, zero-add}
+use Rattle.std.proofs.Common.{◌≡◌, ◌≢◌, ◌⊎◌, ◌+◌, ◌-◌, ◌/◌, ◌%◌, ◌^◌, ◌<◌, ◌≤◌, ◌==◌, ◌&&◌, ℕ, zero, suc, Bool, true, false, cond, [], ◌∷◌, ◌++◌, map, get_or, min, count_ones, refl, sym, ap, subst, ◌∙◌, inl, inr, arith, true≢false, pow-suc, add-zero, zero-add}
 use Rattle.std.specs.Int.{bit_at}
 use Rattle.std.specs.Int.Count.{ones_step}
 use Rattle.std.specs.List.{Contains}
@@ -122,10 +122,11 @@ same-from_counts true false same = absurd (omega (arith, same))
 same-from_counts false true same = absurd (omega (arith, same))
 same-from_counts false false same = refl
 
--- Things that stand for others, each for one, are as many.
-module _ {X Y : Type 0} (f : X → Y) (injective : (a b : X) → f a ≡ f b → a ≡ b) (p : X → Bool) (q : Y → Bool) (there : (x : X) → p x ≡ true → q (f x) ≡ true) (back : (y : Y) → q y ≡ true → (x : X) × (p x ≡ true) × (f x ≡ y)) where
-  pub rises-map : (before after : ℕ) → RisesBy p before after → RisesBy q before after
-  rises-map before after rises =
+-- Things that stand for those that pass, each for one, are as many.
+module _ {X Y : Type 0} (f : X → Y) (p : X → Bool) (q : Y → Bool) (alone : (a b : X) → p a ≡ true → p b ≡ true → f a ≡ f b → a ≡ b) (there : (x : X) → p x ≡ true → q (f x) ≡ true)
+    (back : (y : Y) → q y ≡ true → (x : X) × (p x ≡ true) × (f x ≡ y)) where
+  pub rises-stand : (before after : ℕ) → RisesBy p before after → RisesBy q before after
+  rises-stand before after rises =
       let long = length-map rises.those f in
       record {
         those = map f rises.those;
@@ -133,10 +134,15 @@ module _ {X Y : Type 0} (f : X → Y) (injective : (a b : X) → f a ≡ f b →
           (λ at. let x = from-mapped f rises.those y at in subst (λ z. q z ≡ true) x.2 (there x.0 ((rises.exact x.0).0 x.1))),
           λ passes. let x = back y passes in subst (Contains (map f rises.those)) x.2 (mapped f rises.those x.0 ((rises.exact x.0).1 x.1)),
         );
-        once = pairs-map f (λ a b. a ≢ b) rises.those rises.once (λ a b one other apart same. apart (injective a b same));
+        once = pairs-map f (λ a b. a ≢ b) rises.those rises.once (λ a b one other apart same. apart (alone a b ((rises.exact a).0 one) ((rises.exact b).0 other) same));
         at_most = omega (arith, long, rises.at_most);
         at_least = omega (arith, long, rises.at_least);
       }
+
+-- The same where each stands for one, whether it passes or not.
+module _ {X Y : Type 0} (f : X → Y) (injective : (a b : X) → f a ≡ f b → a ≡ b) (p : X → Bool) (q : Y → Bool) (there : (x : X) → p x ≡ true → q (f x) ≡ true) (back : (y : Y) → q y ≡ true → (x : X) × (p x ≡ true) × (f x ≡ y)) where
+  pub rises-map : (before after : ℕ) → RisesBy p before after → RisesBy q before after
+  rises-map = rises-stand f p q (λ a b one other same. injective a b same) there back
 
 -- A count that rises number by number.
 module _ {X : Type 0} (test : ℕ → X → Bool) where

@@ -1,27 +1,10 @@
 -- How many accesses came, by places and by keys.
-use Rattle.cil_symbol_changes.proofs.Common.{◌≡◌, ◌≢◌, ◌-◌, ◌^◌, ◌<◌, ◌&&◌, ℕ, Bool, true, false, not, Some, map, length, get_or, nat_lt, position, refl, sym, ap, subst, ◌∙◌, arith, true≢false, Contains, lt-ltb, ltb-true, length-map, get_or_from_slice_get, same_Some, slice_get-get_or, Keyed, IsLineOf, before_at, is_key, now_at, count_before, count_now, SymbolKey, below, RisesBy, AreCounted, AreSoMany, came_at, has_come, has_come_at, has_risen, present_at, went_at}
+use Rattle.cil_symbol_changes.proofs.Common.{◌≡◌, ◌-◌, ◌^◌, ◌<◌, ◌&&◌, ℕ, Bool, true, false, not, Some, length, get_or, nat_lt, position, refl, sym, ap, ◌∙◌, arith, true≢false, lt-ltb, ltb-true, get_or_from_slice_get, same_Some, slice_get-get_or, Keyed, IsLineOf, before_at, is_key, now_at, count_before, count_now, SymbolKey, below, RisesBy, AreCounted, AreSoMany, came_at, has_come, has_come_at, has_risen, present_at, went_at}
 use Rattle.std.specs.List.{IsDistinct}
 use Rattle.cil_keyed_lines.proofs.KeyedLemmas.{key_placed, no_key, placed_at, placed_within}
-use Rattle.cil_sums.proofs.PairLemmas.{from-mapped, mapped, pairs-map}
+use Rattle.cil_sums.proofs.RiseLemmas.{rises-stand}
 use Rattle.cil_symbol_changes.specs.declared.counted_changes.ChangeCounts.{ChangeCounts}
 use Rattle.cil_symbol_changes.proofs.ChangeLemmas.{line-led, place-before, place-now}
-
--- Things that stand for those that pass, each for one, are as many.
-module _ {X Y : Type 0} (f : X → Y) (p : X → Bool) (q : Y → Bool) (alone : (a b : X) → p a ≡ true → p b ≡ true → f a ≡ f b → a ≡ b) (there : (x : X) → p x ≡ true → q (f x) ≡ true)
-    (back : (y : Y) → q y ≡ true → (x : X) × (p x ≡ true) × (f x ≡ y)) where
-  pub rises-stand : (before after : ℕ) → RisesBy p before after → RisesBy q before after
-  rises-stand before after rises =
-      let long = length-map rises.those f in
-      record {
-        those = map f rises.those;
-        exact = λ y. (
-          (λ at. let x = from-mapped f rises.those y at in subst (λ z. q z ≡ true) x.2 (there x.0 ((rises.exact x.0).0 x.1))),
-          λ passes. let x = back y passes in subst (Contains (map f rises.those)) x.2 (mapped f rises.those x.0 ((rises.exact x.0).1 x.1)),
-        );
-        once = pairs-map f (λ a b. a ≢ b) rises.those rises.once (λ a b one other apart same. apart (alone a b ((rises.exact a).0 one) ((rises.exact b).0 other) same));
-        at_most = omega (arith, long, rises.at_most);
-        at_least = omega (arith, long, rises.at_least);
-      }
 
 -- a count that is small enough is exact
 pub so-many : {X : Type 0} (p : X → Bool) (count : ℕ) → count < 2 ^ 128 - 1 → RisesBy p 0 count → AreSoMany p count

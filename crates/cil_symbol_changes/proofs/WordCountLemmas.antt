@@ -1,9 +1,8 @@
 -- How many targets came: word by word and place by place.
-use Rattle.cil_symbol_changes.proofs.Common.{◌≡◌, ℕ, ◌+◌, ◌-◌, ◌*◌, ◌/◌, ◌%◌, ◌^◌, ◌<◌, ◌≤◌, ◌==◌, ◌&&◌, Bool, true, false, not, cond, Option, None, Some, min, nat_lt, count_ones, refl, sym, ap, subst, ◌∙◌, inl, inr, arith, true≢false, add-zero, zero-add, eqb-true, bit_at, cases_eq, cases_lt, eq-eqb, le-ltb, lt-ltb, ne_eqb, bit_at_above, bit_at-lt, none-some, same_Some, Keyed, before_at, now_at, IsNextPresent, IsPresence, NonePresent, below, RisesBy, rises-added, rises-bits, rises-first, rises-map, rises-more, rises-next, rises-none, rises-same, AreCounted, came_at, has_risen, present_at, went_at}
+use Rattle.cil_symbol_changes.proofs.Common.{◌≡◌, ℕ, ◌+◌, ◌-◌, ◌*◌, ◌/◌, ◌%◌, ◌^◌, ◌<◌, ◌≤◌, ◌==◌, ◌&&◌, Bool, true, false, not, cond, min, nat_lt, count_ones, refl, sym, ap, subst, ◌∙◌, inl, inr, arith, true≢false, add-zero, zero-add, eqb-true, bit_at, cases_eq, cases_lt, eq-eqb, le-ltb, lt-ltb, ne_eqb, bit_at_above, bit_at-lt, Keyed, before_at, now_at, IsNextPresent, IsPresence, NonePresent, below, RisesBy, rises-added, rises-bits, rises-first, rises-map, rises-more, rises-next, rises-none, rises-same, AreCounted, came_at, has_risen, present_at, went_at}
 use Rattle.std.specs.Int.{bit_not}
 use Rattle.std.proofs.Common.{w64}
 use Rattle.std.specs.Int.Bits.{bit_and, and_lt}
-use Rattle.std.specs.Option.{SomeIff}
 use Rattle.std.proofs.lemmas.Nat.Bits.{bit_at_and, bit_at_not}
 use Rattle.cil_keyed_lines.specs.Past.{AreAlike, IsNextTurned, NoneTurned}
 use Rattle.cil_symbol_changes.specs.declared.counted_changes.ChangeCounts.{ChangeCounts}

@@ -5,4 +5,4 @@ use Rattle.cil_counters.proofs.counters.Counters.is_pending.Goals as goal
 
 pub returns-clause-steps : goal.returns-clause-steps
 returns-clause-steps g c =
-    either-steps c.is_pending-rows.result c.is_pending-tables.result (member_rows.steps_in c.args.self.now.rows) (access_tables.steps_in c.args.self.now.tables) c.is_pending-rows.ensures.steps c.is_pending-tables.ensures.steps
+    either-steps c.is_pending-rows.result c.is_pending-tables.result (member_rows.steps_in c.args.self.now.rows) (access_tables.steps_in c.args.self.now.tables) c.is_pending-rows.ensures.steps c.is_pending-tables.ensures.changes

@@ -24,4 +24,4 @@ returns-clause-before g c =
     record { symbols = c.in_ok-symbols.ensures; counted = counted g at (member_rows.count_before c.new.result) (access_tables.count_before c.new-2.result) c.new.ensures.before c.new-2.ensures.before }
 
 pub returns-clause-settled : goal.returns-clause-settled
-returns-clause-settled g c = omega (arith, c.new.ensures.steps, c.new-2.ensures.steps)
+returns-clause-settled g c = omega (arith, c.new.ensures.steps, c.new-2.ensures.changes)
