@@ -1,6 +1,6 @@
 -- Keys that name no line are taken out, and lines that no key names are cut off.
 use Rattle.cil_keyed_lines.proofs.Common.{AreAmong, AreCounted, AreLines, ArePaired, AreKeyed, AreTaken, Bool, IsDistinct, IfSome, List, Naming, Option, Rename, State, SymbolKey, [], ap, arith, cases_eq, cases_lt, cond, count_before, count_by, count_now, false, has_place, index_of, inl, inr, is_key, length, lines_in, name_before, name_now, ne_eqb, now_in, refl, reverse, slice_get, slice_index, steps_in, suc, swap_remove, sym, take, true, true≢false, unnamed, zero, ℕ, ◌++◌, ◌+◌, ◌-◌, ◌<◌, ◌==◌, ◌||◌, ◌∙◌, ◌∷◌, ◌≡◌, ◌≢◌, ◌≤◌}
-use Rattle.cil_keyed_lines.proofs.KeyLemmas.{by_place}
+use Rattle.cil_keyed_lines.proofs.KeyedLemmas.{by_place}
 use Rattle.cil_keyed_lines.proofs.EndLemmas.{among_taken, count_taken}
 use Rattle.cil_recorded.proofs.LogLemmas.{before_none, count_past}
 use Rattle.std.specs.List.{position_or_len}

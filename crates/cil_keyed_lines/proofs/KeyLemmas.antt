@@ -2,35 +2,20 @@
 use Rattle.cil_keyed_lines.proofs.Common.{All, AreCounted, AreLines, AreLogged, AreNamed, AreKeyed, Bool, List, Named, Names, Naming, None, Some, State, SymbolKey, [], ap, arith, before_in, cases_eq, cases_lt, cond, count_before, count_by, count_now, eqb-true, false, get_or, has_key, if◌then◌else◌, index_of, inl, inr, is_key, length, lines_in, list_any, listed, name_before, name_now, nat_lt, now_in, of_keys, one_if, position, refl, reverse, slice_get, slice_index, subst, suc, sym, take, times, true, true≢false, unnamed, with_key, ℕ, ◌*◌, ◌++◌, ◌+◌, ◌<◌, ◌==◌, ◌||◌, ◌∙◌, ◌∷◌, ◌≡◌, ◌≤◌}
 use Rattle.cil_keyed_lines.proofs.NameLemmas.{one_most, one_other, one_same}
 use Rattle.cil_keyed_lines.proofs.ReachLemmas.{lines_kept}
-use Rattle.cil_keyed_lines.proofs.KeyedLemmas.{count_reached, count_same, no_key, one_key, placed_at, places_grown}
+use Rattle.cil_keyed_lines.proofs.KeyedLemmas.{by_place, count_reached, count_same, no_key, one_key, place_is, placed_at, places_grown}
 use Rattle.std.specs.List.{AllByRecursion, IsDistinct}
-use Rattle.std.specs.Option.{option_map_or}
-use Rattle.std.proofs.lemmas.Bool.{ltb-false, lt-ltb}
+use Rattle.std.proofs.lemmas.Bool.{lt-ltb}
 use Rattle.std.proofs.lemmas.List.{get_or_past, length-append}
 use Rattle.std.proofs.lemmas.List.Folds.{position_or_len_push}
 use Rattle.std.proofs.lemmas.List.Quantifiers.{position-Some}
-use Rattle.std.proofs.lemmas.List.Sums.{position_or_len_is, sum_by-cons, sum_by_more, sum_by_push}
+use Rattle.std.proofs.lemmas.List.Sums.{sum_by-cons, sum_by_more, sum_by_push}
 use Rattle.std.proofs.Math.Nat.{le-mul_of_pos_right, mul_comm}
 use Rattle.std.specs.Prelude.{min}
 use Rattle.std.proofs.lemmas.Option.{slice_get-get_or}
 
 -- ---- places of keys
 
--- a key without a place counts as one whose place is behind the others
-pub by_place : (f : ℕ → ℕ → ℕ) (keys : List SymbolKey) → ((p t : ℕ) → length keys ≤ p → f p t ≡ 0) → (k : SymbolKey) (t : ℕ) → count_by f keys k t ≡ f (index_of keys k) t
-unfolding count_by
-by_place f keys past k t = by (nat_lt (index_of keys k) (length keys)) refl
-  where
-    by : (b : Bool) → nat_lt (index_of keys k) (length keys) ≡ b → option_map_or (λ i. f i t) (cond b (Some (index_of keys k)) None) 0 ≡ f (index_of keys k) t
-    by true less = refl
-    by false less = sym (past (index_of keys k) t (ltb-false (index_of keys k) (length keys) less))
-
--- a key that stands at a place has it
-pub place_is : (keys : List SymbolKey) (key : SymbolKey) (i : ℕ) → position (is_key key) keys ≡ Some i → index_of keys key ≡ i
-place_is keys key i at =
-    let (within, equal, first) = position-Some (is_key key) keys i key at in
-    position_or_len_is (is_key key) keys i key (omega (arith, within)) first (λ _. equal)
-
+-- a key stands at its place
 pub place_of : (keys : List SymbolKey) (p : ℕ) (d : SymbolKey) → IsDistinct is_key keys → p < length keys → index_of keys (get_or keys p d) ≡ p
 place_of keys p d distinct within = place_is keys (get_or keys p d) p (placed_at keys p (get_or keys p d) distinct (slice_get-get_or keys p d within))
 

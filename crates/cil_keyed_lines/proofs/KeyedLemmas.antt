@@ -1,5 +1,5 @@
 -- The counters of keys, by the places of their lines.
-use Rattle.cil_keyed_lines.proofs.Common.{zero, suc, ◌≡◌, ℕ, ◌+◌, ◌<◌, ◌≤◌, ◌==◌, ◌&&◌, Bool, true, false, cond, if◌then◌else◌, nat_lt, List, [], ◌∷◌, ◌++◌, length, get_or, position, slice_get, None, Some, refl, sym, ap, ◌∙◌, true≢false, arith, rules, list_any, position_or_len, IsDistinct, same_counts, SymbolKey, count_by, is_key, is_kind, with_key}
+use Rattle.cil_keyed_lines.proofs.Common.{zero, suc, ◌≡◌, ℕ, ◌+◌, ◌<◌, ◌≤◌, ◌==◌, ◌&&◌, Bool, true, false, cond, if◌then◌else◌, nat_lt, List, [], ◌∷◌, ◌++◌, length, get_or, position, slice_get, None, Some, refl, sym, ap, ◌∙◌, true≢false, arith, rules, list_any, IsDistinct, same_counts, SymbolKey, count_by, is_key, index_of, is_kind, with_key}
 use Rattle.std.specs.Option.{option_map_or}
 use Rattle.std.proofs.lemmas.Bool.{eqb-true, eq-eqb, ltb-false, lt-ltb}
 use Rattle.std.proofs.lemmas.List.{length-append}
@@ -84,21 +84,18 @@ other_key key other is = by (is_key other key) refl
 
 -- ---- places
 
-abbrev index : List SymbolKey → SymbolKey → ℕ
-index keys key = position_or_len (is_key key) keys
-
--- a key without a line counts as one whose line is behind the others
-by_index : (f : ℕ → ℕ → ℕ) (keys : List SymbolKey) → ((l t : ℕ) → length keys ≤ l → f l t ≡ 0) → (k : SymbolKey) (t : ℕ) → count_by f keys k t ≡ f (index keys k) t
+-- a key without a place counts as one whose place is behind the others
+pub by_place : (f : ℕ → ℕ → ℕ) (keys : List SymbolKey) → ((l t : ℕ) → length keys ≤ l → f l t ≡ 0) → (k : SymbolKey) (t : ℕ) → count_by f keys k t ≡ f (index_of keys k) t
 unfolding count_by
-by_index f keys past k t = by (nat_lt (index keys k) (length keys)) refl
+by_place f keys past k t = by (nat_lt (index_of keys k) (length keys)) refl
   where
-    by : (b : Bool) → nat_lt (index keys k) (length keys) ≡ b → option_map_or (λ i. f i t) (cond b (Some (index keys k)) None) 0 ≡ f (index keys k) t
+    by : (b : Bool) → nat_lt (index_of keys k) (length keys) ≡ b → option_map_or (λ i. f i t) (cond b (Some (index_of keys k)) None) 0 ≡ f (index_of keys k) t
     by true less = refl
-    by false less = sym (past (index keys k) t (ltb-false (index keys k) (length keys) less))
+    by false less = sym (past (index_of keys k) t (ltb-false (index_of keys k) (length keys) less))
 
 -- the place of a key is its index
-placed_index : (keys : List SymbolKey) (key : SymbolKey) (place : ℕ) → position (is_key key) keys ≡ Some place → index keys key ≡ place
-placed_index keys key place at =
+pub place_is : (keys : List SymbolKey) (key : SymbolKey) (place : ℕ) → position (is_key key) keys ≡ Some place → index_of keys key ≡ place
+place_is keys key place at =
     let (within, equal, first) = position-Some (is_key key) keys place key at in
     position_or_len_is (is_key key) keys place key (omega (arith, within)) first (λ _. equal)
 
@@ -125,7 +122,7 @@ placed_at keys i key distinct at =
     here : (d : SymbolKey) → get_or keys i d ≡ key
     here d = get_or_from_slice_get keys i key d at
 
-    index_is : index keys key ≡ i
+    index_is : index_of keys key ≡ i
     index_is =
         position_or_len_is (is_key key) keys i key (omega (arith, within))
         (λ k less. other_key (get_or keys k key) key (ap (is_key (get_or keys k key)) (sym (here key)) ∙ apart_from_distinct is_key keys k i key distinct less within))
@@ -148,7 +145,7 @@ pub count_same : (f g : ℕ → ℕ → ℕ) (keys : List SymbolKey) → ((l t :
 count_same f g keys same k t = ap (λ h. count_by h keys k t) (same_counts g f same)
 
 pub count_none : (f : ℕ → ℕ → ℕ) (keys : List SymbolKey) → ((l t : ℕ) → f l t ≡ 0) → (k : SymbolKey) (t : ℕ) → count_by f keys k t ≡ 0
-count_none f keys none k t = by_index f keys (λ l t _. none l t) k t ∙ none (index keys k) t
+count_none f keys none k t = by_place f keys (λ l t _. none l t) k t ∙ none (index_of keys k) t
 
 -- a new key takes no counter from another
 pub count_grown : (f : ℕ → ℕ → ℕ) (keys : List SymbolKey) (key : SymbolKey) → ((l t : ℕ) → length keys ≤ l → f l t ≡ 0) → (k : SymbolKey) (t : ℕ)
@@ -157,7 +154,7 @@ count_grown f keys key past k t = by (list_any (is_key key) keys)
   where
     by : (b : Bool) → count_by f (if b then keys else keys ++ key ∷ []) k t ≡ count_by f keys k t
     by true = refl
-    by false = by_index f grown past_grown k t ∙ moved (index keys k == length keys) refl ∙ sym (by_index f keys past k t)
+    by false = by_place f grown past_grown k t ∙ moved (index_of keys k == length keys) refl ∙ sym (by_place f keys past k t)
       where
         grown : List SymbolKey
         grown = keys ++ key ∷ []
@@ -165,15 +162,15 @@ count_grown f keys key past k t = by (list_any (is_key key) keys)
         past_grown : (l t : ℕ) → length grown ≤ l → f l t ≡ 0
         past_grown l t behind = past l t (omega (arith, behind, length-append keys (key ∷ [])))
 
-        pushed : index grown k ≡ cond (index keys k == length keys) (length keys + cond (is_key k key) 0 1) (index keys k)
+        pushed : index_of grown k ≡ cond (index_of keys k == length keys) (length keys + cond (is_key k key) 0 1) (index_of keys k)
         pushed = position_or_len_push (is_key k) keys key
 
-        moved : (b : Bool) → (index keys k == length keys) ≡ b → f (index grown k) t ≡ f (index keys k) t
-        moved false other = ap (λ n. f n t) (pushed ∙ ap (λ b. cond b (length keys + cond (is_key k key) 0 1) (index keys k)) other)
+        moved : (b : Bool) → (index_of keys k == length keys) ≡ b → f (index_of grown k) t ≡ f (index_of keys k) t
+        moved false other = ap (λ n. f n t) (pushed ∙ ap (λ b. cond b (length keys + cond (is_key k key) 0 1) (index_of keys k)) other)
         moved true last =
-            let old : index keys k ≡ length keys = eqb-true (index keys k) (length keys) last in
-            let new : index grown k ≡ length keys + cond (is_key k key) 0 1 = pushed ∙ ap (λ b. cond b (length keys + cond (is_key k key) 0 1) (index keys k)) last in
-            past (index grown k) t (omega (arith, new)) ∙ sym (past (index keys k) t (omega (arith, old)))
+            let old : index_of keys k ≡ length keys = eqb-true (index_of keys k) (length keys) last in
+            let new : index_of grown k ≡ length keys + cond (is_key k key) 0 1 = pushed ∙ ap (λ b. cond b (length keys + cond (is_key k key) 0 1) (index_of keys k)) last in
+            past (index_of grown k) t (omega (arith, new)) ∙ sym (past (index_of keys k) t (omega (arith, old)))
 
 -- nor does a new line whose counters are all 0
 pub count_reached : (f g : ℕ → ℕ → ℕ) (keys news : List SymbolKey) (key : SymbolKey) → news ≡ with_key keys key → ((l t : ℕ) → g l t ≡ f l t) → ((l t : ℕ) → length keys ≤ l → f l t ≡ 0)

@@ -13,6 +13,13 @@ pub in_other : (line : ℕ) (amount : ℕ → ℕ) (l t : ℕ) → l ≢ line �
 unfolding in_line
 in_other line amount l t other = ap (λ b. if b then amount t else 0) (ne_eqb l line other)
 
+-- what moves in a line is more by the targets of a mask
+in_more : (line : ℕ) (amount more : ℕ → ℕ) (word mask : ℕ) → ((t : ℕ) → more t ≡ amount t + hit word mask t) → (l t : ℕ) → in_line line more l t ≡ in_line line amount l t + hit_at line word mask l t
+in_more line amount more word mask grown l t = elim (cases_eq l line) [
+  | inl here ↦ omega (arith, grown t, in_here line amount l t here, in_here line more l t here, hit_in line word mask l t here)
+  | inr other ↦ omega (arith, in_other line amount l t other, in_other line more l t other, hit_off line word mask l t other)
+]
+
 -- ---- a further word
 
 module _ (moved : List Moved) (i : ℕ) (within : i < length moved) where
@@ -42,36 +49,15 @@ module _ (moved : List Moved) (i : ℕ) (within : i < length moved) where
   pub now_more : (line : ℕ) (old now low new : State) → ((l t : ℕ) → count_now now l t + in_line line (went (take i moved)) l t ≡ count_now old l t + in_line line (came (take i moved)) l t)
       → ((l t : ℕ) → count_now low l t + hit_at line m.word m.gone l t ≡ count_now now l t) → ((l t : ℕ) → count_now new l t ≡ count_now low l t + hit_at line m.word m.come l t)
       → (l t : ℕ) → count_now new l t + in_line line (went (take (i + 1) moved)) l t ≡ count_now old l t + in_line line (came (take (i + 1) moved)) l t
-  now_more line old now low new so_far fell rose l t = elim (cases_eq l line) [
-    | inl here ↦
-        omega (
-          arith,
-          so_far l t,
-          fell l t,
-          rose l t,
-          in_here line (went (take i moved)) l t here,
-          in_here line (came (take i moved)) l t here,
-          in_here line (went (take (i + 1) moved)) l t here,
-          in_here line (came (take (i + 1) moved)) l t here,
-          hit_in line m.word m.gone l t here,
-          hit_in line m.word m.come l t here,
-          went_more t,
-          came_more t,
-        )
-    | inr other ↦
-        omega (
-          arith,
-          so_far l t,
-          fell l t,
-          rose l t,
-          in_other line (went (take i moved)) l t other,
-          in_other line (came (take i moved)) l t other,
-          in_other line (went (take (i + 1) moved)) l t other,
-          in_other line (came (take (i + 1) moved)) l t other,
-          hit_off line m.word m.gone l t other,
-          hit_off line m.word m.come l t other,
-        )
-  ]
+  now_more line old now low new so_far fell rose l t =
+      omega (
+        arith,
+        so_far l t,
+        fell l t,
+        rose l t,
+        in_more line (went (take i moved)) (went (take (i + 1) moved)) m.word m.gone went_more l t,
+        in_more line (came (take i moved)) (came (take (i + 1) moved)) m.word m.come came_more l t,
+      )
 
   -- what comes in it can still come behind what went, and so can what comes in the words behind it
   pub can_raise : (line : ℕ) (now low : State) → HasRoomFrom now line moved i → ((l t : ℕ) → count_now low l t + hit_at line m.word m.gone l t ≡ count_now now l t)

@@ -57,6 +57,17 @@ module _ (s : Keyed) (a b : ℕ) (are : AreKeyed s.keys s.names s.lines a b) (no
 
 -- ---- the steps end
 
+-- lines of which no change can be taken back
+settled_lines : (n : Naming) (s : State) → n.log ≡ [] → lines_in s ≤ n.lines → ((p : ℕ) → name_now n p ≢ 0 → name_now n p < lines_in s) → ((t : ℕ) → count_now s 0 t ≡ 0)
+    → ((l t : ℕ) → count_before s l t ≡ count_now s l t) → AreLines n s
+settled_lines n s log lines within none before = record {
+  lines = lines;
+  within = within;
+  past = λ p some. omega (arith, settled_before n log p, within p (λ e. some (settled_before n log p ∙ e)));
+  nothing = none;
+  nothing_before = λ t. before 0 t ∙ none t;
+}
+
 -- before the steps
 module _ (keys : List SymbolKey) (n n' : Naming) (s s' : State) (a b : ℕ) (are : AreKeyed keys n s a b) (names : (p : ℕ) → name_now n' p ≡ name_before n p)
     (now : (l t : ℕ) → count_now s' l t ≡ count_before s l t) where
@@ -82,16 +93,8 @@ module _ (keys : List SymbolKey) (n n' : Naming) (s s' : State) (a b : ℕ) (are
 
   pub lined_back : n'.log ≡ [] → n'.lines ≡ n.lines → lines_in s' ≡ lines_in s → ((l t : ℕ) → count_before s' l t ≡ count_now s' l t) → AreLines n' s'
   lined_back log lines len before =
-      record {
-        lines = omega (arith, lines, len, are.lined.lines);
-        within = within;
-        past = λ p some. omega (arith, settled_before n' log p, within p (λ e. some (settled_before n' log p ∙ e)));
-        nothing = λ t. now 0 t ∙ are.lined.nothing_before t;
-        nothing_before = λ t. before 0 t ∙ now 0 t ∙ are.lined.nothing_before t;
-      }
-    where
-      within : (p : ℕ) → name_now n' p ≢ 0 → name_now n' p < lines_in s'
-      within p some = omega (arith, names p, are.lined.past p (λ e. some (names p ∙ e)), len)
+      settled_lines n' s' log (omega (arith, lines, len, are.lined.lines)) (λ p some. omega (arith, names p, are.lined.past p (λ e. some (names p ∙ e)), len))
+      (λ t. now 0 t ∙ are.lined.nothing_before t) before
 
 -- the steps are kept, and keys that name no line are taken out
 module _ (keys keys' : List SymbolKey) (n mid n' : Naming) (s s' : State) (a b : ℕ) (are : AreKeyed keys n s a b) (names : mid.named ≡ n.named) (taken : AreTaken keys mid keys' n')
@@ -114,14 +117,7 @@ module _ (keys keys' : List SymbolKey) (n mid n' : Naming) (s s' : State) (a b :
       (t, omega (arith, above, ap (λ l. count_now s l t) here, now (name_now n' p) t))
 
   pub lined_left : n'.log ≡ [] → n'.lines ≡ n.lines → lines_in s' ≡ lines_in s → ((l t : ℕ) → count_before s' l t ≡ count_now s' l t) → AreLines n' s'
-  lined_left log lines len before =
-      record {
-        lines = omega (arith, lines, len, are.lined.lines);
-        within = within;
-        past = λ p some. omega (arith, settled_before n' log p, within p (λ e. some (settled_before n' log p ∙ e)));
-        nothing = λ t. now 0 t ∙ are.lined.nothing t;
-        nothing_before = λ t. before 0 t ∙ now 0 t ∙ are.lined.nothing t;
-      }
+  lined_left log lines len before = settled_lines n' s' log (omega (arith, lines, len, are.lined.lines)) within (λ t. now 0 t ∙ are.lined.nothing t) before
     where
       within : (p : ℕ) → name_now n' p ≢ 0 → name_now n' p < lines_in s'
       within p some =

@@ -1,21 +1,23 @@
-use Rattle.cil_keyed_lines.proofs.Common.{◌≡◌, false, list_any, is_key, rules}
+use Rattle.cil_keyed_lines.proofs.Common.{◌≡◌, AreKeyed, false, list_any, is_key, rules}
 use Rattle.cil_keyed_lines.proofs.EndLemmas.{placed_new}
 use Rattle.cil_keyed_lines.proofs.KeyLemmas.{before_grown, before_kept, places_kept, places_more, shared_names, stays_grown, stays_kept}
+use Rattle.cil_keyed_lines.proofs.keyed_lines.KeyedLines.reach_key.Given as given
 use Rattle.cil_keyed_lines.proofs.keyed_lines.KeyedLines.reach_key.Goals as goal
+use Rattle.cil_keyed_lines.proofs.keyed_lines.KeyedLines.reach_key.Goals.{After-put_key}
+
+-- the keys, the lines that they name and the counters of these hold together
+keyed : (g : given.Over) (c : After-put_key g) → AreKeyed c.put_key.new.keys.keys c.put_key.new.names c.self.inside.lines c.self.inside.keys_before c.self.inside.lines_before
+keyed g c =
+    let old = c.self.inside in
+    let put = c.put_key.ensures in
+    shared_names old.keys.keys c.put_key.new.keys.keys old.names c.put_key.new.names old.lines old.keys_before old.lines_before c.self.invariant put.distinct put.len put.longer put.lines put.now put.before
+    (put.logged c.self.invariant.logged)
 
 pub invariant_of-self : goal.invariant_of-self
-invariant_of-self g c =
-    let old = c.self.inside in
-    let put = c.put_key.ensures in
-    shared_names old.keys.keys c.put_key.new.keys.keys old.names c.put_key.new.names old.lines old.keys_before old.lines_before c.self.invariant put.distinct put.len put.longer put.lines put.now put.before
-    (put.logged c.self.invariant.logged)
+invariant_of-self g c = keyed g (goal.at.invariant_of-self g c).After-put_key
 
 pub invariant_of-self-2 : goal.invariant_of-self-2
-invariant_of-self-2 g c =
-    let old = c.self.inside in
-    let put = c.put_key.ensures in
-    shared_names old.keys.keys c.put_key.new.keys.keys old.names c.put_key.new.names old.lines old.keys_before old.lines_before c.self.invariant put.distinct put.len put.longer put.lines put.now put.before
-    (put.logged c.self.invariant.logged)
+invariant_of-self-2 g c = keyed g (goal.at.invariant_of-self-2 g c).After-put_key
 
 pub returns-in_err-put_key-clause-now : goal.returns-in_err-put_key-clause-now
 returns-in_err-put_key-clause-now g c =

@@ -1,8 +1,11 @@
 use Rattle.cil_keyed_lines.proofs.Common.{◌≡◌, ◌∙◌, AreKeyed, ap, arith, count_by, count_now, get_or, has_place, length, lines_in, now_in, subst, sym, ℕ}
+use Rattle.cil_keyed_lines.proofs.Common.{SymbolKey}
 use Rattle.cil_keyed_lines.proofs.EndedLemmas.{among_take}
 use Rattle.cil_keyed_lines.proofs.SharedLemmas.{all_counted, counted_left, counts_kept, lined_left, same_before}
 use Rattle.std.proofs.lemmas.List.{get_or_past, length-take-le}
+use Rattle.cil_keyed_lines.proofs.keyed_lines.KeyedLines.settle.Given as given
 use Rattle.cil_keyed_lines.proofs.keyed_lines.KeyedLines.settle.Goals as goal
+use Rattle.cil_keyed_lines.proofs.keyed_lines.KeyedLines.settle.Goals.{After-pack_grown-self-inside}
 
 pub take_out_unnamed-requires-clause-paired : goal.take_out_unnamed-requires-clause-paired
 take_out_unnamed-requires-clause-paired g c =
@@ -37,32 +40,25 @@ cut-requires-clause-named g c p less = c.take_out_unnamed.ensures.named p (omega
 pub cut-requires-clause-rest : goal.cut-requires-clause-rest
 cut-requires-clause-rest g c p past = get_or_past c.take_out_unnamed.new.names.named p 0 (omega (arith, past, c.len-places.ensures.len, c.take_out_unnamed.ensures.paired.len))
 
-pub returns-clause-now : goal.returns-clause-now
-returns-clause-now g c k t =
+-- no counter has changed
+packed : (g : given.Over) (c : After-pack_grown-self-inside g) (k : SymbolKey) (t : ℕ)
+    → count_by (now_in c.pack_grown-self-inside.new.names c.pack_grown-self-inside.new.lines) c.cut.new.keys.keys k t ≡ count_by (now_in c.self.inside.names c.self.inside.lines) c.self.inside.keys.keys k t
+packed g c k t =
     let old = c.self.inside in
     let now : (l t : ℕ) → count_now c.settle_into-2.new.self l t ≡ count_now old.lines l t = λ l t. c.settle_into-2.ensures.now l t ∙ c.give_up_words.ensures.now l t ∙ c.settle_into.ensures.now l t in
-    let keys = c.cut.new.keys.keys in
-    let pack = c.pack_grown-self-inside in
-    let cut : count_by (now_in c.cut.new.names c.cut.new.lines) keys k t ≡ count_by (now_in old.names old.lines) old.keys.keys k t =
-    c.cut.ensures.now k t
+    c.pack_grown-self-inside.ensures.now k t ∙ c.cut.ensures.now k t
     ∙ counts_kept old.keys.keys c.take_out_unnamed.new.keys.keys old.names c.settle_into-3.new.self c.take_out_unnamed.new.names old.lines c.settle_into-2.new.self old.keys_before old.lines_before c.self.invariant
-    c.settle_into-3.ensures.named c.take_out_unnamed.ensures.taken now k t in
-    let packed : count_by (now_in pack.new.names pack.new.lines) keys k t ≡ count_by (now_in old.names old.lines) old.keys.keys k t = pack.ensures.now k t ∙ cut in
-    rw (← c.self.view_is) packed
+    c.settle_into-3.ensures.named c.take_out_unnamed.ensures.taken now k t
+
+pub returns-clause-now : goal.returns-clause-now
+returns-clause-now g c k t = rw (← c.self.view_is) (packed g (goal.at.returns-clause-now g c).After-pack_grown-self-inside k t)
 
 pub returns-clause-before : goal.returns-clause-before
 returns-clause-before g c k t =
-    let old = c.self.inside in
-    let now : (l t : ℕ) → count_now c.settle_into-2.new.self l t ≡ count_now old.lines l t = λ l t. c.settle_into-2.ensures.now l t ∙ c.give_up_words.ensures.now l t ∙ c.settle_into.ensures.now l t in
-    let keys = c.cut.new.keys.keys in
     let pack = c.pack_grown-self-inside in
-    let cut : count_by (now_in c.cut.new.names c.cut.new.lines) keys k t ≡ count_by (now_in old.names old.lines) old.keys.keys k t =
-    c.cut.ensures.now k t
-    ∙ counts_kept old.keys.keys c.take_out_unnamed.new.keys.keys old.names c.settle_into-3.new.self c.take_out_unnamed.new.names old.lines c.settle_into-2.new.self old.keys_before old.lines_before c.self.invariant
-    c.settle_into-3.ensures.named c.take_out_unnamed.ensures.taken now k t in
-    let packed : count_by (now_in pack.new.names pack.new.lines) keys k t ≡ count_by (now_in old.names old.lines) old.keys.keys k t = pack.ensures.now k t ∙ cut in
     rw (← c.self.view_is)
-    (same_before keys pack.new.names pack.new.lines _ (lines_in pack.new.lines) pack.ensures.shared pack.ensures.log pack.ensures.steps k t ∙ packed)
+    (same_before c.cut.new.keys.keys pack.new.names pack.new.lines _ (lines_in pack.new.lines) pack.ensures.shared pack.ensures.log pack.ensures.steps k t
+    ∙ packed g (goal.at.returns-clause-before g c).After-pack_grown-self-inside k t)
 
 pub returns-clause-counted : goal.returns-clause-counted
 returns-clause-counted g c =
