@@ -1,5 +1,5 @@
 -- The statements of a module one behind the other are those of the joined policy.
-use Rattle.cil_parse.proofs.Common.{◌≡◌, ℕ, zero, suc, ◌+◌, ◌≤◌, List, [], ◌∷◌, ◌++◌, length, slice_get, Some, refl, sym, ap, subst, ◌∙◌, append_assoc, append-nil, add-one, length-append, arith, Form, block, optional, type_name, type_alias, alias_actual, type_attribute, attribute_set, common, class, class_common, class_order, class_permission, class_permission_set, rule, Statements, no_more, statement, FlatStatement, block_inside, optional_inside, count, flat}
+use Rattle.cil_parse.proofs.Common.{◌≡◌, ℕ, zero, suc, ◌+◌, ◌≤◌, List, [], ◌∷◌, ◌++◌, length, slice_get, Some, refl, sym, ap, subst, ◌∙◌, append_assoc, append-nil, add-one, length-append, arith, Form, block, optional, Statements, no_more, statement, FlatStatement, block_inside, optional_inside, count, flat}
 use Rattle.cil_specs.specs.Joined.{Placed, placed, namespace_inside, optionals_inside}
 use Rattle.cil_parse.specs.Around.{IsBlockOf, IsOptionalOf, ArePlacedAs}
 use Rattle.cil_parse.proofs.FlatLemmas.{length-flat}

@@ -1,5 +1,5 @@
 -- Statements one behind the other.
-use Rattle.cil_parse.proofs.Common.{◌≡◌, ℕ, suc, ◌+◌, ◌<◌, List, [], ◌∷◌, ◌++◌, Vec, length, get_or, take, refl, sym, ap, ◌∙◌, append_assoc, append-nil, arith, length-append, false, if◌then◌else◌, take_more, Statements, no_more, statement, statement_then, row_statements, statements_of, form_of, at_of, has_body, Statement, Block', Optional', TypeName, TypeAlias, TypeAliasActual, TypeAttribute, TypeAttributeSet, Common, Class, ClassCommon, ClassOrder, ClassPermission, ClassPermissionSet, Rule, FlatStatement, block_inside, optional_inside, count, flat}
+use Rattle.cil_parse.proofs.Common.{◌≡◌, ℕ, suc, ◌+◌, ◌<◌, List, [], ◌∷◌, ◌++◌, Vec, length, get_or, take, refl, sym, ap, ◌∙◌, append_assoc, append-nil, arith, length-append, false, if◌then◌else◌, take_more, Statements, no_more, statement, statement_then, row_statements, statements_of, form_of, at_of, has_body, Statement, Block', Optional', FlatStatement, block_inside, optional_inside, count, flat}
 use Rattle.cil_reader.specs.declared.place.Place as code
 use Rattle.cil_reader.specs.declared.word.Word as words
 use Rattle.cil_text.specs.declared.statement.Statement.TheVariants.{Block, Optional}

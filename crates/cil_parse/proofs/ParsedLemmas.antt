@@ -23,7 +23,7 @@ nodes-length b list at = ap length at.closed_nodes ∙ length-map list (λ f. no
 -- the statements that were gone over are those of the module
 pub owned-spells : {A : Type 0} (b : Builder A) (p : ParsedModule A) (statements : Statements) → IsAt b (flat 0 0 0 statements) [] [] → IsOwned b p → Spells p statements
 owned-spells b p statements at owned = record {
-  rows = ap (λ r. map row_of r.items) owned.rows ∙ at.rows;
+  rows = ap (map row_of) owned.rows ∙ at.rows;
   words = (λ i. map (map (read (owned.texts i))) (owned.words i).0) ∙ at.closed_words;
   nodes = ap (λ n. n.0) owned.nodes ∙ at.closed_nodes;
 }

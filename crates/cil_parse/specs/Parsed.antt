@@ -40,7 +40,7 @@ pub record IsOwned {A : Type 0} (b : Builder A) (p : ParsedModule A) : Type 0 wh
   pub texts : texts_of p ≡ texts_in b.lexicon
   pub words : p.words ≡ b.words
   pub nodes : p.nodes ≡ b.nodes
-  pub rows : p.rows ≡ b.rows
+  pub rows : p.rows.items ≡ b.rows.items
 
 -- the module is that of the text
 pub record IsParsed {A : Type 0} (bytes : List ℕ) (p : ParsedModule A) : Type 0 where

@@ -63,6 +63,14 @@ impl<T: Copy, A: Allocator + Copy> Lists<T, A> {
         self.ends.push(in_32_bits(self.items.len())?)?;
         Ok(())
     }
+
+    /// Gives back the memory that they don't need, as far as the allocator takes it.
+    pub fn shrink_to_fit(&mut self)
+        ensures { self.new ≡ self.old }
+    {
+        self.items.shrink_to_fit();
+        self.ends.shrink_to_fit();
+    }
 }
 
 impl<T: Copy, A: Allocator> Lists<T, A> {

@@ -74,14 +74,19 @@ impl<A: Allocator + Copy> ParsedModule<A> {
     {
         let Builder {
             lexicon,
-            words,
-            nodes,
-            rows,
+            mut words,
+            mut nodes,
+            mut rows,
         } = builder;
+        let mut components = lexicon.components;
+        components.shrink_to_fit();
+        words.shrink_to_fit();
+        nodes.shrink_to_fit();
+        rows.shrink_to_fit();
         ParsedModule {
             texts: copies.texts,
             names: copies.names,
-            components: lexicon.components,
+            components,
             words,
             nodes,
             rows,
