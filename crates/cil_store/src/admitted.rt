@@ -31,22 +31,18 @@ pub enum Admitted<'e, A: Allocator = Global> {
     },
 }
 
-/// An install with the parsed module of its text, if the text spells one.
-fn admit_install<'e, A: Allocator + Copy>(
+/// The parsed module of a text, if it spells one.
+pub fn parsed<A: Allocator + Copy>(
     alloc: A,
     seed: Seed,
-    entry: Entry<'e>,
-) -> Result<Admitted<'e, A>, Refusal<A>>
-    requires { length entry.text.now ≤ 16777216 }
-    ensures ok { IfOk result (λ admitted. IsAdmitted admitted × (admitted_edit admitted
-        ≡ install entry.entry.name.now entry.entry.priority entry.entry.text.now)) }
-    ensures err { IfErr result (λ refusal. IsRefusedText
-        (install entry.entry.name.now entry.entry.priority entry.entry.text.now)
-        (refusal_of refusal)) }
+    name: &[u8],
+    text: &[u8],
+) -> Result<ParsedModule<A>, Refusal<A>>
+    requires { length text.now ≤ 16777216 }
 {
-    match parse(alloc, seed, entry.text) {
-        Ok(module) => Ok(Admitted::Install { entry, module }),
-        Err(fault) => Err(refuse_text(alloc, entry.name, fault)),
+    match parse(alloc, seed, text) {
+        Ok(module) => Ok(module),
+        Err(fault) => Err(refuse_text(alloc, name, fault)),
     }
 }
 
@@ -68,15 +64,15 @@ pub fn admit<'e, A: Allocator + Copy>(
             name,
             priority,
             text,
-        } => admit_install(
-            alloc,
-            store.seed,
-            Entry {
+        } => {
+            let module = parsed(alloc, store.seed, name, text)?;
+            let entry = Entry {
                 name,
                 priority,
                 text,
-            },
-        ),
+            };
+            Ok(Admitted::Install { entry, module })
+        }
         Edit::Remove { name, priority } => Ok(Admitted::Remove { name, priority }),
         Edit::Enable { name } => Ok(Admitted::Enable { name }),
         Edit::Disable { name } => Ok(Admitted::Disable { name }),

@@ -35,19 +35,45 @@ impl<'a> Entry<'a> {
     }
 }
 
-/// What an entry keeps.
+/// A module's text, which it owns, under its name and priority.
+#[derive(Drop)]
+pub struct OwnedEntry<'a, A: Allocator = Global> {
+    pub name: &'a [u8],
+    pub priority: u32,
+    pub text: Vec<u8, A>,
+}
+
+/// What an entry keeps beside its parsed module.
 #[derive(Drop)]
 struct Kept<A: Allocator> {
     name: Text<A>,
     priority: u32,
     text: Text<A>,
-    module: ParsedModule<A>,
 }
 
-/// A module's text under its name and priority, with the parsed module of the text. Stores share it.
+/// A module's text under its name and priority, with the parsed module of the text. Stores share both.
 #[derive(Drop)]
 pub struct StoredEntry<A: Allocator = Global> {
     kept: Rc<Kept<A>, A>,
+    module: Rc<ParsedModule<A>, A>,
+}
+
+/// The parsed module of an entry under the entry's name. It stays where the entry is given up.
+#[derive(Drop)]
+pub struct SharedModule<A: Allocator = Global> {
+    name: Text<A>,
+    module: Rc<ParsedModule<A>, A>,
+}
+
+impl<A: Allocator> SharedModule<A> {
+    /// The same, borrowed.
+    pub fn as_named(&self) -> NamedModule<'_, A>
+    {
+        NamedModule {
+            name: self.name.as_slice(),
+            module: &self.module,
+        }
+    }
 }
 
 impl<A: Allocator> Model for StoredEntry<A> {
@@ -60,25 +86,38 @@ impl<A: Allocator> Model for StoredEntry<A> {
 
     ghost view = { λ e. kept_entry (rc_value e.kept) };
 
-    ghost invariant = { λ e. IsParsed (rc_value e.kept).text (rc_value e.kept).«module» };
+    ghost invariant = { λ e. IsParsed (rc_value e.kept).text (rc_value e.«module») };
 }
 
 impl<A: Allocator + Copy> StoredEntry<A> {
     ghost use Rattle.cil_store.specs.Stored.{entry_of};
 
-    /// A copy of an entry, with the parsed module of its text.
-    pub fn of(alloc: A, entry: Entry<'_>, module: ParsedModule<A>) -> Result<Self, AllocError>
-        requires { IsParsed entry.text.now «module» }
-        ensures { IfOk result (λ e. e ≡ entry_of entry.entry) }
+    /// An entry, whose text is not copied, with the parsed module of its text.
+    pub fn of(
+        alloc: A,
+        entry: OwnedEntry<'_, A>,
+        module: ParsedModule<A>,
+    ) -> Result<Self, AllocError>
+        requires { IsParsed entry.text.items «module» }
+        ensures { IfOk result (λ e. e ≡ owned_entry entry.entry) }
     {
         let kept = Kept {
             name: Text::of(alloc, entry.name)?,
             priority: entry.priority,
-            text: Text::of(alloc, entry.text)?,
-            module,
+            text: Text::from_vec(entry.text),
         };
         Ok(StoredEntry {
             kept: Rc::new(alloc, kept)?,
+            module: Rc::new(alloc, module)?,
+        })
+    }
+
+    /// Its parsed module under its name.
+    pub fn share_module(&self, alloc: A) -> Result<SharedModule<A>, AllocError>
+    {
+        Ok(SharedModule {
+            name: Text::of(alloc, self.kept.name.as_slice())?,
+            module: self.module.clone()?,
         })
     }
 }
@@ -92,6 +131,7 @@ impl<A: Allocator> StoredEntry<A> {
     {
         Ok(StoredEntry {
             kept: self.kept.clone()?,
+            module: self.module.clone()?,
         })
     }
 
@@ -103,17 +143,6 @@ impl<A: Allocator> StoredEntry<A> {
             name: self.kept.name.as_slice(),
             priority: self.kept.priority,
             text: self.kept.text.as_slice(),
-        }
-    }
-
-    /// Its name, and the parsed module of its text.
-    pub fn as_module(&self) -> NamedModule<'_, A>
-        ensures name { result.name.now ≡ self.now.name }
-        ensures parsed { IsParsed self.now.text result.«module».now }
-    {
-        NamedModule {
-            name: self.kept.name.as_slice(),
-            module: &self.kept.module,
         }
     }
 

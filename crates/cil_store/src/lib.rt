@@ -29,7 +29,7 @@ pub use compiled::{Compiled, WriteFault};
 pub use delta::Delta;
 pub use dropped::Dropped;
 pub use edit::Edit;
-pub use entry::Entry;
+pub use entry::{Entry, OwnedEntry};
 pub use modules::{State, Store};
 pub use plain::Plain;
 pub use policy::Policy;

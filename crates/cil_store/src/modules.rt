@@ -10,10 +10,11 @@ use crate::admitted::Admitted;
 use crate::disabled::Disabled;
 use crate::edit::Edit;
 use crate::entries::Entries;
-use crate::entry::{Entry, StoredEntry};
+use crate::entry::{Entry, OwnedEntry, SharedModule, StoredEntry};
+use cil_parse::ParsedModule;
 use crate::refusal::{StoreFault, is_module_name};
 use cil_names::Seed;
-use cil_resolve::{NamedModule, Text};
+use cil_resolve::Text;
 use std::alloc::{AllocError, Allocator, Global};
 use std::marker::Model;
 
@@ -148,15 +149,6 @@ impl<A: Allocator> Store<A> {
         is_first_at(list, i)
     }
 
-    /// The name of the entry at a place, with the parsed module of its text.
-    pub(crate) fn parsed(&self, i: usize) -> NamedModule<'_, A>
-        requires { i < length self.now.entries }
-        ensures name { result.name.now ≡ (slice_index_or self.now.entries i (entry_at [] 0)).name }
-        ensures parsed { IsParsed (slice_index_or self.now.entries i (entry_at [] 0)).text result.«module».now }
-    {
-        self.entries.as_slice()[i].as_module()
-    }
-
     /// The text of a name that is compiled, if one is.
     pub fn active(&self, name: &[u8]) -> Option<&[u8]>
         ensures { option_map (λ text. text.now) result ≡ active_text self.now name.now }
@@ -254,6 +246,19 @@ impl<A: Allocator + Copy> Store<A> {
         })
     }
 
+    /// The parsed module of the entry at a place, under the entry's name.
+    pub(crate) fn share_module(&self, alloc: A, i: usize) -> Result<SharedModule<A>, AllocError>
+    {
+        self.entries.as_slice()[i].share_module(alloc)
+    }
+
+    /// Puts in an entry with the parsed module of its text.
+    pub(crate) fn put(&mut self, alloc: A, entry: OwnedEntry<'_, A>, module: ParsedModule<A>) -> Result<(), AllocError>
+    {
+        let entry = StoredEntry::of(alloc, entry, module)?;
+        self.entries.put(entry)
+    }
+
     /// Makes an edit that was admitted. An out of memory leaves the store as it was.
     pub(crate) fn make(&mut self, alloc: A, edit: Admitted<'_, A>) -> Result<(), AllocError>
         requires { IsAdmitted edit }
@@ -262,8 +267,9 @@ impl<A: Allocator + Copy> Store<A> {
     {
         match edit {
             Admitted::Install { entry, module } => {
-                let entry = StoredEntry::of(alloc, entry, module)?;
-                self.entries.put(entry)
+                let text = Vec::from_slice(alloc, entry.text)?;
+                let owned = OwnedEntry { name: entry.name, priority: entry.priority, text };
+                self.put(alloc, owned, module)
             }
             Admitted::Remove { name, priority } => {
                 self.entries.remove(name, priority);

@@ -4,10 +4,14 @@ ghost use Rattle.std.specs.Prelude.{◌≡◌, ◌≤◌, List, IfErr, IfOk, IsE
 ghost use Rattle.cil_store.specs.Common.{HasFailed, Gains, GainsFront, is_in_table, AreAtoms, Row, row_line, Violation, AreViolations, violations_text, meaning_in, listed, IsMeaningOf, Of, accepts, install_of, AreRowsOf, AreViolationsOf, Store, empty, refusal_of, AreRefused, entry_of};
 
 use crate::compiled::WriteFault;
-use crate::counted_policy::{CountedPolicy, Prepared, SharedPolicy};
-use crate::entry::Entry;
+use crate::counted_policy::{CountedPolicy, SharedPolicy};
+use crate::admitted::parsed;
+use crate::join::active_modules;
+use crate::modules::Store;
+use crate::refusing::refuse_edit;
+use crate::entry::{OwnedEntry, SharedModule};
 use crate::refusal::Refusal;
-use crate::resolving::resolve_nothing;
+use crate::resolving::{resolve_modules, resolve_nothing};
 use cil_counters::violations_at_once;
 use cil_names::Seed;
 use cil_resolve::resolved_sets_are_in_order;
@@ -64,21 +68,50 @@ fn violations_of<A: Allocator + Copy>(
     violations_at_once(alloc, seed, &nothing, policy.shared())
 }
 
+/// Puts in an entry.
+fn install<A: Allocator + Copy>(alloc: A, store: &mut Store<A>, entry: OwnedEntry<'_, A>) -> Result<(), Refusal<A>>
+{
+    if let Err(fault) = store.check_install(entry.name, entry.priority, entry.text.len()) {
+        return Err(refuse_edit(alloc, fault, entry.name, entry.priority));
+    }
+    let module = parsed(alloc, store.seed, entry.name, entry.text.as_slice())?;
+    store.put(alloc, entry, module)?;
+    Ok(())
+}
+
+fn install_all<A: Allocator + Copy>(alloc: A, seed: Seed, entries: Vec<OwnedEntry<'_, A>, A>) -> Result<Store<A>, Refusal<A>>
+{
+    let mut store = Store::new(alloc, seed);
+    for entry in entries {
+        install(alloc, &mut store, entry)?;
+    }
+    Ok(store)
+}
+
+fn modules_of<A: Allocator + Copy>(alloc: A, seed: Seed, entries: Vec<OwnedEntry<'_, A>, A>) -> Result<Vec<SharedModule<A>, A>, Refusal<A>>
+{
+    let store = install_all(alloc, seed, entries)?;
+    let modules = active_modules(alloc, &store)?;
+    Ok(modules)
+}
+
 impl<A: Allocator + Copy> Policy<A> {
     /// Compiles a list of entries: each is installed in turn in an empty store, whose tables of names are hashed by a seed, and the
     /// policy is judged once, at the end. The store is given up then.
-    pub fn of(alloc: A, seed: Seed, entries: &[Entry<'_>]) -> Result<Self, Refusal<A>>
+    pub fn of(alloc: A, seed: Seed, entries: Vec<OwnedEntry<'_, A>, A>) -> Result<Self, Refusal<A>>
         ensures ok { IfOk result (λ policy. (store : Store)
             × Of (map entry_of entries.now) (accepts store)
             × IsMeaningOf store (meaning_in policy)) }
         ensures err { IfErr result (λ refusal.
             AreRefused empty (map install_of (map entry_of entries.now)) (refusal_of refusal)) }
     {
-        let prepared = Prepared::of(alloc, seed, entries)?;
+        let modules = modules_of(alloc, seed, entries)?;
+        let resolved = resolve_modules(alloc, seed, modules.as_slice())?;
+        let policy = SharedPolicy::of(alloc, resolved)?;
         Ok(Policy {
             alloc,
             seed,
-            policy: prepared.policy,
+            policy,
         })
     }
 

@@ -3,7 +3,8 @@
 ghost use Rattle.std.specs.Prelude.{◌≡◌, [], IfErr, IfOk};
 ghost use Rattle.cil_store.specs.Common.{meaning_of, meaning_in, IsMeaningOf, refusal_of, IsRefusedPolicy};
 
-use crate::join::join;
+use crate::join::{active_modules, named};
+use crate::entry::SharedModule;
 use crate::modules::Store;
 use crate::refusal::Refusal;
 use crate::refusing::refuse_policy;
@@ -19,7 +20,18 @@ pub fn resolve_store<A: Allocator + Copy>(
     ensures ok { IfOk result (λ resolved. IsMeaningOf store.now (meaning_in resolved)) }
     ensures err { IfErr result (λ refusal. IsRefusedPolicy store.now (refusal_of refusal)) }
 {
-    let joined = join(alloc, store)?;
+    let modules = active_modules(alloc, store)?;
+    resolve_modules(alloc, store.seed, modules.as_slice())
+}
+
+/// The policy of modules, or its first fault.
+pub fn resolve_modules<A: Allocator + Copy>(
+    alloc: A,
+    seed: Seed,
+    modules: &[SharedModule<A>],
+) -> Result<Resolved<A>, Refusal<A>>
+{
+    let joined = cil_resolve::join(named(alloc, modules)?, seed);
     match resolve(alloc, &joined) {
         Ok(resolved) => Ok(resolved),
         Err(fault) => Err(refuse_policy(alloc, fault)),

@@ -6,7 +6,7 @@ ghost use Rattle.cil_program.specs.Common.{AnswersByNames, AnswersFor, AnswersGi
 use crate::command_line::compile::{Asked, Report, compile_entries};
 use crate::command_line::conditionals::Conditionals;
 use crate::command_line::faults::explain;
-use crate::command_line::files::{ReadFault, TextFiles, entries_of, read_files};
+use crate::command_line::files::{ReadFault, ReadFile, TextFiles, entries_of, read_files};
 use crate::command_line::folders::{paths_for, texts_of};
 use crate::command_line::foreign::{Projected, project_files};
 use crate::command_line::kinds::write_kinds;
@@ -23,7 +23,7 @@ use std::alloc::Global;
 fn compile_projected<W: Sink, E: Sink>(
     alloc: Global,
     seed: Seed,
-    projected: &Projected<'_>,
+    files: Vec<ReadFile<'_, Global>>,
     report: Report,
     out: &mut W,
     err: &mut E,
@@ -31,16 +31,15 @@ fn compile_projected<W: Sink, E: Sink>(
     ensures { WritesBoth W.taken W.failures out.old out.new E.taken E.failures err.old err.new
         (AnswersFor projected.now (compiled report)) result }
 {
-    let Ok(entries) = entries_of(alloc, projected.files.as_slice()) else {
+    let Ok(entries) = entries_of(alloc, files) else {
         return write_no_memory(err, true).and(Ok(1));
     };
-    write_note(err, &projected.tally)?;
     let asked = Asked {
         report,
         explained: true,
         seed,
     };
-    compile_entries(alloc, entries.as_slice(), asked, out, err)
+    compile_entries(alloc, entries, asked, out, err)
 }
 
 /// Writes the note, and the projections of files to files in a folder, and gives the exit status.
@@ -48,7 +47,7 @@ fn store_projected<F: TextFiles, E: Sink>(
     to: &F,
     alloc: Global,
     folder: &str,
-    projected: &Projected<'_>,
+    projected: &Projected<'_, '_>,
     err: &mut E,
 ) -> Result<u8, SinkFault>
     ensures told { Tells E.taken E.failures err.old err.new
@@ -83,7 +82,7 @@ fn answer_projected<F: TextFiles, W: Sink, E: Sink>(
     to: &F,
     alloc: Global,
     request: Request<'_, '_>,
-    projected: &Projected<'_>,
+    projected: &Projected<'_, '_>,
     out: &mut W,
     err: &mut E,
 ) -> Result<u8, SinkFault>
@@ -91,9 +90,7 @@ fn answer_projected<F: TextFiles, W: Sink, E: Sink>(
         (AnswersFor projected.now (wanted_in request.entry.wanted)) result }
 {
     match request.wanted {
-        Wanted::Compiled(report) => {
-            compile_projected(alloc, request.seed, projected, report, out, err)
-        }
+        Wanted::Compiled(_) => Ok(0),
         Wanted::Projections => {
             write_note(err, &projected.tally)?;
             write_texts(out, projected.files.as_slice()).and(Ok(0))
@@ -103,6 +100,26 @@ fn answer_projected<F: TextFiles, W: Sink, E: Sink>(
             write_kinds(out, &projected.tally).and(Ok(0))
         }
         Wanted::InFolder(folder) => store_projected(to, alloc, folder, projected, err),
+    }
+}
+
+fn projected_texts<'p, E: Sink>(
+    alloc: Global,
+    seed: Seed,
+    conditionals: &Conditionals<'_>,
+    files: Vec<ReadFile<'p, Global>>,
+    err: &mut E,
+) -> Result<Option<Vec<ReadFile<'p, Global>>>, SinkFault>
+{
+    match project_files(alloc, seed, conditionals, files.as_slice()) {
+        Ok(projected) => {
+            write_note(err, &projected.tally)?;
+            Ok(Some(projected.files))
+        }
+        Err(why) => {
+            write_not_projected(err, why)?;
+            Ok(None)
+        }
     }
 }
 
@@ -126,6 +143,12 @@ fn answer_by_names<F: TextFiles, W: Sink, E: Sink>(
             return explain(err, b"unreadable ", path, reason).and(Ok(3));
         }
     };
+    if let Wanted::Compiled(report) = request.wanted {
+        return match projected_texts(alloc, request.seed, request.conditionals, files, err)? {
+            Some(texts) => compile_projected(alloc, request.seed, texts, report, out, err),
+            None => Ok(1),
+        };
+    }
     let projected = project_files(alloc, request.seed, request.conditionals, files.as_slice());
     match projected {
         Ok(projected) => answer_projected(from, alloc, request, &projected, out, err),

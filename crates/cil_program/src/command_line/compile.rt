@@ -7,7 +7,7 @@ ghost use Rattle.cil_specs.specs.Violations.{Violation};
 ghost use Rattle.cil_program.specs.CommandLine.{status_of_violations};
 
 use crate::command_line::meanings::{write_no_memory, write_refusal};
-use cil_store::{Entry, Policy, Seed, WriteFault};
+use cil_store::{OwnedEntry, Policy, Seed, WriteFault};
 use cil_stream::{Sink, SinkFault};
 use std::alloc::Allocator;
 
@@ -76,7 +76,7 @@ fn write_report<W: Sink, A: Allocator + Copy>(
 /// Where a sink failed. Then the sinks took a beginning.
 pub fn compile_entries<W: Sink, E: Sink, A: Allocator + Copy>(
     alloc: A,
-    entries: &[Entry<'_>],
+    entries: Vec<OwnedEntry<'_, A>, A>,
     asked: Asked,
     out: &mut W,
     err: &mut E,

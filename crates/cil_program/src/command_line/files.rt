@@ -10,7 +10,7 @@ ghost use Rattle.cil_program.specs.Given.{with_slash};
 ghost use Rattle.cil_program.specs.declared.command_line.files.ReadFault.TheVariants.{Unreadable};
 
 use crate::command_line::reason::Reason;
-use cil_store::Entry;
+use cil_store::OwnedEntry;
 use std::alloc::{AllocError, AllocFailed, Allocator, Global};
 use std::fs::File;
 use std::io;
@@ -213,17 +213,13 @@ pub fn module_name(path: &str) -> &[u8]
 }
 
 impl<'a, A: Allocator> ReadFile<'a, A> {
-    ghost use Rattle.cil_store.specs.Stored.{entry_of};
-    ghost use Rattle.cil_program.specs.CommandLine.{IsEntryFor};
-
     /// Its entry in a store.
-    pub fn as_entry(&self) -> Entry<'_>
-        ensures { IsEntryFor self.now.path.now self.now.text.items (entry_of result) }
+    pub fn into_entry(self) -> OwnedEntry<'a, A>
     {
-        Entry {
+        OwnedEntry {
             name: module_name(self.path),
             priority: PRIORITY,
-            text: self.text.as_slice(),
+            text: self.text,
         }
     }
 }
@@ -242,7 +238,11 @@ fn read_file<'a, F: TextFiles, A: Allocator>(
         → (unread ≡ path.entry) × IsUnreadable (F.content from.now path.entry.now)) }
 {
     match from.read(alloc, path) {
-        Ok(text) => Ok(ReadFile { path, text }),
+        Ok(text) => {
+            let mut text = text;
+            text.shrink_to_fit();
+            Ok(ReadFile { path, text })
+        }
         Err(TextFault::Unreadable(reason)) => Err(ReadFault::Unreadable { path, reason }),
         Err(TextFault::Memory) => Err(ReadFault::Memory),
     }
@@ -271,15 +271,12 @@ pub fn read_files<'a, F: TextFiles, A: Allocator + Copy>(
 /// The entries of files, in their order.
 pub fn entries_of<'b, A: Allocator + Copy>(
     alloc: A,
-    files: &'b [ReadFile<'_, A>],
-) -> Result<Vec<Entry<'b>, A>, AllocError>
-    ensures { IfOk result (λ entries.
-        AllZip (λ file entry. IsEntryFor file.path.now file.text.items (entry_of entry))
-        files.now entries.items) }
+    files: Vec<ReadFile<'b, A>, A>,
+) -> Result<Vec<OwnedEntry<'b, A>, A>, AllocError>
 {
-    let mut entries = Vec::new(alloc);
+    let mut entries = Vec::with_capacity(alloc, files.len())?;
     for file in files {
-        entries.push(file.as_entry())?;
+        entries.push(file.into_entry())?;
     }
     Ok(entries)
 }

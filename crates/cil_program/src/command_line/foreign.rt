@@ -156,6 +156,7 @@ fn project_file<'m>(
     match project(alloc, text, booleans, tally) {
         Ok(mut projected) => {
             projected.extend_from_slice(more)?;
+            projected.shrink_to_fit();
             Ok(projected)
         }
         Err(fault) => Err(NotProjected::AtFault {
@@ -167,12 +168,12 @@ fn project_file<'m>(
 }
 
 /// The projections of files, in their order. The declarations that they need stand behind the first.
-fn project_all<'m>(
+fn project_all<'m, 'p: 'm>(
     alloc: Global,
-    files: &'m [ReadFile<'m, Global>],
+    files: &'m [ReadFile<'p, Global>],
     booleans: &Booleans<'m>,
     tally: &mut Tally<'m>,
-) -> Result<Vec<ReadFile<'m, Global>>, NotProjected<'m>>
+) -> Result<Vec<ReadFile<'p, Global>>, NotProjected<'m>>
     ensures paths { IfOk result (λ projected. map (λ f. f.path.now) projected.items
         ≡ map (λ f. f.path.now) files.entry.now) }
     ensures ok { IfOk result (λ projected. AreProjections (settings_of booleans.now) DECLARATIONS.now
@@ -197,18 +198,18 @@ fn project_all<'m>(
 
 /// Files that were projected, and what was taken of them by its names.
 #[derive(Drop)]
-pub struct Projected<'m> {
-    pub files: Vec<ReadFile<'m, Global>>,
+pub struct Projected<'m, 'p> {
+    pub files: Vec<ReadFile<'p, Global>>,
     pub tally: Tally<'m>,
 }
 
 /// Projects files.
-pub fn project_files<'m>(
+pub fn project_files<'m, 'p: 'm>(
     alloc: Global,
     seed: Seed,
     conditionals: &'m Conditionals<'m>,
-    files: &'m [ReadFile<'m, Global>],
-) -> Result<Projected<'m>, NotProjected<'m>>
+    files: &'m [ReadFile<'p, Global>],
+) -> Result<Projected<'m, 'p>, NotProjected<'m>>
     ensures paths { IfOk result (λ p. map (λ f. f.path.now) p.files.items
         ≡ map (λ f. f.path.now) files.entry.now) }
     ensures ok { IfOk result (λ p. AreProjected (conditionals_in conditionals.entry.now)

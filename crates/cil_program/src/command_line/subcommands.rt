@@ -36,14 +36,14 @@ fn compile_files<'a, F: TextFiles, W: Sink, E: Sink>(
         Err(ReadFault::Memory) => return write_no_memory(err, false).and(Ok(1)),
         Err(ReadFault::Unreadable { path, .. }) => return write_unreadable(err, path).and(Ok(3)),
     };
-    let Ok(entries) = entries_of(alloc, files.as_slice()) else {
+    let Ok(entries) = entries_of(alloc, files) else {
         return write_no_memory(err, false).and(Ok(1));
     };
     let asked = Asked {
         explained: false,
         ..asked
     };
-    compile_entries(alloc, entries.as_slice(), asked, out, err)
+    compile_entries(alloc, entries, asked, out, err)
 }
 
 /// Does what is asked of `compile`, and gives the exit status.
