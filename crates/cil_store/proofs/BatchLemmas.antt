@@ -1,9 +1,10 @@
 -- Edits that are taken in turn.
-use Rattle.cil_store.proofs.Common.{◌≡◌, inl, inr, ℕ, ◌+◌, suc, ◌<◌, List, [], ◌∷◌, ◌++◌, true, false, map, take, drop, length, get_or, refl, ap, sym, ◌∙◌, subst, take-append-drop, take_more, map-append, Store, Refusal, refuses, IsTaken, AreTaken, one_not_taken, bad_policy_of_all, is_too_long, too_long, at_once, edit_of, store_refusal_of, IsRefusalOf, IsRefusedBatch, IsRefusedEdit, IsRefusedPolicy, AreRefused, AreStopped}
+use Rattle.cil_store.proofs.Common.{◌≡◌, inl, inr, ℕ, ◌+◌, suc, ◌<◌, List, [], ◌∷◌, ◌++◌, true, false, map, take, drop, length, get_or, refl, ap, sym, ◌∙◌, subst, take-append-drop, take_more, map-append, Store, Refusal, refuses, IsTaken, AreTaken, one_not_taken, bad_policy_of_all, is_too_long, too_long, at_once, edit_of, install_of, owned_entry, store_refusal_of, IsRefusalOf, IsRefusedBatch, IsRefusedEdit, IsRefusedPolicy, AreRefused, AreStopped}
 use Rattle.std.proofs.Math.Seq.{drop-cons}
 use Rattle.cil_store_specs.specs.Next as spec
 use Rattle.cil_store_specs.proofs.TakenLemmas.{taken-more}
 use Rattle.cil_store.specs.declared.edit.Edit.{Edit}
+use Rattle.cil_store.specs.declared.entry.OwnedEntry.{OwnedEntry}
 use Rattle.cil_store.specs.declared.refusal.StoreFault.TheVariants.{BatchTooLong}
 
 -- the first edits are taken, and one more
@@ -42,3 +43,19 @@ pub refused-long : (store : Store) (edits : List spec.Edit) (refusal : Refusal) 
     → IsRefusedBatch store edits refusal
 refused-long store edits refusal word long is (inl memory) = inl memory
 refused-long store edits refusal word long is (inr same) = inr (too_long long (ap refuses (same ∙ ap (spec.by_store 35) is)))
+
+-- entries that own their texts are taken, and one more
+pub owned-taken : {A : Type 0} (entries : List (OwnedEntry A)) (e : OwnedEntry A) (store mid new : Store) → AreTaken store (map install_of (map owned_entry entries)) mid → IsTaken mid (install_of (owned_entry e)) new
+    → AreTaken store (map install_of (map owned_entry (entries ++ e ∷ []))) new
+owned-taken entries e store mid new are is =
+    subst (λ es. AreTaken store es new) (sym (ap (map install_of) (map-append owned_entry entries (e ∷ [])) ∙ map-append install_of (map owned_entry entries) (owned_entry e ∷ [])))
+    (taken-more store mid new (map install_of (map owned_entry entries)) (install_of (owned_entry e)) are is)
+
+-- and the next one is not
+pub owned-stopped : {A : Type 0} (all before : List (OwnedEntry A)) (e : OwnedEntry A) (after : List (OwnedEntry A)) (store mid : Store) (refusal : Refusal) → all ≡ before ++ e ∷ after → AreTaken store (map install_of (map owned_entry before)) mid
+    → IsRefusedEdit mid (install_of (owned_entry e)) refusal → AreStopped store (map install_of (map owned_entry all)) refusal
+owned-stopped all before e after store mid refusal same are (inl memory) = inl memory
+owned-stopped all before e after store mid refusal same are (inr is) =
+    inr (map install_of (map owned_entry before), install_of (owned_entry e), map install_of (map owned_entry after), mid,
+      ap (λ l. map install_of (map owned_entry l)) same ∙ ap (map install_of) (map-append owned_entry before (e ∷ after)) ∙ map-append install_of (map owned_entry before) (owned_entry e ∷ map owned_entry after),
+      are, is)

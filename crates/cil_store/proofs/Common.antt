@@ -14,7 +14,9 @@ pub use Rattle.cil_store.specs.Calls.{call_of, reply_of}
 pub use Rattle.cil_store.specs.Counted.{AreCountedBetween, AreCountedChanges, AreCountersOf, meaning_kept}
 pub use Rattle.cil_store.specs.Edits.{edit_of, name_of, priority_of, refusal_of, store_refusal_of}
 pub use Rattle.cil_store.specs.Refusing.{AreRefused, AreStopped, IsRefusalOf, IsRefusalOfPolicy, IsRefusedBatch, IsRefusedEdit, IsRefusedPolicy, IsRefusedText}
-pub use Rattle.cil_store.specs.Stored.{AreParsedOf, AreSized, entry_of}
+pub use Rattle.cil_store.specs.Stored.{AreParsedBy, AreParsedOf, AreSharedOf, AreSized, entry_of, owned_entry}
+pub use Rattle.cil_parse.specs.declared.parsed.ParsedModule.{ParsedModule}
+pub use Rattle.cil_store.specs.declared.entry.SharedModule.{SharedModule}
 pub use Rattle.cil_store_specs.proofs.ActiveLemmas.{active-ascend, active-first, active-none, highest-at, is_first_at}
 pub use Rattle.cil_store_specs.proofs.OneStore.{meaning-same}
 pub use Rattle.cil_store_specs.proofs.PutLemmas.{put-ordered, puts}

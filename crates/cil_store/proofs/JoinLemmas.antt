@@ -1,5 +1,5 @@
 -- The parsed modules of entries, one list of them after another.
-use Rattle.cil_store.proofs.Common.{◌≡◌, inl, inr, ◌+◌, ◌<◌, List, ℕ, [], ◌∷◌, ◌++◌, length, get_or, map, take, filter, cond, Bool, true, false, IsTrue, bytes_eq, true≢false, refl, ap, sym, ◌∙◌, subst, AllByRecursion, IsDistinct, IsStrictlySortedBy, IsPermutation, is_lt, ordering_reverse, Less, tied_itself, take_more, name_cmp, names_rise, Entry, Store, is_active, NamedModule, AreParsedOf}
+use Rattle.cil_store.proofs.Common.{◌≡◌, inl, inr, ◌+◌, ◌<◌, List, ℕ, [], ◌∷◌, ◌++◌, length, get_or, map, take, filter, cond, Bool, true, false, IsTrue, bytes_eq, true≢false, refl, ap, sym, ◌∙◌, subst, AllByRecursion, IsDistinct, IsStrictlySortedBy, IsPermutation, is_lt, ordering_reverse, Less, tied_itself, take_more, name_cmp, names_rise, Entry, Store, is_active, NamedModule, ParsedModule, AreParsedBy, AreParsedOf}
 use Rattle.std.specs.Cmp.Lexicographic.{bytes_decides}
 use Rattle.std.proofs.lemmas.List.Sorted.{Contains-permutation, IsPermutation-sym}
 use Rattle.std.proofs.lemmas.List.Elements.{filter-append}
@@ -8,11 +8,11 @@ use Rattle.cil_specs.proofs.ReportLemmasMembers.{AnyByRecursion, contains_to, co
 use Rattle.cil_parse.specs.Parsed.{IsParsed}
 
 -- parsed modules of some entries and of others behind them
-pub parsed-append : {A : Type 0} (es fs : List Entry) (ms ns : List (NamedModule A)) → AreParsedOf es ms → AreParsedOf fs ns → AreParsedOf (es ++ fs) (ms ++ ns)
-parsed-append [] fs [] ns a b = b
-parsed-append [] fs (m ∷ ms) ns a b = absurd a
-parsed-append (e ∷ es) fs [] ns a b = absurd a
-parsed-append (e ∷ es) fs (m ∷ ms) ns a b = (a.0, a.1, parsed-append es fs ms ns a.2 b)
+pub parsed-append : {A X : Type 0} (name : X → List ℕ) (parsed : X → ParsedModule A) (es fs : List Entry) (ms ns : List X) → AreParsedBy name parsed es ms → AreParsedBy name parsed fs ns → AreParsedBy name parsed (es ++ fs) (ms ++ ns)
+parsed-append name parsed [] fs [] ns a b = b
+parsed-append name parsed [] fs (m ∷ ms) ns a b = absurd a
+parsed-append name parsed (e ∷ es) fs [] ns a b = absurd a
+parsed-append name parsed (e ∷ es) fs (m ∷ ms) ns a b = (a.0, a.1, parsed-append name parsed es fs ms ns a.2 b)
 
 pub parsed-names : {A : Type 0} (es : List Entry) (ms : List (NamedModule A)) → AreParsedOf es ms → map (λ m. m.name.now) ms ≡ map (λ e. e.name) es
 parsed-names [] [] a = refl
@@ -80,18 +80,33 @@ permutation-one f xs ys sorted rise moved =
     (λ x is. contains_to ys x (Contains-permutation xs ys x moved (contains_from xs x is)))
     (λ x is. contains_to xs x (Contains-permutation ys xs x (IsPermutation-sym xs ys moved) (contains_from ys x is))))
 
--- Which entries are compiled, one after another.
-pub active-more : {A : Type 0} (store : Store) (entries : List Entry) (i : ℕ) (d : Entry) (ms : List (NamedModule A)) (m : NamedModule A) → i < length entries → is_active store (get_or entries i d) ≡ true → AreParsedOf (filter (is_active store) (take i entries)) ms
-    → m.name.now ≡ (get_or entries i d).name → IsParsed (get_or entries i d).text m.«module».now → AreParsedOf (filter (is_active store) (take (i + 1) entries)) (ms ++ m ∷ [])
-active-more store entries i d ms m within is are name text =
-    subst (λ es. AreParsedOf es (ms ++ m ∷ []))
-    (sym (ap (filter (is_active store)) (take_more entries i d within) ∙ filter-append (is_active store) (take i entries) (get_or entries i d ∷ []) ∙ ap (λ b. filter (is_active store) (take i entries) ++ cond b (get_or entries i d ∷ []) []) is))
-    (parsed-append (filter (is_active store) (take i entries)) (get_or entries i d ∷ []) ms (m ∷ []) are (name, text, tt))
+-- things that have the names and the parsed modules of others have those of the same entries
+pub parsed-same : {A X Y : Type 0} (name : X → List ℕ) (parsed : X → ParsedModule A) (title : Y → List ℕ) (read : Y → ParsedModule A) (es : List Entry) (xs : List X) (ys : List Y) → map name xs ≡ map title ys → map parsed xs ≡ map read ys
+    → AreParsedBy name parsed es xs → AreParsedBy title read es ys
+parsed-same name parsed title read [] [] [] names same are = tt
+parsed-same name parsed title read [] [] (y ∷ ys) names same are = absurd cc
+parsed-same name parsed title read [] (x ∷ xs) ys names same are = absurd are
+parsed-same name parsed title read (e ∷ es) [] ys names same are = absurd are
+parsed-same name parsed title read (e ∷ es) (x ∷ xs) [] names same are = absurd cc
+parsed-same name parsed title read (e ∷ es) (x ∷ xs) (y ∷ ys) names same are =
+    let first : name x ≡ title y = cc in
+    let later : map name xs ≡ map title ys = cc in
+    let one : parsed x ≡ read y = cc in
+    let others : map parsed xs ≡ map read ys = cc in
+    (sym first ∙ are.0, subst (IsParsed e.text) one are.1, parsed-same name parsed title read es xs ys later others are.2)
 
-pub active-same : {A : Type 0} (store : Store) (entries : List Entry) (i : ℕ) (d : Entry) (ms : List (NamedModule A)) → i < length entries → is_active store (get_or entries i d) ≡ false → AreParsedOf (filter (is_active store) (take i entries)) ms
-    → AreParsedOf (filter (is_active store) (take (i + 1) entries)) ms
-active-same store entries i d ms within is are =
-    subst (λ es. AreParsedOf es ms)
+-- Which entries are compiled, one after another.
+pub active-more : {A X : Type 0} (name : X → List ℕ) (parsed : X → ParsedModule A) (store : Store) (entries : List Entry) (i : ℕ) (d : Entry) (ms : List X) (m : X) → i < length entries → is_active store (get_or entries i d) ≡ true
+    → AreParsedBy name parsed (filter (is_active store) (take i entries)) ms → name m ≡ (get_or entries i d).name → IsParsed (get_or entries i d).text (parsed m) → AreParsedBy name parsed (filter (is_active store) (take (i + 1) entries)) (ms ++ m ∷ [])
+active-more name parsed store entries i d ms m within is are same text =
+    subst (λ es. AreParsedBy name parsed es (ms ++ m ∷ []))
+    (sym (ap (filter (is_active store)) (take_more entries i d within) ∙ filter-append (is_active store) (take i entries) (get_or entries i d ∷ []) ∙ ap (λ b. filter (is_active store) (take i entries) ++ cond b (get_or entries i d ∷ []) []) is))
+    (parsed-append name parsed (filter (is_active store) (take i entries)) (get_or entries i d ∷ []) ms (m ∷ []) are (same, text, tt))
+
+pub active-same : {A X : Type 0} (name : X → List ℕ) (parsed : X → ParsedModule A) (store : Store) (entries : List Entry) (i : ℕ) (d : Entry) (ms : List X) → i < length entries → is_active store (get_or entries i d) ≡ false
+    → AreParsedBy name parsed (filter (is_active store) (take i entries)) ms → AreParsedBy name parsed (filter (is_active store) (take (i + 1) entries)) ms
+active-same name parsed store entries i d ms within is are =
+    subst (λ es. AreParsedBy name parsed es ms)
     (sym (ap (filter (is_active store)) (take_more entries i d within) ∙ filter-append (is_active store) (take i entries) (get_or entries i d ∷ []) ∙ ap (λ b. filter (is_active store) (take i entries) ++ cond b (get_or entries i d ∷ []) []) is
     ∙ append-none (filter (is_active store) (take i entries))))
     are

@@ -11,10 +11,10 @@ pub use Rattle.cil_store.specs.Calls.{IsCountedStep, IsRefusedStep, batch_reply,
 pub use Rattle.cil_store.specs.Counted.{AreCountedBetween, AreCountedChanges, AreCountersOf, IsUncounted, meaning_kept}
 pub use Rattle.cil_store.specs.Edits.{edit_of, fault_code, name_of, priority_of, refusal_of, store_refusal_of}
 pub use Rattle.cil_store.specs.Refusing.{AreRefused, AreStopped, IsRefusalOf, IsRefusalOfPolicy, IsRefusalOfText, IsRefusedBatch, IsRefusedEdit, IsRefusedPolicy, IsRefusedText}
-pub use Rattle.cil_store.specs.Stored.{AreParsedOf, entry_of}
-pub use Rattle.cil_store_specs.specs.Next.{AreTaken, Edit, IsMeaningOf, IsPolicyOf, IsPolicyRefusal, Judgement, Next, NextOfAll, Of, Refusal, accepts, at_place, changed, for_memory, install, install_of, install_refusal, is_too_long, name_refusal, priority_refusal, remove_refusal, state_refusal, store_refusal}
+pub use Rattle.cil_store.specs.Stored.{AreParsedOf, AreSharedOf, entry_of, owned_entry}
+pub use Rattle.cil_store_specs.specs.Next.{AreTaken, Edit, IsMeaningOf, IsPolicyOf, IsPolicyRefusal, IsTaken, Judgement, Next, NextOfAll, Of, Refusal, accepts, at_place, changed, for_memory, install, install_of, install_refusal, is_too_long, name_refusal, priority_refusal, remove_refusal, state_refusal, store_refusal}
 pub use Rattle.cil_store_specs.specs.Run.{AreRowsOf, AreViolationsOf, Call, Reply, Run, Step, a_batch, an_edit, changed_by, is_answered, refused}
-pub use Rattle.cil_store_specs.specs.Store.{IsStore, Store, active, active_text, empty, entry_at, entry_cmp, has_entry, has_room, is_active, is_entry, is_installed, put, put_name, text_bytes, without, without_name}
+pub use Rattle.cil_store_specs.specs.Store.{Entry, IsStore, Store, active, active_text, empty, entry_at, entry_cmp, has_entry, has_room, is_active, is_entry, is_installed, put, put_name, text_bytes, without, without_name}
 pub use Rattle.cil_stream.specs.Device.{Gains, GainsFront, HasFailed}
 pub use Rattle.std.specs.List.{list_all, list_any, prefix_len}
 pub use Rattle.std.specs.Ordering.{is_lt}

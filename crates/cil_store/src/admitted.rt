@@ -31,18 +31,22 @@ pub enum Admitted<'e, A: Allocator = Global> {
     },
 }
 
-/// The parsed module of a text, if it spells one.
-pub fn parsed<A: Allocator + Copy>(
+/// An install with the parsed module of its text, if the text spells one.
+fn admit_install<'e, A: Allocator + Copy>(
     alloc: A,
     seed: Seed,
-    name: &[u8],
-    text: &[u8],
-) -> Result<ParsedModule<A>, Refusal<A>>
-    requires { length text.now ≤ 16777216 }
+    entry: Entry<'e>,
+) -> Result<Admitted<'e, A>, Refusal<A>>
+    requires { length entry.text.now ≤ 16777216 }
+    ensures ok { IfOk result (λ admitted. IsAdmitted admitted × (admitted_edit admitted
+        ≡ install entry.entry.name.now entry.entry.priority entry.entry.text.now)) }
+    ensures err { IfErr result (λ refusal. IsRefusedText
+        (install entry.entry.name.now entry.entry.priority entry.entry.text.now)
+        (refusal_of refusal)) }
 {
-    match parse(alloc, seed, text) {
-        Ok(module) => Ok(module),
-        Err(fault) => Err(refuse_text(alloc, name, fault)),
+    match parse(alloc, seed, entry.text) {
+        Ok(module) => Ok(Admitted::Install { entry, module }),
+        Err(fault) => Err(refuse_text(alloc, entry.name, fault)),
     }
 }
 
@@ -64,15 +68,15 @@ pub fn admit<'e, A: Allocator + Copy>(
             name,
             priority,
             text,
-        } => {
-            let module = parsed(alloc, store.seed, name, text)?;
-            let entry = Entry {
+        } => admit_install(
+            alloc,
+            store.seed,
+            Entry {
                 name,
                 priority,
                 text,
-            };
-            Ok(Admitted::Install { entry, module })
-        }
+            },
+        ),
         Edit::Remove { name, priority } => Ok(Admitted::Remove { name, priority }),
         Edit::Enable { name } => Ok(Admitted::Enable { name }),
         Edit::Disable { name } => Ok(Admitted::Disable { name }),

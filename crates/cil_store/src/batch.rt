@@ -38,7 +38,7 @@ fn is_too_long(edits: &[Edit<'_>]) -> bool
 }
 
 /// Takes an edit: makes it where neither the store nor its text is against it. Nothing is asked of the policy.
-fn take<A: Allocator + Copy>(
+pub fn take<A: Allocator + Copy>(
     alloc: A,
     store: &mut Store<A>,
     edit: Edit<'_>,

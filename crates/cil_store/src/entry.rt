@@ -1,6 +1,7 @@
 //! The entries of a store.
 
 ghost use Rattle.std.specs.Prelude.{◌≡◌, IfOk, bytes_eq, length};
+ghost use Rattle.std.specs.Rc.{rc_value};
 ghost use Rattle.cil_store.specs.Common.{is_lt, IsParsed, entry_cmp, is_entry, entry_at};
 
 use crate::edit::Edit;
@@ -35,12 +36,29 @@ impl<'a> Entry<'a> {
     }
 }
 
-/// A module's text, which it owns, under its name and priority.
+/// A module's text under its name and priority. The text is its own.
 #[derive(Drop)]
 pub struct OwnedEntry<'a, A: Allocator = Global> {
     pub name: &'a [u8],
     pub priority: u32,
     pub text: Vec<u8, A>,
+}
+
+impl<'a, A: Allocator> OwnedEntry<'a, A> {
+    ghost use Rattle.cil_store_specs.specs.Next.{install_of};
+    ghost use Rattle.cil_store.specs.Edits.{edit_of};
+    ghost use Rattle.cil_store.specs.Stored.{owned_entry};
+
+    /// The edit that installs it.
+    pub fn as_install(&self) -> Edit<'_>
+        ensures { edit_of result ≡ install_of (owned_entry self.now) }
+    {
+        Edit::Install {
+            name: self.name,
+            priority: self.priority,
+            text: self.text.as_slice(),
+        }
+    }
 }
 
 /// What an entry keeps beside its parsed module.
@@ -56,24 +74,6 @@ struct Kept<A: Allocator> {
 pub struct StoredEntry<A: Allocator = Global> {
     kept: Rc<Kept<A>, A>,
     module: Rc<ParsedModule<A>, A>,
-}
-
-/// The parsed module of an entry under the entry's name. It stays where the entry is given up.
-#[derive(Drop)]
-pub struct SharedModule<A: Allocator = Global> {
-    name: Text<A>,
-    module: Rc<ParsedModule<A>, A>,
-}
-
-impl<A: Allocator> SharedModule<A> {
-    /// The same, borrowed.
-    pub fn as_named(&self) -> NamedModule<'_, A>
-    {
-        NamedModule {
-            name: self.name.as_slice(),
-            module: &self.module,
-        }
-    }
 }
 
 impl<A: Allocator> Model for StoredEntry<A> {
@@ -92,19 +92,15 @@ impl<A: Allocator> Model for StoredEntry<A> {
 impl<A: Allocator + Copy> StoredEntry<A> {
     ghost use Rattle.cil_store.specs.Stored.{entry_of};
 
-    /// An entry, whose text is not copied, with the parsed module of its text.
-    pub fn of(
-        alloc: A,
-        entry: OwnedEntry<'_, A>,
-        module: ParsedModule<A>,
-    ) -> Result<Self, AllocError>
-        requires { IsParsed entry.text.items «module» }
-        ensures { IfOk result (λ e. e ≡ owned_entry entry.entry) }
+    /// A copy of an entry, with the parsed module of its text.
+    pub fn of(alloc: A, entry: Entry<'_>, module: ParsedModule<A>) -> Result<Self, AllocError>
+        requires { IsParsed entry.text.now «module» }
+        ensures { IfOk result (λ e. e ≡ entry_of entry.entry) }
     {
         let kept = Kept {
             name: Text::of(alloc, entry.name)?,
             priority: entry.priority,
-            text: Text::from_vec(entry.text),
+            text: Text::of(alloc, entry.text)?,
         };
         Ok(StoredEntry {
             kept: Rc::new(alloc, kept)?,
@@ -112,8 +108,10 @@ impl<A: Allocator + Copy> StoredEntry<A> {
         })
     }
 
-    /// Its parsed module under its name.
+    /// The parsed module of its text under its name, which stays where the entry is given up.
     pub fn share_module(&self, alloc: A) -> Result<SharedModule<A>, AllocError>
+        ensures name { IfOk result (λ m. m.name ≡ self.now.name) }
+        ensures parsed { IfOk result (λ m. IsParsed self.now.text (rc_value m.«module»)) }
     {
         Ok(SharedModule {
             name: Text::of(alloc, self.kept.name.as_slice())?,
@@ -186,5 +184,25 @@ impl<A: Allocator> StoredEntry<A> {
         ensures { result ≡ bytes_eq self.now.name name.now }
     {
         self.name() == name
+    }
+}
+
+/// A parsed module under its name. It is shared with the entries that have it.
+#[derive(Drop)]
+pub struct SharedModule<A: Allocator = Global> {
+    name: Text<A>,
+    module: Rc<ParsedModule<A>, A>,
+}
+
+impl<A: Allocator> SharedModule<A> {
+    /// The same, borrowed.
+    pub fn as_named(&self) -> NamedModule<'_, A>
+        ensures name { result.name.now ≡ self.now.name }
+        ensures module { result.«module».now ≡ rc_value self.now.«module» }
+    {
+        NamedModule {
+            name: self.name.as_slice(),
+            module: &self.module,
+        }
     }
 }

@@ -1,6 +1,7 @@
 //! The modules of a store.
 
 ghost use Rattle.std.specs.Prelude.{◌≡◌, ◌<◌, ◌==◌, [], Option, Some, None, length, slice_get, slice_index_or, option_map, IfOk, OnOk, OnErr, MatchResult};
+ghost use Rattle.std.specs.Rc.{rc_value};
 ghost use Rattle.cil_store.specs.Common.{Refusal, changed, install_refusal, remove_refusal, state_refusal, store_refusal, name_refusal, priority_refusal, active_text, empty, is_active, edit_of, name_of, priority_of, store_refusal_of, admitted_edit, IsAdmitted, entry_at, IsParsed, entry_of};
 ghost use Rattle.cil_store_specs.specs.StoreReport.{is_disabled, state_word};
 ghost use Rattle.cil_store.specs.States.{word_of};
@@ -10,8 +11,7 @@ use crate::admitted::Admitted;
 use crate::disabled::Disabled;
 use crate::edit::Edit;
 use crate::entries::Entries;
-use crate::entry::{Entry, OwnedEntry, SharedModule, StoredEntry};
-use cil_parse::ParsedModule;
+use crate::entry::{Entry, SharedModule, StoredEntry};
 use crate::refusal::{StoreFault, is_module_name};
 use cil_names::Seed;
 use cil_resolve::Text;
@@ -248,15 +248,12 @@ impl<A: Allocator + Copy> Store<A> {
 
     /// The parsed module of the entry at a place, under the entry's name.
     pub(crate) fn share_module(&self, alloc: A, i: usize) -> Result<SharedModule<A>, AllocError>
+        requires { i < length self.now.entries }
+        ensures name { IfOk result (λ m. m.name ≡ (slice_index_or self.now.entries i (entry_at [] 0)).name) }
+        ensures parsed { IfOk result (λ m.
+            IsParsed (slice_index_or self.now.entries i (entry_at [] 0)).text (rc_value m.«module»)) }
     {
         self.entries.as_slice()[i].share_module(alloc)
-    }
-
-    /// Puts in an entry with the parsed module of its text.
-    pub(crate) fn put(&mut self, alloc: A, entry: OwnedEntry<'_, A>, module: ParsedModule<A>) -> Result<(), AllocError>
-    {
-        let entry = StoredEntry::of(alloc, entry, module)?;
-        self.entries.put(entry)
     }
 
     /// Makes an edit that was admitted. An out of memory leaves the store as it was.
@@ -267,9 +264,8 @@ impl<A: Allocator + Copy> Store<A> {
     {
         match edit {
             Admitted::Install { entry, module } => {
-                let text = Vec::from_slice(alloc, entry.text)?;
-                let owned = OwnedEntry { name: entry.name, priority: entry.priority, text };
-                self.put(alloc, owned, module)
+                let entry = StoredEntry::of(alloc, entry, module)?;
+                self.entries.put(entry)
             }
             Admitted::Remove { name, priority } => {
                 self.entries.remove(name, priority);

@@ -1,15 +1,14 @@
 //! Entries that are compiled at once.
 
-ghost use Rattle.std.specs.Prelude.{◌≡◌, ◌≤◌, List, IfErr, IfOk, IsErrOf, OnErr, flat_map, length, map};
-ghost use Rattle.cil_store.specs.Common.{HasFailed, Gains, GainsFront, is_in_table, AreAtoms, Row, row_line, Violation, AreViolations, violations_text, meaning_in, listed, IsMeaningOf, Of, accepts, install_of, AreRowsOf, AreViolationsOf, Store, empty, refusal_of, AreRefused, entry_of};
+ghost use Rattle.std.specs.Prelude.{◌≡◌, ◌≤◌, List, IfErr, IfOk, IsErrOf, OnErr, OnOk, flat_map, length, map};
+ghost use Rattle.cil_store.specs.Common.{HasFailed, Gains, GainsFront, is_in_table, AreAtoms, Row, row_line, Violation, AreViolations, violations_text, meaning_in, listed, IsMeaningOf, IsStore, IsTaken, Of, accepts, active, install_of, owned_entry, AreRowsOf, AreSharedOf, AreStopped, AreTaken, AreViolationsOf, Store as SpecStore, empty, refusal_of, AreRefused, IsRefusedEdit};
 
+use crate::batch::take;
 use crate::compiled::WriteFault;
 use crate::counted_policy::{CountedPolicy, SharedPolicy};
-use crate::admitted::parsed;
+use crate::entry::{OwnedEntry, SharedModule};
 use crate::join::active_modules;
 use crate::modules::Store;
-use crate::refusing::refuse_edit;
-use crate::entry::{OwnedEntry, SharedModule};
 use crate::refusal::Refusal;
 use crate::resolving::{resolve_modules, resolve_nothing};
 use cil_counters::violations_at_once;
@@ -68,18 +67,29 @@ fn violations_of<A: Allocator + Copy>(
     violations_at_once(alloc, seed, &nothing, policy.shared())
 }
 
-/// Puts in an entry.
-fn install<A: Allocator + Copy>(alloc: A, store: &mut Store<A>, entry: OwnedEntry<'_, A>) -> Result<(), Refusal<A>>
+/// Installs an entry in a store, and gives up its own text. Nothing is asked of the policy.
+fn install<A: Allocator + Copy>(
+    alloc: A,
+    store: &mut Store<A>,
+    entry: OwnedEntry<'_, A>,
+) -> Result<(), Refusal<A>>
+    ensures ok { OnOk result (IsTaken store.old (install_of (owned_entry entry.entry)) store.new) }
+    ensures err { IfErr result (λ refusal.
+        IsRefusedEdit store.old (install_of (owned_entry entry.entry)) (refusal_of refusal)) }
 {
-    if let Err(fault) = store.check_install(entry.name, entry.priority, entry.text.len()) {
-        return Err(refuse_edit(alloc, fault, entry.name, entry.priority));
-    }
-    let module = parsed(alloc, store.seed, entry.name, entry.text.as_slice())?;
-    store.put(alloc, entry, module)?;
-    Ok(())
+    take(alloc, store, entry.as_install())
 }
 
-fn install_all<A: Allocator + Copy>(alloc: A, seed: Seed, entries: Vec<OwnedEntry<'_, A>, A>) -> Result<Store<A>, Refusal<A>>
+/// The store that entries lead to, each of which is installed in turn in an empty store.
+fn install_all<A: Allocator + Copy>(
+    alloc: A,
+    seed: Seed,
+    entries: Vec<OwnedEntry<'_, A>, A>,
+) -> Result<Store<A>, Refusal<A>>
+    ensures ok { IfOk result (λ store.
+        AreTaken empty (map install_of (map owned_entry entries.entry.items)) store) }
+    ensures err { IfErr result (λ refusal.
+        AreStopped empty (map install_of (map owned_entry entries.entry.items)) (refusal_of refusal)) }
 {
     let mut store = Store::new(alloc, seed);
     for entry in entries {
@@ -88,22 +98,36 @@ fn install_all<A: Allocator + Copy>(alloc: A, seed: Seed, entries: Vec<OwnedEntr
     Ok(store)
 }
 
-fn modules_of<A: Allocator + Copy>(alloc: A, seed: Seed, entries: Vec<OwnedEntry<'_, A>, A>) -> Result<Vec<SharedModule<A>, A>, Refusal<A>>
+/// The parsed modules of the store that entries lead to. The store and its texts are given up.
+fn modules_of<A: Allocator + Copy>(
+    alloc: A,
+    seed: Seed,
+    entries: Vec<OwnedEntry<'_, A>, A>,
+) -> Result<Vec<SharedModule<A>, A>, Refusal<A>>
+    ensures ok { IfOk result (λ modules. (store : SpecStore) × IsStore store
+        × AreTaken empty (map install_of (map owned_entry entries.entry.items)) store
+        × AreSharedOf (active store) modules.items) }
+    ensures err { IfErr result (λ refusal.
+        AreStopped empty (map install_of (map owned_entry entries.entry.items)) (refusal_of refusal)) }
 {
     let store = install_all(alloc, seed, entries)?;
-    let modules = active_modules(alloc, &store)?;
-    Ok(modules)
+    let _ = &store.entries;
+    Ok(active_modules(alloc, &store)?)
 }
 
 impl<A: Allocator + Copy> Policy<A> {
     /// Compiles a list of entries: each is installed in turn in an empty store, whose tables of names are hashed by a seed, and the
-    /// policy is judged once, at the end. The store is given up then.
-    pub fn of(alloc: A, seed: Seed, entries: Vec<OwnedEntry<'_, A>, A>) -> Result<Self, Refusal<A>>
-        ensures ok { IfOk result (λ policy. (store : Store)
-            × Of (map entry_of entries.now) (accepts store)
+    /// policy is judged once, at the end. The texts are given up before that.
+    pub fn of(
+        alloc: A,
+        seed: Seed,
+        entries: Vec<OwnedEntry<'_, A>, A>,
+    ) -> Result<Self, Refusal<A>>
+        ensures ok { IfOk result (λ policy. (store : SpecStore)
+            × Of (map owned_entry entries.entry.items) (accepts store)
             × IsMeaningOf store (meaning_in policy)) }
         ensures err { IfErr result (λ refusal.
-            AreRefused empty (map install_of (map entry_of entries.now)) (refusal_of refusal)) }
+            AreRefused empty (map install_of (map owned_entry entries.entry.items)) (refusal_of refusal)) }
     {
         let modules = modules_of(alloc, seed, entries)?;
         let resolved = resolve_modules(alloc, seed, modules.as_slice())?;
@@ -117,11 +141,11 @@ impl<A: Allocator + Copy> Policy<A> {
 
     /// Writes the listing, a line for each row, and tells how many there are.
     pub fn write_listing<W: Sink>(&self, sink: &mut W) -> Result<u128, WriteFault>
-        ensures ok { (store : Store) → IsMeaningOf store (meaning_in self.now) → IfOk result (λ n.
+        ensures ok { (store : SpecStore) → IsMeaningOf store (meaning_in self.now) → IfOk result (λ n.
             (rows : List Row) × AreRowsOf store rows
             × (n ≡ length rows)
             × Gains (W.taken sink.old) (W.taken sink.new) (flat_map row_line rows)) }
-        ensures err { (store : Store) → IsMeaningOf store (meaning_in self.now) → OnErr result (
+        ensures err { (store : SpecStore) → IsMeaningOf store (meaning_in self.now) → OnErr result (
             (rows : List Row) × AreRowsOf store rows
             × GainsFront (W.taken sink.old) (W.taken sink.new) (flat_map row_line rows)) }
         ensures memory { IsErrOf result WriteFault.Memory → W.taken sink.new ≡ W.taken sink.old }
@@ -139,11 +163,11 @@ impl<A: Allocator + Copy> Policy<A> {
 
     /// Writes the violations of neverallow rules, a line for each, and tells how many there are.
     pub fn write_violations<W: Sink>(&self, sink: &mut W) -> Result<usize, WriteFault>
-        ensures ok { (store : Store) → IsMeaningOf store (meaning_in self.now) → IfOk result (λ n.
+        ensures ok { (store : SpecStore) → IsMeaningOf store (meaning_in self.now) → IfOk result (λ n.
             (violations : List Violation) × AreViolationsOf store violations
             × (n ≡ length violations)
             × Gains (W.taken sink.old) (W.taken sink.new) (violations_text violations)) }
-        ensures err { (store : Store) → IsMeaningOf store (meaning_in self.now)
+        ensures err { (store : SpecStore) → IsMeaningOf store (meaning_in self.now)
             → IsErrOf result WriteFault.Sink
             → (violations : List Violation) × AreViolationsOf store violations
             × GainsFront (W.taken sink.old) (W.taken sink.new) (violations_text violations) }

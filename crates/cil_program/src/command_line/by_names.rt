@@ -1,7 +1,9 @@
 //! What is done with files whose statements outside the language are taken by their names alone.
 
-ghost use Rattle.std.specs.Prelude.{◌≡◌, [], All, map, IfOk};
-ghost use Rattle.cil_program.specs.Common.{AnswersByNames, AnswersFor, AnswersGiven, IsStored, Tells, WritesBoth, compiled, conditionals_in, in_folder, wanted_in};
+ghost use Rattle.std.specs.Prelude.{◌≡◌, ◌≤◌, ℕ, List, [], All, map, IfNone, IfOk, IfSome, OnErr};
+ghost use Rattle.cil_projection.specs.Statements.{Counts};
+ghost use Rattle.cil_program.specs.ByNames.{AreEntriesFor, AreProjected, note_line};
+ghost use Rattle.cil_program.specs.Common.{Content, Gains, GainsFront, HasFailed, IsReadOf, owned_entry, AnswersByNames, AnswersFor, AnswersGiven, IsStored, Tells, WritesBoth, compiled, conditionals_in, in_folder, wanted_in};
 
 use crate::command_line::compile::{Asked, Report, compile_entries};
 use crate::command_line::conditionals::Conditionals;
@@ -15,29 +17,71 @@ use crate::command_line::notes::{write_not_projected, write_note, write_texts};
 use crate::command_line::same_names::{same_named, write_same_names};
 use crate::command_line::targets::{Unwritable, targets_of, write_targets};
 use crate::command_line::wanted::Wanted;
-use cil_store::Seed;
+use cil_store::{OwnedEntry, Seed};
 use cil_stream::{Sink, SinkFault};
 use std::alloc::Global;
 
-/// Compiles projected files and writes the note and the report, and gives the exit status. Refusals are explained.
-fn compile_projected<W: Sink, E: Sink>(
+/// The entries of the projections of files, once the note is written; none where a refusal is written in place of it.
+fn noted_entries<'p, E: Sink>(
     alloc: Global,
-    seed: Seed,
+    request: Request<'_, '_>,
+    files: &[ReadFile<'p, Global>],
+    err: &mut E,
+) -> Result<Option<Vec<OwnedEntry<'p, Global>>>, SinkFault>
+    ensures some { IfOk result (λ found. IfSome found (λ entries.
+        (projected : List (List ℕ)) × (counts : Counts)
+        × AreProjected (conditionals_in request.entry.conditionals.now)
+        (map (λ f. f.text.items) files.now) projected counts
+        × AreEntriesFor (map (λ f. f.path.now) files.now) projected (map owned_entry entries.items)
+        × Gains (E.taken err.old) (E.taken err.new) (note_line counts))) }
+    ensures none { IfOk result (λ found. IfNone found ((content : List ℕ → Content) (report : Report)
+        → All (λ f. IsReadOf (content f.path.now) f.text.items) files.now
+        → (told : List ℕ) × Gains (E.taken err.old) (E.taken err.new) told
+        × AnswersByNames content (map (λ f. f.path.now) files.now)
+        (conditionals_in request.entry.conditionals.now) (compiled report) [] told 1)) }
+    ensures cut { OnErr result ((content : List ℕ → Content) (report : Report)
+        → All (λ f. IsReadOf (content f.path.now) f.text.items) files.now
+        → (told : List ℕ) × (status : ℕ) × GainsFront (E.taken err.old) (E.taken err.new) told
+        × AnswersByNames content (map (λ f. f.path.now) files.now)
+        (conditionals_in request.entry.conditionals.now) (compiled report) [] told status) }
+    ensures failed { OnErr result (HasFailed (E.failures err.old) (E.failures err.new)) }
+    ensures counted { E.failures err.old ≤ E.failures err.new }
+{
+    let projected = match project_files(alloc, request.seed, request.conditionals, files) {
+        Ok(projected) => projected,
+        Err(why) => return write_not_projected(err, why).and(Ok(None)),
+    };
+    let Ok(entries) = entries_of(alloc, projected.files) else {
+        return write_no_memory(err, true).and(Ok(None));
+    };
+    write_note(err, &projected.tally)?;
+    Ok(Some(entries))
+}
+
+/// Compiles the projections of files and writes the note and the report, and gives the exit status. Refusals are explained. The texts
+/// that were read are given up before the projections are compiled.
+fn compile_by_names<F: TextFiles, W: Sink, E: Sink>(
+    from: &F,
+    alloc: Global,
+    request: Request<'_, '_>,
     files: Vec<ReadFile<'_, Global>>,
     report: Report,
     out: &mut W,
     err: &mut E,
 ) -> Result<u8, SinkFault>
+    requires { All (λ f. IsReadOf (F.content from.now f.path.now) f.text.items) files.items }
     ensures { WritesBoth W.taken W.failures out.old out.new E.taken E.failures err.old err.new
-        (AnswersFor projected.now (compiled report)) result }
+        (AnswersByNames (F.content from.now) (map (λ f. f.path.now) files.entry.items)
+        (conditionals_in request.entry.conditionals.now) (compiled report)) result }
 {
-    let Ok(entries) = entries_of(alloc, files) else {
-        return write_no_memory(err, true).and(Ok(1));
+    let Some(entries) = noted_entries(alloc, request, files.as_slice(), err)? else {
+        return Ok(1);
     };
+    drop(files);
     let asked = Asked {
         report,
         explained: true,
-        seed,
+        seed: request.seed,
     };
     compile_entries(alloc, entries, asked, out, err)
 }
@@ -86,11 +130,12 @@ fn answer_projected<F: TextFiles, W: Sink, E: Sink>(
     out: &mut W,
     err: &mut E,
 ) -> Result<u8, SinkFault>
+    requires { (report : Report) → request.old.wanted ≡ Compiled report → ⊥ }
     ensures { WritesBoth W.taken W.failures out.old out.new E.taken E.failures err.old err.new
         (AnswersFor projected.now (wanted_in request.entry.wanted)) result }
 {
     match request.wanted {
-        Wanted::Compiled(_) => Ok(0),
+        Wanted::Compiled(_) => unreachable!("files that are compiled are answered by themselves"),
         Wanted::Projections => {
             write_note(err, &projected.tally)?;
             write_texts(out, projected.files.as_slice()).and(Ok(0))
@@ -100,26 +145,6 @@ fn answer_projected<F: TextFiles, W: Sink, E: Sink>(
             write_kinds(out, &projected.tally).and(Ok(0))
         }
         Wanted::InFolder(folder) => store_projected(to, alloc, folder, projected, err),
-    }
-}
-
-fn projected_texts<'p, E: Sink>(
-    alloc: Global,
-    seed: Seed,
-    conditionals: &Conditionals<'_>,
-    files: Vec<ReadFile<'p, Global>>,
-    err: &mut E,
-) -> Result<Option<Vec<ReadFile<'p, Global>>>, SinkFault>
-{
-    match project_files(alloc, seed, conditionals, files.as_slice()) {
-        Ok(projected) => {
-            write_note(err, &projected.tally)?;
-            Ok(Some(projected.files))
-        }
-        Err(why) => {
-            write_not_projected(err, why)?;
-            Ok(None)
-        }
     }
 }
 
@@ -144,10 +169,7 @@ fn answer_by_names<F: TextFiles, W: Sink, E: Sink>(
         }
     };
     if let Wanted::Compiled(report) = request.wanted {
-        return match projected_texts(alloc, request.seed, request.conditionals, files, err)? {
-            Some(texts) => compile_projected(alloc, request.seed, texts, report, out, err),
-            None => Ok(1),
-        };
+        return compile_by_names(from, alloc, request, files, report, out, err);
     }
     let projected = project_files(alloc, request.seed, request.conditionals, files.as_slice());
     match projected {

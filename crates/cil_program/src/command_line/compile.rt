@@ -1,7 +1,7 @@
 //! The compilation of entries at once.
 
 ghost use Rattle.std.specs.Prelude.{◌≡◌, ◌≤◌, [], List, ℕ, map, length, IfOk, IsErrOf};
-ghost use Rattle.cil_program.specs.Common.{Gains, GainsFront, HasFailed, IsMeaningOf, Of, accepts, Store, entry_of, Compiles, WritesBoth};
+ghost use Rattle.cil_program.specs.Common.{Gains, GainsFront, HasFailed, IsMeaningOf, Of, accepts, Store, owned_entry, Compiles, WritesBoth};
 ghost use Rattle.cil_resolve.specs.Resolved.{meaning_in};
 ghost use Rattle.cil_specs.specs.Violations.{Violation};
 ghost use Rattle.cil_program.specs.CommandLine.{status_of_violations};
@@ -82,7 +82,7 @@ pub fn compile_entries<W: Sink, E: Sink, A: Allocator + Copy>(
     err: &mut E,
 ) -> Result<u8, SinkFault>
     ensures { WritesBoth W.taken W.failures out.old out.new E.taken E.failures err.old err.new
-        (Compiles asked.explained (map entry_of entries.now) asked.report) result }
+        (Compiles asked.explained (map owned_entry entries.entry.items) asked.report) result }
 {
     let policy = match Policy::of(alloc, asked.seed, entries) {
         Ok(policy) => policy,

@@ -4,7 +4,7 @@ ghost use Rattle.std.specs.Prelude.{◌≡◌, ◌==◌, All, Contains, List, �
 ghost use Rattle.std.specs.List.{AllZip, filter, slice_split};
 ghost use Rattle.std.specs.Str.{is_utf8};
 ghost use Rattle.std.specs.String.{string_bytes};
-ghost use Rattle.cil_store.specs.Stored.{entry_of};
+ghost use Rattle.cil_store.specs.Stored.{owned_entry};
 ghost use Rattle.cil_program.specs.CommandLine.{Content, IsBaseName, IsEntryFor, IsListed, IsReadOf, IsTextOf, IsUnreadable, NamesModule, untold};
 ghost use Rattle.cil_program.specs.Given.{with_slash};
 ghost use Rattle.cil_program.specs.declared.command_line.files.ReadFault.TheVariants.{Unreadable};
@@ -213,8 +213,12 @@ pub fn module_name(path: &str) -> &[u8]
 }
 
 impl<'a, A: Allocator> ReadFile<'a, A> {
-    /// Its entry in a store.
+    ghost use Rattle.cil_store.specs.Stored.{owned_entry};
+    ghost use Rattle.cil_program.specs.CommandLine.{IsEntryFor};
+
+    /// Its entry in a store, which has its text.
     pub fn into_entry(self) -> OwnedEntry<'a, A>
+        ensures { IsEntryFor self.entry.path.now self.entry.text.items (owned_entry result) }
     {
         OwnedEntry {
             name: module_name(self.path),
@@ -238,8 +242,7 @@ fn read_file<'a, F: TextFiles, A: Allocator>(
         → (unread ≡ path.entry) × IsUnreadable (F.content from.now path.entry.now)) }
 {
     match from.read(alloc, path) {
-        Ok(text) => {
-            let mut text = text;
+        Ok(mut text) => {
             text.shrink_to_fit();
             Ok(ReadFile { path, text })
         }
@@ -268,11 +271,14 @@ pub fn read_files<'a, F: TextFiles, A: Allocator + Copy>(
     Ok(files)
 }
 
-/// The entries of files, in their order.
+/// The entries of files, in their order. They have the files' texts.
 pub fn entries_of<'b, A: Allocator + Copy>(
     alloc: A,
     files: Vec<ReadFile<'b, A>, A>,
 ) -> Result<Vec<OwnedEntry<'b, A>, A>, AllocError>
+    ensures { IfOk result (λ entries.
+        AllZip (λ file entry. IsEntryFor file.path.now file.text.items (owned_entry entry))
+        files.entry.items entries.items) }
 {
     let mut entries = Vec::with_capacity(alloc, files.len())?;
     for file in files {

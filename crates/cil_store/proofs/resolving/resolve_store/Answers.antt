@@ -1,21 +1,13 @@
-use Rattle.cil_store.proofs.Common.{meaning_in, active, refusal_of}
-use Rattle.cil_store.proofs.ParsedLemmas.{kept-modules}
-use Rattle.cil_store.proofs.StepLemmas.{policy-refused, store-meaning}
+use Rattle.cil_store.proofs.Common.{subst, IsStore, active, Store, err_from_is_err_and}
 use Rattle.cil_store.proofs.resolving.resolve_store.Goals as goal
 
-pub resolve-requires : goal.resolve-requires
-resolve-requires g c =
-    let kept = kept-modules (active c.args.store.now) c.in_ok-joined.joined.modules.items c.in_ok-joined.ensures in
-    (kept.0, kept.1)
+pub resolve_modules-requires : goal.resolve_modules-requires
+resolve_modules-requires g c =
+    let store : Store = c.args.store.now in
+    (store, subst IsStore c.store.view_is c.store.invariant, c.in_ok-modules.ensures)
+
+pub returns-clause-ok : goal.returns-clause-ok
+returns-clause-ok g c = _
 
 pub returns-clause-err : goal.returns-clause-err
-returns-clause-err g c =
-    let store = c.args.store.now in
-    let kept = kept-modules (active store) c.in_ok-joined.joined.modules.items c.in_ok-joined.ensures in
-    policy-refused c.in-Err.fault (refusal_of c.refuse_policy.result) store kept.0 kept.2 (c.in-Err.ensures.err kept.0 kept.1) c.refuse_policy.ensures
-
-pub returns-in-Ok-clause-ok : goal.returns-in-Ok-clause-ok
-returns-in-Ok-clause-ok g c =
-    let store = c.args.store.now in
-    let kept = kept-modules (active store) c.in_ok-joined.joined.modules.items c.in_ok-joined.ensures in
-    store-meaning store kept.0 (meaning_in c.in-Ok.resolved) kept.2 (c.in-Ok.ensures.meaning kept.0 kept.1)
+returns-clause-err g c = _
