@@ -56,6 +56,12 @@ pub owned-stopped : {A : Type 0} (all before : List (OwnedEntry A)) (e : OwnedEn
     → IsRefusedEdit mid (install_of (owned_entry e)) refusal → AreStopped store (map install_of (map owned_entry all)) refusal
 owned-stopped all before e after store mid refusal same are (inl memory) = inl memory
 owned-stopped all before e after store mid refusal same are (inr is) =
-    inr (map install_of (map owned_entry before), install_of (owned_entry e), map install_of (map owned_entry after), mid,
+    inr (
+      map install_of (map owned_entry before),
+      install_of (owned_entry e),
+      map install_of (map owned_entry after),
+      mid,
       ap (λ l. map install_of (map owned_entry l)) same ∙ ap (map install_of) (map-append owned_entry before (e ∷ after)) ∙ map-append install_of (map owned_entry before) (owned_entry e ∷ map owned_entry after),
-      are, is)
+      are,
+      is,
+    )

@@ -118,11 +118,7 @@ fn modules_of<A: Allocator + Copy>(
 impl<A: Allocator + Copy> Policy<A> {
     /// Compiles a list of entries: each is installed in turn in an empty store, whose tables of names are hashed by a seed, and the
     /// policy is judged once, at the end. The texts are given up before that.
-    pub fn of(
-        alloc: A,
-        seed: Seed,
-        entries: Vec<OwnedEntry<'_, A>, A>,
-    ) -> Result<Self, Refusal<A>>
+    pub fn of(alloc: A, seed: Seed, entries: Vec<OwnedEntry<'_, A>, A>) -> Result<Self, Refusal<A>>
         ensures ok { IfOk result (λ policy. (store : SpecStore)
             × Of (map owned_entry entries.entry.items) (accepts store)
             × IsMeaningOf store (meaning_in policy)) }

@@ -42,7 +42,8 @@ pub fn resolve_store<A: Allocator + Copy>(
 {
     let _ = &store.entries;
     let modules = active_modules(alloc, store)?;
-    resolve_modules(alloc, store.seed, modules.as_slice())
+    let resolved = resolve_modules(alloc, store.seed, modules.as_slice())?;
+    Ok(resolved)
 }
 
 /// The policy of no statement, which has no name to hash.

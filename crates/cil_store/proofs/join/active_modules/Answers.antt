@@ -9,7 +9,7 @@ loop-i-preserved g c =
     let i = c.loop-i.i in
     let within : i < length store.entries = omega (arith, c.loop-i-test.true, c.len-i-end.ensures) in
     subst (AreSharedOf (filter (is_active store) (take (i + 1) store.entries))) (sym c.in_ok-push.ensures.items)
-    (active-more (λ m. m.name) (λ m. rc_value m.«module») store store.entries i (entry_at [] 0) c.loop-i.modules.items c.in_ok-share_module.value within (sym c.is_active.ensures ∙ c.if-not-is_active.false) c.loop-i.invariant c.in_ok-share_module.ensures.name c.in_ok-share_module.ensures.parsed)
+    (active-more (λ m. m.name) (λ m. rc_value m.«module») store store.entries i (entry_at [] 0) c.loop-i.modules.items c.in_ok-share_module.field-0 within (sym c.is_active.ensures ∙ c.if-not-is_active.false) c.loop-i.invariant c.in_ok-share_module.ensures.name c.in_ok-share_module.ensures.parsed)
 
 pub loop-i-preserved-then-not-is_active : goal.loop-i-preserved-then-not-is_active
 loop-i-preserved-then-not-is_active g c =

@@ -1,4 +1,4 @@
-use Rattle.std.proofs.Common.{rules, ap, sym, subst, ◌∙◌, map, take, take_all, arith}
+use Rattle.std.proofs.Common.{ap, sym, ◌∙◌, map, take_all, arith}
 use Rattle.std.specs.Rc.{rc_value}
 use Rattle.cil_store.proofs.JoinLemmas.{parsed-same}
 use Rattle.cil_store.proofs.join.named.Goals as goal

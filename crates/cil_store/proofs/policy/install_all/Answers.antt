@@ -25,14 +25,14 @@ pub returns-in_err-install-clause-err : goal.returns-in_err-install-clause-err
 returns-in_err-install-clause-err g c =
     let at = c.loop-entry in
     let x = c.in-Some.entry in
-    let made = err_from_is_err_and c.from_residual-in_err-install.result c.from_residual-in_err-install.ensures.1 in
+    let made = err_from_is_err_and c.from_residual.result c.from_residual.ensures.1 in
     let steps : into_iter_items at.entry-iterator ≡ x ∷ into_iter_items c.next.new.self = c.in-Some.ensures.steps.0 in
     let all = sym c.into_iter-entry-iterator.ensures.into_iter_gives.0 ∙ sym at.invariant.0 ∙ ap (λ l. at.yielded ++ l) steps in
     rw (made.1, made.2)
     (owned-stopped c.args.entries.items at.yielded x (into_iter_items c.next.new.self) empty at.store (refusal_of c.in_err-install.field-0.0) all at.invariant.1 c.in_err-install.ensures.err)
 
-pub returns : goal.returns
-returns g c =
+pub returns-clause-ok : goal.returns-clause-ok
+returns-clause-ok g c =
     let at = c.loop-entry in
     let none = c.in-None.ensures.steps in
     let nothing : into_iter_items at.entry-iterator ≡ [] = nothing_left _ (sym at.invariant.2 ∙ none.0) in

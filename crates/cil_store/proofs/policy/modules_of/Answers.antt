@@ -1,4 +1,4 @@
-use Rattle.cil_store.proofs.Common.{subst, IsStore, Store, err_from_is_err_and}
+use Rattle.cil_store.proofs.Common.{subst, IsStore, Store}
 use Rattle.cil_store.proofs.policy.modules_of.Goals as goal
 
 pub returns-clause-ok : goal.returns-clause-ok
