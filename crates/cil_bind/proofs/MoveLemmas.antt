@@ -10,8 +10,8 @@ use Rattle.cil_bind.proofs.PositionLemmas.{position-cons, at_if, take-next}
 use Rattle.cil_bind.proofs.StayLemmas.{Stays, leads-stays}
 
 -- what is read at an index within some places, and is told as this
-pub lead-at : (places : List (Option ℕ)) (i : ℕ) (o found : Option ℕ) → i < length places → o ≡ get_or places i o → found ≡ o → get_or places i None ≡ found
-lead-at places i o found low is told = get_or_from_slice_get places i o None (slice_get-get_or places i o low ∙ ap Some (sym is)) ∙ sym told
+pub place-told : (places : List (Option ℕ)) (i : ℕ) (o found : Option ℕ) → i < length places → o ≡ get_or places i o → found ≡ o → get_or places i None ≡ found
+place-told places i o found low is told = get_or_from_slice_get places i o None (slice_get-get_or places i o low ∙ ap Some (sym is)) ∙ sym told
 
 position-first : {X : Type 0} (q : X → Bool) (x : X) (xs : List X) → position q (x ∷ xs) ≡ Some 0 → q x ≡ true
 position-first q x xs e = by (q x) refl

@@ -288,10 +288,10 @@ reference-there p module_at all i s v bound k seen none low =
     past (x ∷ xs) (suc j) e less = past xs j e (omega (arith, less))
 
 -- each reference of a statement is bound to what it leads to
-pub reference-lead : (all : List Placed) (s : Placed) (bound : List (Option ℕ)) (k : ℕ) → AreLeads all s.namespace (references s.form) bound → k < length bound
-    → (r : Table × Word) × (slice_get (references s.form) k ≡ Some r) × IsLead r.0 all (get_or bound k None) (leads all r.0 s.namespace r.1.text)
-reference-lead all s bound k are low = elim (slice_get_cases (references s.form) k).1 [
-  | inl (r, less, at, same) ↦ (r, at, lead-at all s.namespace (references s.form) bound k r (get_or bound k None) None are at refl)
+pub reference-lead : (all : List Placed) (s : Placed) (bound : List (Option ℕ)) (k : ℕ) (found : Option ℕ) → AreLeads all s.namespace (references s.form) bound → k < length bound → found ≡ get_or bound k None
+    → (r : Table × Word) × (slice_get (references s.form) k ≡ Some r) × IsLead r.0 all found (leads all r.0 s.namespace r.1.text)
+reference-lead all s bound k found are low here = elim (slice_get_cases (references s.form) k).1 [
+  | inl (r, less, at, same) ↦ (r, at, lead-at all s.namespace (references s.form) bound k r found None are at here)
   | inr (past, none) ↦ absurd (let long = leads-long all s.namespace (references s.form) bound are in omega (arith, long, low, past))
 ]
 
