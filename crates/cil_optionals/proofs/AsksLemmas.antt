@@ -1,5 +1,5 @@
 -- Needs of statements.
-use Rattle.cil_optionals.proofs.Common.{◌≡◌, inl, inr, ℕ, zero, suc, ◌+◌, ◌<◌, ◌≤◌, ◌==◌, Bool, true, false, not, ◌&&◌, ◌||◌, nat_lt, List, [], ◌∷◌, ◌++◌, map, length, get_or, slice_get, take, Option, Some, None, is_some, IfSome, refl, sym, ap, ◌∙◌, subst, arith, add-one, append_assoc, append-nil, if◌then◌else◌, list_all, list_any, option_to_list, eq-eqb, lt-ltb, length-map, take_all, list_all-append, none-some, same_Some, slice_get_within, slice_get_cases, slice_get_read, Word, Form, block, optional, type_name, type_alias, alias_actual, type_attribute, attribute_set, common, class, class_common, class_order, class_permission, class_permission_set, anonymous, by_name, rule, itself, the_named, Placed, Table, types, classes, scopes, holds_of, leads, outward, references, PolicyFault, twice, is_unfound, IsFaultOf, Optionals, is_within, restricted, AreApart, Statements, read, Spells, texts_of, NumberedWord, read-text, read-within, both_true, IsLead, table_of, Row, Policy, NamedModule, rows-length, take-next, is_met, meeting, has_node, IsInnermost, declared_table, declared_text, is_naming, is_provided, is_plain, AreNodesOf, further_out, IsReady, is_need_of, are_found, optional_at, row_optional, AddsNeed, Asks, IsOf, LeadsOutside, Need}
+use Rattle.cil_optionals.proofs.Common.{◌≡◌, inl, inr, ℕ, zero, suc, ◌+◌, ◌<◌, ◌≤◌, ◌==◌, Bool, true, false, not, ◌&&◌, ◌||◌, nat_lt, List, [], ◌∷◌, ◌++◌, map, length, get_or, slice_get, take, Option, Some, None, is_some, IfSome, refl, sym, ap, ◌∙◌, subst, arith, add-one, append_assoc, append-nil, if◌then◌else◌, list_all, list_any, option_to_list, eq-eqb, lt-ltb, length-map, take_all, list_all-append, none-some, same_Some, slice_get_within, slice_get_cases, slice_get_read, Word, Form, alias_actual, attribute_set, class_common, class_order, class_permission_set, anonymous, by_name, rule, itself, the_named, Placed, Table, types, classes, scopes, holds_of, leads, outward, references, PolicyFault, twice, is_unfound, IsFaultOf, Optionals, is_within, restricted, AreApart, Statements, read, Spells, texts_of, NumberedWord, read-text, read-within, both_true, IsLead, table_of, Row, Policy, NamedModule, rows-length, take-next, is_met, meeting, has_node, IsInnermost, declared_table, declared_text, is_naming, is_provided, is_plain, AreNodesOf, further_out, IsReady, is_need_of, are_found, optional_at, row_optional, AddsNeed, Asks, IsOf, LeadsOutside, Need}
 use Rattle.cil_parse.specs.Forms.{kind_of}
 use Rattle.cil_specs.specs.Expr.{leaves}
 use Rattle.cil_parse.specs.Flat.{FlatStatement, flat}
