@@ -1,12 +1,17 @@
 -- The new places of what is kept.
-use Rattle.cil_bind.proofs.Common.{◌≡◌, ℕ, zero, suc, ◌+◌, ◌<◌, Bool, true, false, cond, List, [], ◌∷◌, ◌++◌, map, filter, length, get_or, take, length-append, Option, Some, None, is_some, position, refl, sym, ap, ◌∙◌, subst, true≢false, append-nil, add-one, arith, if◌then◌else◌, list_all, filter-append, none-some, same_Some, slice_get_within, Word, Placed, Table, leads, is_same, Optionals, is_within, restricted, AreApart, first_true, second_true, IsLead, AreLeads, AreBound, AreMoved, Binds, kinds_of, places_from, moved_to, has_place, Row, StatementKind}
+use Rattle.cil_bind.proofs.Common.{◌≡◌, ℕ, zero, suc, ◌+◌, ◌<◌, Bool, true, false, cond, List, [], ◌∷◌, ◌++◌, map, filter, length, get_or, take, length-append, Option, Some, None, is_some, position, refl, sym, ap, ◌∙◌, subst, true≢false, append-nil, add-one, arith, if◌then◌else◌, list_all, filter-append, none-some, same_Some, slice_get_within, slice_get-get_or, Word, Placed, Table, leads, is_same, Optionals, is_within, restricted, AreApart, first_true, second_true, IsLead, AreLeads, AreBound, AreMoved, Binds, kinds_of, places_from, moved_to, has_place, Row, StatementKind}
 use Rattle.std.proofs.Common.{slice_get, option_map}
+use Rattle.std.proofs.lemmas.Option.{get_or_from_slice_get}
 use Rattle.cil_specs.proofs.RestrictedLemmas.{filter-yes, filter-no}
 use Rattle.cil_bind.proofs.BindingLemmas.{bound-next, kinds-push, kind-at}
 use Rattle.cil_lookup.proofs.LookupLemmas.{no-lead}
 use Rattle.cil_bind.proofs.PlaceLemmas.{get-there}
 use Rattle.cil_bind.proofs.PositionLemmas.{position-cons, at_if, take-next}
 use Rattle.cil_bind.proofs.StayLemmas.{Stays, leads-stays}
+
+-- what is read at an index within some places, and is told as this
+pub place-told : (places : List (Option ℕ)) (i : ℕ) (o found : Option ℕ) → i < length places → o ≡ get_or places i o → found ≡ o → get_or places i None ≡ found
+place-told places i o found low is told = get_or_from_slice_get places i o None (slice_get-get_or places i o low ∙ ap Some (sym is)) ∙ sym told
 
 position-first : {X : Type 0} (q : X → Bool) (x : X) (xs : List X) → position q (x ∷ xs) ≡ Some 0 → q x ≡ true
 position-first q x xs e = by (q x) refl

@@ -1,7 +1,7 @@
 -- Names that are declared again.
 use Rattle.cil_bind.proofs.Common.{◌≡◌, ◌⊎◌, inl, inr, ℕ, ◌+◌, ◌<◌, Bool, true, false, cond, get_or, List, [], ◌∷◌, ◌++◌, length, take, drop, Option, Some, None, refl, sym, ap, ◌∙◌, subst, Contains, arith, AllByRecursion, list_any, none-some, same_Some, slice_get-get_or, slice_get_within, Word, Placed, Table, declared_in, Form, Optionals, AreApart, judged, IsFirst, IsFirstFault, contains-first, contains-cases, contains-other, contains-map, stands, same_place, later, earlier, table_in, table-in, twice-some, twice-nothing, offsets_in, offsets_of, IsBefore, AreOrdered, IsLeast, IsTold, IsFirstAgain, fault_of, AreRows, IsOnce, DeclareThat, IsFrom, AreFrom, NamedModule, Row}
 use Rattle.std.proofs.Common.{slice_get}
-use Rattle.cil_specs.specs.PolicyFault.{PolicyFaultKind, twice, missing, wrong_kind, alias_twice, alias_unset, second_common, too_many_permissions, circular, code_of, PolicyFault, is_again, twice_words, IsFaultOf, IsNoLater}
+use Rattle.cil_specs.specs.PolicyFault.{PolicyFaultKind, twice, code_of, PolicyFault, is_again, twice_words, IsFaultOf, IsNoLater}
 use Rattle.cil_specs.proofs.ExistsLemmas.{kept-exists}
 use Rattle.cil_specs.proofs.PartLemmas.{all-middle}
 use Rattle.cil_specs.proofs.OrderLemmas.{offset_of}

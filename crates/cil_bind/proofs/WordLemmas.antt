@@ -1,5 +1,5 @@
 -- The words of modules in one numbering.
-use Rattle.cil_bind.proofs.Common.{◌≡◌, ℕ, zero, suc, ◌+◌, ◌<◌, Bool, true, List, [], ◌∷◌, ◌++◌, map, length, get_or, take, drop, Some, None, All, Vec, Contains, bytes_eq, refl, sym, ap, ◌∙◌, subst, add-one, arith, inl, inr, true≢false, IsTrue, IsDistinct, list_any, length-map, map-append, Contains-get_or, Any-from_list_any, list_any_at, none-some, same_Some, slice_get-get_or, Word, Form, block, optional, type_name, type_alias, alias_actual, type_attribute, attribute_set, common, class, class_common, class_order, class_permission, class_permission_set, rule, Placed, block_name, is_word, is_block, has_block, same_namespace, both_true, first_true, second_true, one-namespace, AreNumbersOf, names_of, word_at, named, namespace_at, path_of, AreOpened, AreWithin, Stands, AreWorded, NamedModule, Row}
+use Rattle.cil_bind.proofs.Common.{◌≡◌, ℕ, zero, suc, ◌+◌, ◌<◌, Bool, true, List, [], ◌∷◌, ◌++◌, map, length, get_or, take, drop, Some, None, All, Vec, Contains, bytes_eq, refl, sym, ap, ◌∙◌, subst, add-one, arith, inl, inr, true≢false, IsTrue, IsDistinct, list_any, length-map, map-append, Contains-get_or, Any-from_list_any, list_any_at, none-some, same_Some, slice_get-get_or, Word, Form, block, Placed, block_name, is_word, is_block, has_block, same_namespace, both_true, first_true, second_true, one-namespace, AreNumbersOf, names_of, word_at, named, namespace_at, path_of, AreOpened, AreWithin, Stands, AreWorded, NamedModule, Row}
 use Rattle.std.proofs.Common.{slice_get}
 use Rattle.cil_lookup.proofs.NamespaceLemmas.{bytes_eq-refl, bytes_eq-true}
 use Rattle.cil_bind.proofs.PositionLemmas.{take-next}

@@ -1,5 +1,5 @@
 -- What holds of the statements of modules that are spelt by texts.
-use Rattle.cil_bind.proofs.Common.{◌≡◌, ℕ, Bool, true, false, not, ◌||◌, List, [], ◌∷◌, map, None, Some, if◌then◌else◌, refl, sym, AllByRecursion, list_any, IfSome, none-some, Word, declared, is_name, components, is_reserved, Form, block, optional, type_name, type_alias, alias_actual, type_attribute, attribute_set, common, class, class_common, class_order, class_permission, class_permission_set, rule, anonymous, by_name, target_words, words_of, as_declared, as_referred, is_optional, Statements, no_more, statement, are_apart, Module, namespace_inside, optionals_inside, placed, joined, AreApart, types, declared_in, all-weaker, all-append, all-second, all-contained, permissions_in}
+use Rattle.cil_bind.proofs.Common.{◌≡◌, ℕ, Bool, true, false, not, ◌||◌, List, [], ◌∷◌, map, None, Some, if◌then◌else◌, refl, sym, AllByRecursion, list_any, IfSome, none-some, Word, declared, is_name, components, is_reserved, Form, block, type_name, type_alias, type_attribute, common, class, class_permission, class_permission_set, rule, anonymous, target_words, words_of, as_declared, as_referred, is_optional, Statements, no_more, statement, are_apart, Module, namespace_inside, optionals_inside, placed, joined, AreApart, types, declared_in, all-weaker, all-append, all-second, all-contained, permissions_in}
 use Rattle.cil_specs.specs.Expr.{leaves}
 use Rattle.cil_specs.specs.Lookup as lookup
 use Rattle.cil_specs.specs.TextFault.{bad_name, reserved}

@@ -3,6 +3,7 @@ pub use Rattle.cil_lookup.specs.Lookup
 pub mod Rows
 pub mod Scope
 pub mod Words
+pub mod Lead
 pub mod Binding
 pub mod Policy
 pub mod Ordered

@@ -5,6 +5,7 @@ ghost use Rattle.cil_bind.specs.Common.{Placed, FlatStatement, kind_of, AreNumbe
 ghost use Rattle.cil_lookup.specs.Lookup.{namespace_at as namespace_of, Knows};
 
 use crate::joined::Joined;
+use crate::lead::Lead;
 use crate::memo::Memo;
 use crate::rows::Row;
 use cil_lookup::Lookup;
@@ -33,7 +34,7 @@ fn bind_statement<A: Allocator + Copy>(
     namespace: u32,
     view: &StatementView<'_>,
     memo: &mut Memo<A>,
-    bound: &mut Lists<Option<u32>, A>,
+    bound: &mut Lists<Lead, A>,
 ) -> Result<(), AllocError>
     requires within { namespace < length lookup.now.namespaces }
     requires words { length words.now ≡ length (names_of «module».now) }
@@ -53,7 +54,7 @@ fn bind_statement<A: Allocator + Copy>(
             continue;
         };
         let found = memo.lead(lookup, module, words, table, namespace, word.text);
-        bound.push(found)?;
+        bound.push(Lead::of(found)?)?;
     }
     bound.close()?;
     Ok(())
@@ -80,7 +81,7 @@ pub fn bind_row<A: Allocator + Copy>(
     words: &[Vec<u32, A>],
     row: &Row,
     memo: &mut Memo<A>,
-    bound: &mut Lists<Option<u32>, A>,
+    bound: &mut Lists<Lead, A>,
 ) -> Result<StatementKind, AllocError>
     requires worded { (names : List (List ℕ)) × AreWorded names words.now joined.now.modules.items }
     requires from { (s : Placed) × IsFrom joined.now.modules.items row.now s }
@@ -114,7 +115,7 @@ pub fn bind_row<A: Allocator + Copy>(
 /// What is read of the statements of rows: what their references are bound to, a list for each, and their kinds.
 #[derive(Drop)]
 pub struct Bound<A: Allocator = Global> {
-    pub references: Lists<Option<u32>, A>,
+    pub references: Lists<Lead, A>,
     pub kinds: Vec<StatementKind, A>,
 }
 

@@ -6,6 +6,7 @@ mod declarations;
 mod joined;
 mod known_lists;
 mod laws;
+mod lead;
 mod memo;
 mod moving;
 mod policy;
@@ -22,6 +23,7 @@ pub use laws::{
     kept_permissions_are_names, names_are_in_order, permissions_are_names, policies_are_apart,
     policies_are_ordered, rows_are_nested, texts_are_written,
 };
+pub use lead::Lead;
 pub use policy::{Joining, Policy};
 pub use redeclaration::Redeclaration;
 pub use rows::Row;

@@ -6,6 +6,7 @@ ghost use Rattle.cil_bind.specs.Binding.{AreLeads, AreBound, AreMoved, Binds, ki
 
 use crate::binding::{bind_row, room};
 use crate::joined::Joined;
+use crate::lead::Lead;
 use crate::memo::Memo;
 use crate::rows::{Row, is_kept};
 use cil_lookup::Lookup;
@@ -17,7 +18,7 @@ pub fn places_of<A: Allocator>(
     alloc: A,
     rows: &[Row],
     kept: &[bool],
-) -> Result<Vec<Option<u32>, A>, AllocError>
+) -> Result<Vec<Lead, A>, AllocError>
     requires { length rows.now < 2 ^ 32 }
     ensures { IfOk result (λ places. places.items ≡ places_from (λ row. slice_index_or kept.now row.optional false) 0 rows.now) }
 {
@@ -25,34 +26,37 @@ pub fn places_of<A: Allocator>(
     let mut next: u32 = 0;
     for i in 0..rows.len() {
         if is_kept(&rows[i], kept) {
-            places.push(Some(next))?;
+            places.push(Lead::of(Some(next))?)?;
             next += 1;
         } else {
-            places.push(None)?;
+            places.push(Lead::nowhere())?;
         }
     }
     Ok(places)
 }
 
 /// The new place of what was found at a place.
-fn moved(found: Option<u32>, places: &[Option<u32>]) -> Option<u32>
+fn moved(found: Lead, places: &[Lead]) -> Lead
     ensures { result ≡ moved_to places.now found }
 {
-    match places.get(found? as usize) {
-        Some(place) => *place,
-        None => None,
+    let Some(place) = found.place() else {
+        return found;
+    };
+    match places.get(place as usize) {
+        Some(lead) => *lead,
+        None => Lead::nowhere(),
     }
 }
 
 /// Whether what was found, if anything was, has a new place.
-fn has_place(found: Option<u32>, places: &[Option<u32>]) -> bool
+fn has_place(found: Lead, places: &[Lead]) -> bool
     ensures { result ≡ is_placed places.now found }
 {
-    found.is_none() || moved(found, places).is_some()
+    found.place().is_none() || moved(found, places).place().is_some()
 }
 
 /// Whether all that references are bound to has new places.
-fn have_places(bound: &[Option<u32>], places: &[Option<u32>]) -> bool
+fn have_places(bound: &[Lead], places: &[Lead]) -> bool
     ensures { result ≡ list_all (is_placed places.now) bound.now }
 {
     bound.iter().all(|found| has_place(*found, places))
@@ -60,9 +64,9 @@ fn have_places(bound: &[Option<u32>], places: &[Option<u32>]) -> bool
 
 /// Binds references to the new places of what they are bound to, in a list of their own.
 fn move_references<A: Allocator + Copy>(
-    found: &[Option<u32>],
-    places: &[Option<u32>],
-    bound: &mut Lists<Option<u32>, A>,
+    found: &[Lead],
+    places: &[Lead],
+    bound: &mut Lists<Lead, A>,
 ) -> Result<(), AllocError>
     requires { bound.old.1 ≡ [] }
     ensures { OnOk result (bound.new ≡ (bound.old.0 ++ map (moved_to places.now) found.now ∷ [], [])) }
@@ -82,10 +86,10 @@ fn rebind_row<A: Allocator + Copy>(
     joined: &Joined<'_, A>,
     words: &[Vec<u32, A>],
     row: &Row,
-    found: &[Option<u32>],
-    places: &[Option<u32>],
+    found: &[Lead],
+    places: &[Lead],
     memo: &mut Memo<A>,
-    bound: &mut Lists<Option<u32>, A>,
+    bound: &mut Lists<Lead, A>,
 ) -> Result<(), AllocError>
     requires worded { (names : List (List ℕ)) × AreWorded names words.now joined.now.modules.items }
     requires from { (s : Placed) × IsFrom joined.now.modules.items row.now s }
@@ -115,9 +119,9 @@ pub fn rebind<A: Allocator + Copy>(
     joined: &Joined<'_, A>,
     words: &[Vec<u32, A>],
     rows: &[Row],
-    whole: &Lists<Option<u32>, A>,
-    places: &[Option<u32>],
-) -> Result<Lists<Option<u32>, A>, AllocError>
+    whole: &Lists<Lead, A>,
+    places: &[Lead],
+) -> Result<Lists<Lead, A>, AllocError>
     requires worded { (names : List (List ℕ)) × AreWorded names words.now joined.now.modules.items }
     requires from { (policy : List Placed) × AreFrom joined.now.modules.items rows.now policy }
     requires moved { AreMoved rows.now places.now (length whole.now.0) }
@@ -129,7 +133,7 @@ pub fn rebind<A: Allocator + Copy>(
     let mut bound = Lists::with_capacity(alloc, rows.len(), room(rows.len()))?;
     let mut memo = Memo::new(alloc);
     for i in 0..places.len() {
-        let Some(place) = places[i] else {
+        let Some(place) = places[i].place() else {
             continue;
         };
         rebind_row(
@@ -151,7 +155,7 @@ pub fn rebind<A: Allocator + Copy>(
 pub fn kept_kinds<A: Allocator>(
     alloc: A,
     kinds: &[StatementKind],
-    places: &[Option<u32>],
+    places: &[Lead],
 ) -> Result<Vec<StatementKind, A>, AllocError>
     requires { length kinds.now ≡ length places.now }
     ensures { IfOk result (λ kept. (policy : List Placed) (set : Optionals) → kinds.now ≡ kinds_of policy → places.now ≡ places_from (is_within set) 0 policy
@@ -159,7 +163,7 @@ pub fn kept_kinds<A: Allocator>(
 {
     let mut kept = Vec::with_capacity(alloc, kinds.len())?;
     for i in 0..places.len() {
-        if places[i].is_none() {
+        if places[i].place().is_none() {
             continue;
         }
         kept.push(kinds[i])?;

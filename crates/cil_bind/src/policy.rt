@@ -7,6 +7,7 @@ ghost use Rattle.cil_specs.specs.Joined.{Placed, Module, joined as joined_policy
 use crate::binding::bind;
 use crate::declarations::{Declarations, Declared};
 use crate::joined::Joined;
+use crate::lead::Lead;
 use crate::moving::{kept_kinds, places_of, rebind};
 use crate::redeclaration::Redeclaration;
 use crate::rows::{Row, is_kept};
@@ -25,7 +26,7 @@ pub struct Policy<'m, A: Allocator = Global> {
     pub words: Vec<Vec<u32, A>, A>,
     pub lookup: Lookup<A>,
     pub rows: Vec<Row, A>,
-    pub bound: Lists<Option<u32>, A>,
+    pub bound: Lists<Lead, A>,
     pub kinds: Vec<StatementKind, A>,
 }
 
@@ -161,7 +162,7 @@ impl<'m, A: Allocator + Copy> Policy<'m, A> {
         alloc: A,
         joined: &Joined<'m, A>,
         kept: &[bool],
-        places: &[Option<u32>],
+        places: &[Lead],
     ) -> Result<(), AllocError>
         requires bound { (policy : List Placed) × IsBoundTo self.old joined.now.modules.items policy }
         requires places { places.now ≡ places_from (λ row. slice_index_or kept.now row.optional false) 0 self.old.rows.items }

@@ -5,7 +5,7 @@ ghost use Rattle.cil_check.specs.Common.{Word, components, Placed, read, kind_of
 
 use crate::fault::{PolicyFault, PolicyFaultKind};
 use crate::kinds::Kind;
-use cil_bind::{Joined, Policy};
+use cil_bind::{Joined, Lead, Policy};
 use cil_parse::{NumberedWord, ParsedModule, StatementKind, StatementView};
 use std::alloc::{Allocator, Global};
 
@@ -16,7 +16,7 @@ pub struct Seen<'p, 'm, A: Allocator = Global> {
     pub module: &'m ParsedModule<A>,
     pub name: &'m [u8],
     pub view: StatementView<'m>,
-    pub bound: &'p [Option<u32>],
+    pub bound: &'p [Lead],
     pub words: &'p [u32],
 }
 
@@ -36,7 +36,7 @@ impl<'p, 'm, A: Allocator> Seen<'p, 'm, A> {
         ensures { result ≡ slice_index_or self.now.bound.now k None }
     {
         match self.bound.get(k) {
-            Some(found) => *found,
+            Some(found) => found.place(),
             None => None,
         }
     }

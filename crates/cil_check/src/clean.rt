@@ -12,7 +12,7 @@ use crate::bound::Seen;
 use crate::checker::{CHECKED, Checker};
 use crate::kinds::Kind;
 use crate::known::Known;
-use cil_bind::PermissionList;
+use cil_bind::{Lead, PermissionList};
 use cil_parse::StatementKind;
 use std::alloc::Allocator;
 
@@ -87,11 +87,11 @@ impl<'p, 'm, A: Allocator + Copy> Checker<'p, 'm, A> {
     }
 
     /// Whether all of some references are bound, and none to an alias without an actual type.
-    fn are_sound(&self, bound: &[Option<u32>]) -> bool
+    fn are_sound(&self, bound: &[Lead]) -> bool
         ensures { result
             ≡ list_all (is_sound_lead self.now.bound.policy.now.kinds.items self.now.actuals) bound.now }
     {
-        bound.iter().all(|found| self.is_sound(*found))
+        bound.iter().all(|found| self.is_sound(found.place()))
     }
 
     /// Whether a set statement leads to an attribute, and all its references are bound, to no
@@ -103,10 +103,13 @@ impl<'p, 'm, A: Allocator + Copy> Checker<'p, 'm, A> {
             → IsCleanAt policy place s }
     {
         let bound = self.bound.policy.bound.get(place);
-        let Some(Some(first)) = bound.first() else {
+        let Some(lead) = bound.first() else {
             return false;
         };
-        self.bound.is(*first, Kind::Attribute) && self.are_sound(bound)
+        let Some(first) = lead.place() else {
+            return false;
+        };
+        self.bound.is(first, Kind::Attribute) && self.are_sound(bound)
     }
 
     /// Whether the class of a place has a permission. One that it has is known then.
@@ -197,13 +200,16 @@ impl<'p, 'm, A: Allocator + Copy> Checker<'p, 'm, A> {
             → IsKnown self.now policy known.old → IsKnown self.now policy known.new }
     {
         let bound = self.bound.policy.bound.get(place);
-        let Some(Some(class)) = bound.last() else {
+        let Some(lead) = bound.last() else {
+            return false;
+        };
+        let Some(class) = lead.place() else {
             return false;
         };
         if !self.are_sound(bound) {
             return false;
         }
-        self.has_listed(alloc, place, *class, known)
+        self.has_listed(alloc, place, class, known)
     }
 
     /// Whether a rule of a permission set has all its references bound, to no alias without an

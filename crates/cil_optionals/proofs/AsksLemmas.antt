@@ -1,5 +1,5 @@
 -- Needs of statements.
-use Rattle.cil_optionals.proofs.Common.{◌≡◌, inl, inr, ℕ, zero, suc, ◌+◌, ◌<◌, ◌≤◌, ◌==◌, Bool, true, false, not, ◌&&◌, ◌||◌, nat_lt, List, [], ◌∷◌, ◌++◌, map, length, get_or, slice_get, take, Option, Some, None, is_some, IfSome, refl, sym, ap, ◌∙◌, subst, arith, add-one, append_assoc, append-nil, if◌then◌else◌, list_all, list_any, option_to_list, eq-eqb, lt-ltb, length-map, take_all, list_all-append, none-some, same_Some, slice_get_within, slice_get_cases, slice_get_read, Word, Form, block, optional, type_name, type_alias, alias_actual, type_attribute, attribute_set, common, class, class_common, class_order, class_permission, class_permission_set, anonymous, by_name, rule, itself, the_named, Placed, Table, types, classes, scopes, holds_of, leads, outward, references, PolicyFault, twice, is_unfound, IsFaultOf, Optionals, is_within, restricted, AreApart, Statements, read, Spells, texts_of, NumberedWord, read-text, read-within, both_true, IsLead, table_of, Row, Policy, NamedModule, rows-length, take-next, is_met, meeting, has_node, IsInnermost, declared_table, declared_text, is_naming, is_provided, is_plain, AreNodesOf, further_out, IsReady, is_need_of, are_found, optional_at, row_optional, AddsNeed, Asks, IsOf, LeadsOutside, Need}
+use Rattle.cil_optionals.proofs.Common.{◌≡◌, inl, inr, ℕ, zero, suc, ◌+◌, ◌<◌, ◌≤◌, ◌==◌, Bool, true, false, not, ◌&&◌, ◌||◌, nat_lt, List, [], ◌∷◌, ◌++◌, map, length, get_or, slice_get, take, Option, Some, None, is_some, IfSome, refl, sym, ap, ◌∙◌, subst, arith, add-one, append_assoc, append-nil, if◌then◌else◌, list_all, list_any, option_to_list, eq-eqb, lt-ltb, length-map, take_all, list_all-append, none-some, same_Some, slice_get_within, slice_get_cases, slice_get_read, Word, Form, alias_actual, attribute_set, class_common, class_order, class_permission_set, anonymous, by_name, rule, itself, the_named, Placed, Table, types, classes, scopes, holds_of, leads, outward, references, PolicyFault, twice, is_unfound, IsFaultOf, Optionals, is_within, restricted, AreApart, Statements, read, Spells, texts_of, NumberedWord, read-text, read-within, both_true, IsLead, table_of, Row, Policy, NamedModule, rows-length, take-next, is_met, meeting, has_node, IsInnermost, declared_table, declared_text, is_naming, is_provided, is_plain, AreNodesOf, further_out, IsReady, is_need_of, are_found, optional_at, row_optional, AddsNeed, Asks, IsOf, LeadsOutside, Need}
 use Rattle.cil_parse.specs.Forms.{kind_of}
 use Rattle.cil_specs.specs.Expr.{leaves}
 use Rattle.cil_parse.specs.Flat.{FlatStatement, flat}
@@ -288,10 +288,10 @@ reference-there p module_at all i s v bound k seen none low =
     past (x ∷ xs) (suc j) e less = past xs j e (omega (arith, less))
 
 -- each reference of a statement is bound to what it leads to
-pub reference-lead : (all : List Placed) (s : Placed) (bound : List (Option ℕ)) (k : ℕ) → AreLeads all s.namespace (references s.form) bound → k < length bound
-    → (r : Table × Word) × (slice_get (references s.form) k ≡ Some r) × IsLead r.0 all (get_or bound k None) (leads all r.0 s.namespace r.1.text)
-reference-lead all s bound k are low = elim (slice_get_cases (references s.form) k).1 [
-  | inl (r, less, at, same) ↦ (r, at, lead-at all s.namespace (references s.form) bound k r (get_or bound k None) None are at refl)
+pub reference-lead : (all : List Placed) (s : Placed) (bound : List (Option ℕ)) (k : ℕ) (found : Option ℕ) → AreLeads all s.namespace (references s.form) bound → k < length bound → found ≡ get_or bound k None
+    → (r : Table × Word) × (slice_get (references s.form) k ≡ Some r) × IsLead r.0 all found (leads all r.0 s.namespace r.1.text)
+reference-lead all s bound k found are low here = elim (slice_get_cases (references s.form) k).1 [
+  | inl (r, less, at, same) ↦ (r, at, lead-at all s.namespace (references s.form) bound k r found None are at here)
   | inr (past, none) ↦ absurd (let long = leads-long all s.namespace (references s.form) bound are in omega (arith, long, low, past))
 ]
 

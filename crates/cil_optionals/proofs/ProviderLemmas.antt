@@ -1,5 +1,5 @@
 -- What the nodes of names need is met by what is found.
-use Rattle.cil_optionals.proofs.Common.{◌≡◌, ◌⊎◌, inl, inr, ℕ, zero, suc, ◌+◌, ◌<◌, ◌≤◌, Bool, true, false, not, ◌&&◌, ◌||◌, nat_lt, cond, List, [], ◌∷◌, ◌++◌, length, get_or, slice_get, find, Option, Some, None, is_some, refl, sym, ap, ◌∙◌, subst, arith, true≢false, if◌then◌else◌, list_all, list_any, cases_lt, lt-ltb, none-some, same_Some, slice_get_within, slice_get_cases, slice_get_read, list_all-append, bytes_eq-Decides, Word, Form, block, optional, type_name, type_alias, alias_actual, type_attribute, attribute_set, common, class, class_common, class_order, class_permission, class_permission_set, rule, Placed, Table, scopes, declared_in, is_word, same_namespace, word_text, declares, declaration, outward, holds_of, PolicyFault, twice, IsFaultOf, Optionals, is_within, restricted, AreApart, first_true, second_true, both_true, AtMostOne, declared-once, namespace_at, word_at, table_of, IsLead, Row, Policy, NamedModule, same_namespace-refl, row-at, rows-length, is_met, are_met, is_need_below, meeting, IsInnermost, AreNested, declared_table, declared_text, is_naming, is_provided, AreOptionalsOf, AreNodesOf, further_out, alternatives, IsReady, IsDeclaration, IsProvidedBy, AreProviders, Need}
+use Rattle.cil_optionals.proofs.Common.{◌≡◌, ◌⊎◌, inl, inr, ℕ, zero, suc, ◌+◌, ◌<◌, ◌≤◌, Bool, true, false, not, ◌&&◌, ◌||◌, nat_lt, cond, List, [], ◌∷◌, ◌++◌, length, get_or, slice_get, find, Option, Some, None, is_some, refl, sym, ap, ◌∙◌, subst, arith, true≢false, if◌then◌else◌, list_all, list_any, cases_lt, lt-ltb, none-some, same_Some, slice_get_within, slice_get_cases, slice_get_read, list_all-append, bytes_eq-Decides, Word, Form, type_name, type_alias, type_attribute, common, class, class_permission, Placed, Table, scopes, declared_in, is_word, same_namespace, word_text, declares, declaration, outward, holds_of, PolicyFault, twice, IsFaultOf, Optionals, is_within, restricted, AreApart, first_true, second_true, both_true, AtMostOne, declared-once, namespace_at, word_at, table_of, IsLead, Row, Policy, NamedModule, same_namespace-refl, row-at, rows-length, is_met, are_met, is_need_below, meeting, IsInnermost, AreNested, declared_table, declared_text, is_naming, is_provided, AreOptionalsOf, AreNodesOf, further_out, alternatives, IsReady, IsDeclaration, IsProvidedBy, AreProviders, Need}
 use Rattle.cil_bind.specs.Rows.{IsRow, IsDeclared}
 use Rattle.cil_parse.specs.declared.table.Table as code
 use Rattle.cil_parse.specs.declared.table.Table.TheVariants.{Types, Classes, Commons, PermissionSets, Scopes}

@@ -9,7 +9,7 @@ ghost use Rattle.cil_bind.specs.Listing.{lists_own as lists_own_kind};
 ghost use Rattle.cil_optionals.specs.Given.{lists as lists_permission, commons_at, has_gift, listers_at, permissions_in, gift as gift_in, given_at, gives_common as gives_common_kind, IsUpTo, IsInverse};
 
 use crate::modules::module_of;
-use cil_bind::{Joined, Policy};
+use cil_bind::{Joined, Lead, Policy};
 use cil_names::{Names, Seed};
 use cil_parse::{NumberedWord, ParsedModule, StatementKind};
 use indexmap::IndexSet;
@@ -68,11 +68,11 @@ fn gives_common(kind: StatementKind) -> bool
 }
 
 /// The class and the common of two references, by what these are bound to.
-fn gift_of(bound: &[Option<u32>]) -> Option<(u32, u32)>
+fn gift_of(bound: &[Lead]) -> Option<(u32, u32)>
     ensures { result ≡ gift_in bound.now }
 {
     match bound {
-        [Some(class), Some(common)] => Some((*class, *common)),
+        [class, common] => Some((class.place()?, common.place()?)),
         _ => None,
     }
 }

@@ -15,7 +15,7 @@ ghost use Rattle.cil_optionals.specs.Permissions.{HavePermissions};
 ghost use Rattle.cil_optionals.specs.Providers.{IsReady};
 
 use crate::listed::{Listed, Permission};
-use cil_bind::{Joined, KnownLists, PermissionList, Policy};
+use cil_bind::{Joined, KnownLists, Lead, PermissionList, Policy};
 use cil_names::Seed;
 use cil_parse::{NumberedWord, ParsedModule, StatementKind};
 use indexmap::IndexSet;
@@ -54,11 +54,10 @@ fn names_permissions(kind: StatementKind) -> bool
 }
 
 /// What the last of some references is bound to.
-fn last_bound(bound: &[Option<u32>]) -> Option<u32>
+fn last_bound(bound: &[Lead]) -> Option<u32>
     ensures { result ≡ last_of bound.now }
 {
-    let found = bound.last()?;
-    *found
+    bound.last()?.place()
 }
 
 /// Where a question is at hand, by the number of the name's text in its module. Other questions may be there.

@@ -90,7 +90,8 @@ pub fn references<A: Allocator + Copy>(
     let row = policy.rows[i];
     let bound = policy.bound.get(i);
     for k in 0..bound.len() {
-        if is_outside(policy, bound[k]) {
+        let found = bound[k].place();
+        if is_outside(policy, found) {
             continue;
         }
         let view = module.statement(row.index as usize);
@@ -98,7 +99,7 @@ pub fn references<A: Allocator + Copy>(
             continue;
         };
         let plain = is_plain(module, word.text);
-        let node = meeting(policy, plain, bound[k]);
+        let node = meeting(policy, plain, found);
         add_need(row.optional as usize, node, needs)?;
     }
     Ok(())

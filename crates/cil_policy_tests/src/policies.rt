@@ -8,7 +8,7 @@ ghost use Rattle.cil_bind.specs.Policy.{IsBoundTo};
 ghost use Rattle.cil_resolve.specs.Modules.{AreParsedFrom};
 
 use crate::shown::shown;
-use cil_bind::{Joining, Policy};
+use cil_bind::{Joining, Lead, Policy};
 use cil_names::Seed;
 use cil_parse::{ParsedModule, parse};
 use cil_resolve::{Joined, NamedModule, PolicyFault, Resolved, join, resolve};
@@ -116,10 +116,19 @@ const BOUND: [Kept; 2] = [
     ),
 ];
 
+// Whether references lead to these places.
+fn lead_to(bound: &[Lead], want: &[Option<u32>]) -> bool {
+    bound.len() == want.len()
+        && bound
+            .iter()
+            .zip(want)
+            .all(|(lead, place)| lead.place() == *place)
+}
+
 // Whether so many statements are bound, and some of them to these.
 fn is_bound(policy: &Policy<'_>, len: usize, rows: &[Bound]) -> bool {
     for (place, want) in rows {
-        if *place >= policy.bound.len() || policy.bound.get(*place) != *want {
+        if *place >= policy.bound.len() || !lead_to(policy.bound.get(*place), want) {
             return false;
         }
     }

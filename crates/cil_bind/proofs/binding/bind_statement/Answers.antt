@@ -38,8 +38,9 @@ loop-k-preserved g c = record {
       let namespace = namespace_at names c.args.lookup.now.namespaces c.args.namespace in
       let it = c.in-Some.ensures.some texts f shown in
       subst (AreLeads policy namespace (take (c.loop-k.k + 1) (references f.form))) (sym (ap (λ p. p.1) c.in_ok-push.ensures.ok))
+      (subst (λ found. AreLeads policy namespace (take (c.loop-k.k + 1) (references f.form)) (c.loop-k.bound.1 ++ found ∷ [])) (sym c.in_ok-of.ensures)
       (leads-next policy namespace (references f.form) c.loop-k.k c.loop-k.bound.1 (table_of c.in-Some.table) it.0 texts c.in-Some.word.now c.lead-found.result (c.loop-k.invariant.leads_are names policy f knows nums remembers shown) it.1 it.2
-      (c.lead-found.ensures.lead names policy knows nums (c.loop-k.invariant.remembers names policy knows nums remembers)));
+      (c.lead-found.ensures.lead names policy knows nums (c.loop-k.invariant.remembers names policy knows nums remembers))));
 }
 
 pub returns-clause-binds : goal.returns-clause-binds

@@ -4,7 +4,7 @@ use Rattle.cil_bind.proofs.DeclareLemmas.{row-at, row-here}
 use Rattle.cil_bind.proofs.PlaceLemmas.{get-there}
 use Rattle.cil_bind.proofs.FromLemmas.{from-at}
 use Rattle.cil_bind.proofs.BindingLemmas.{bound-at}
-use Rattle.cil_bind.proofs.MoveLemmas.{place-moved, none-moved, places-long, moved-within, moved-long, kept-bound, dropped-bound}
+use Rattle.cil_bind.proofs.MoveLemmas.{place-told, place-moved, none-moved, places-long, moved-within, moved-long, kept-bound, dropped-bound}
 use Rattle.cil_bind.proofs.moving.rebind.Goals as goal
 
 -- what is read behind the end of the rows
@@ -20,7 +20,7 @@ loop-i-init g c = record {
 
 pub bounds-rows-place : goal.bounds-rows-place
 bounds-rows-place g c =
-    let low = moved-within c.args.rows.now c.args.places.now (length c.args.whole.now.0) c.loop-i.i c.in-Some.place c.requires.moved c.in-Some.is in
+    let low = moved-within c.args.rows.now c.args.places.now (length c.args.whole.now.0) c.loop-i.i c.in-Some.place c.requires.moved (place-told c.args.places.now c.loop-i.i c.index-places-i.result c.place.result (omega arith) c.index-places-i.is c.place.ensures ∙ c.in-Some.is) in
     low
 
 pub get-requires : goal.get-requires
@@ -33,7 +33,7 @@ rebind_row-requires-clause-from g c =
     let rows = c.args.rows.now in
     let row = get_or rows c.in-Some.place no_row in
     let place = c.in-Some.place in
-    let low = moved-within rows c.args.places.now (length c.args.whole.now.0) c.loop-i.i place c.requires.moved c.in-Some.is in
+    let low = moved-within rows c.args.places.now (length c.args.whole.now.0) c.loop-i.i place c.requires.moved (place-told c.args.places.now c.loop-i.i c.index-places-i.result c.place.result (omega arith) c.index-places-i.is c.place.ensures ∙ c.in-Some.is) in
     let here = row-here rows place no_row low in
     let from = from-at c.args.joined.now.modules.items rows c.requires.from.0 place row c.requires.from.1 here in
     (from.0, from.2)
@@ -45,7 +45,7 @@ loop-i-preserved-in_default g c = record {
       let long = ap length are ∙ places-long (is_within set) 0 policy in
       let s = get-there policy c.loop-i.i (omega (arith, long)) in
       dropped-bound (is_within set) policy c.loop-i.i s.0 c.loop-i.bound.0 s.1
-      (none-moved (is_within set) 0 policy c.loop-i.i s.0 (ap (λ l. get_or l c.loop-i.i None) (sym are) ∙ nothing (get_or c.args.places.now c.loop-i.i None) c.in_default.not-Some) s.1)
+      (none-moved (is_within set) 0 policy c.loop-i.i s.0 (ap (λ l. get_or l c.loop-i.i None) (sym are) ∙ place-told c.args.places.now c.loop-i.i c.index-places-i.result c.place.result (omega arith) c.index-places-i.is c.place.ensures ∙ nothing c.place.result c.in_default.not-Some) s.1)
       (c.loop-i.invariant.bound names policy set apart are whole knows worded rows_are from);
   remembered = c.loop-i.invariant.remembered;
 }
@@ -62,8 +62,8 @@ loop-i-preserved g c = record {
       let row = get_or rows c.in-Some.place no_row in
       let place = c.in-Some.place in
       let rest = restricted set policy in
-      let m = place-moved (is_within set) 0 policy c.loop-i.i place (ap (λ l. get_or l c.loop-i.i None) (sym are) ∙ c.in-Some.is) in
-      let low = moved-within rows c.args.places.now (length c.args.whole.now.0) c.loop-i.i place c.requires.moved c.in-Some.is in
+      let m = place-moved (is_within set) 0 policy c.loop-i.i place (ap (λ l. get_or l c.loop-i.i None) (sym are) ∙ place-told c.args.places.now c.loop-i.i c.index-places-i.result c.place.result (omega arith) c.index-places-i.is c.place.ensures ∙ c.in-Some.is) in
+      let low = moved-within rows c.args.places.now (length c.args.whole.now.0) c.loop-i.i place c.requires.moved (place-told c.args.places.now c.loop-i.i c.index-places-i.result c.place.result (omega arith) c.index-places-i.is c.place.ensures ∙ c.in-Some.is) in
       let here = row-here rows place no_row low in
       let same : place ≡ m.k = omega (arith, m.is) in
       let there : slice_get rest place ≡ Some m.x = ap (slice_get rest) same ∙ m.there in

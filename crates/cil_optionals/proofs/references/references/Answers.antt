@@ -1,4 +1,5 @@
-use Rattle.cil_optionals.proofs.Common.{◌≤◌, ◌<◌, ◌+◌, [], not, ◌&&◌, None, IfSome, length, get_or, take, refl, sym, ap, subst, arith, restricted, references, leads, is_unfound, rows-length, texts_of, table_of, are_found, optional_at, AddsNeed}
+use Rattle.cil_optionals.proofs.Common.{◌≤◌, ◌<◌, ◌+◌, [], not, ◌&&◌, IfSome, length, get_or, take, sym, ap, subst, arith, restricted, references, leads, is_unfound, rows-length, texts_of, table_of, are_found, optional_at, AddsNeed}
+use Rattle.cil_bind.proofs.MoveLemmas.{place-told}
 use Rattle.cil_optionals.proofs.AsksLemmas.{asks-none, asks-same, asks-need, bound-at, row-one, leads-of, seen-of, reference-of, reference-there, reference-met, reference-lead, found-next, found-outside, found-all}
 use Rattle.cil_optionals.proofs.references.references.Goals as goal
 
@@ -12,14 +13,14 @@ is_outside-requires g c =
     let p = c.args.policy.now in
     let r = c.requires.ready in
     let are = leads-of p r.0 r.1 c.args.i r.2 c.get-bound.result.now r.3 r.4 c.get-bound.ensures in
-    let (reference, at, lead) = reference-lead r.1 r.2 c.get-bound.result.now c.loop-k.k are c.loop-k-test.true in
+    let (reference, at, lead) = reference-lead r.1 r.2 c.get-bound.result.now c.loop-k.k c.place-found.result are c.loop-k-test.true (sym (place-told c.get-bound.result.now c.loop-k.k c.index-bound-k.result c.place-found.result (omega arith) c.index-bound-k.is c.place-found.ensures)) in
     (r.0, r.1, reference.0, leads r.1 reference.0 r.2.namespace reference.1.text, r.3, lead)
 
 pub loop-k-preserved-then-is_outside : goal.loop-k-preserved-then-is_outside
 loop-k-preserved-then-is_outside g c = λ parsed all s ready at of.
     let p = c.args.policy.now in
     let are = leads-of p parsed all c.args.i s c.get-bound.result.now ready at c.get-bound.ensures in
-    let (reference, there, lead) = reference-lead all s c.get-bound.result.now c.loop-k.k are c.loop-k-test.true in
+    let (reference, there, lead) = reference-lead all s c.get-bound.result.now c.loop-k.k c.place-found.result are c.loop-k-test.true (sym (place-told c.get-bound.result.now c.loop-k.k c.index-bound-k.result c.place-found.result (omega arith) c.index-bound-k.is c.place-found.ensures)) in
     let out = c.is_outside.ensures c.if-is_outside.true parsed all reference.0 (leads all reference.0 s.namespace reference.1.text) ready lead in
     asks-same all (optional_at p c.args.i) (λ set. are_found (restricted set all) s.namespace (take c.loop-k.k (references s.form)))
     (λ set. are_found (restricted set all) s.namespace (take (c.loop-k.k + 1) (references s.form))) c.args.needs.now.items c.loop-k.needs.items
@@ -38,8 +39,8 @@ is_plain-plain-requires g c =
     let m = c.args.«module».now in
     let r = c.requires.ready in
     let seen = seen-of p r.0 m r.1 c.args.i r.2 c.index-row.result.now c.statement-view.result c.get-bound.result.now r.3 r.4 r.5 c.index-row.ensures c.statement-view.ensures c.get-bound.ensures in
-    (reference-of p m r.1 c.args.i r.2 c.statement-view.result c.get-bound.result.now c.loop-k.k c.in-Some._table c.in-Some.word.now (get_or c.get-bound.result.now c.loop-k.k None) seen
-    (c.in-Some.ensures.some (texts_of m) seen.f seen.shown) refl).low
+    (reference-of p m r.1 c.args.i r.2 c.statement-view.result c.get-bound.result.now c.loop-k.k c.in-Some._table c.in-Some.word.now c.place-found.result seen
+    (c.in-Some.ensures.some (texts_of m) seen.f seen.shown) (sym (place-told c.get-bound.result.now c.loop-k.k c.index-bound-k.result c.place-found.result (omega arith) c.index-bound-k.is c.place-found.ensures))).low
 
 pub meeting-node-requires : goal.meeting-node-requires
 meeting-node-requires g c =
@@ -47,17 +48,17 @@ meeting-node-requires g c =
     let m = c.args.«module».now in
     let r = c.requires.ready in
     let seen = seen-of p r.0 m r.1 c.args.i r.2 c.index-row.result.now c.statement-view.result c.get-bound.result.now r.3 r.4 r.5 c.index-row.ensures c.statement-view.ensures c.get-bound.ensures in
-    let is = reference-of p m r.1 c.args.i r.2 c.statement-view.result c.get-bound.result.now c.loop-k.k c.in-Some._table c.in-Some.word.now (get_or c.get-bound.result.now c.loop-k.k None) seen
-    (c.in-Some.ensures.some (texts_of m) seen.f seen.shown) refl in
+    let is = reference-of p m r.1 c.args.i r.2 c.statement-view.result c.get-bound.result.now c.loop-k.k c.in-Some._table c.in-Some.word.now c.place-found.result seen
+    (c.in-Some.ensures.some (texts_of m) seen.f seen.shown) (sym (place-told c.get-bound.result.now c.loop-k.k c.index-bound-k.result c.place-found.result (omega arith) c.index-bound-k.is c.place-found.ensures)) in
     (r.0, r.1, table_of c.in-Some._table, leads r.1 (table_of c.in-Some._table) r.2.namespace is.word.text, r.3, is.lead)
 
 pub loop-k-preserved : goal.loop-k-preserved
 loop-k-preserved g c = λ parsed all s ready at of.
     let p = c.args.policy.now in
     let m = c.args.«module».now in
-    let found = get_or c.get-bound.result.now c.loop-k.k None in
+    let found = c.place-found.result in
     let seen = seen-of p parsed m all c.args.i s c.index-row.result.now c.statement-view.result c.get-bound.result.now ready at of c.index-row.ensures c.statement-view.ensures c.get-bound.ensures in
-    let is = reference-of p m all c.args.i s c.statement-view.result c.get-bound.result.now c.loop-k.k c.in-Some._table c.in-Some.word.now found seen (c.in-Some.ensures.some (texts_of m) seen.f seen.shown) refl in
+    let is = reference-of p m all c.args.i s c.statement-view.result c.get-bound.result.now c.loop-k.k c.in-Some._table c.in-Some.word.now found seen (c.in-Some.ensures.some (texts_of m) seen.f seen.shown) (sym (place-told c.get-bound.result.now c.loop-k.k c.index-bound-k.result c.place-found.result (omega arith) c.index-bound-k.is c.place-found.ensures)) in
     let table = table_of c.in-Some._table in
     let long = rows-length p.names p.lookup.namespaces p.rows.items all ready.bound.stands.rows_are in
     let one = (row-one p m c.args.i s c.index-row.result.now of c.index-row.ensures).1 in

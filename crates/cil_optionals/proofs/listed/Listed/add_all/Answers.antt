@@ -1,4 +1,4 @@
-use Rattle.std.proofs.Common.{◌≤◌, ◌<◌, length, arith}
+use Rattle.std.proofs.Common.{◌≤◌, length, arith}
 use Rattle.cil_bind.proofs.DeclareLemmas.{rows-length}
 use Rattle.cil_optionals.proofs.ProviderLemmas.{statement-at}
 use Rattle.cil_optionals.proofs.PermissionLemmas.{upto-all}
