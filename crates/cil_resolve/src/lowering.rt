@@ -78,7 +78,7 @@ impl<'l, 'p, 'm, A: Allocator + Copy> Lowering<'l, 'p, 'm, A> {
             (name_or_none permission_sets (leads policy permission_sets s.namespace word.text)) ≡ Some result }
     {
         let place = seen.lead(k).unwrap_or(0);
-        number_at(&self.numbering.places, place as usize)
+        number_at(&self.numbering.places, place as usize) as usize
     }
 
     /// The type or the attribute that the statement of a place declares.
@@ -90,7 +90,7 @@ impl<'l, 'p, 'm, A: Allocator + Copy> Lowering<'l, 'p, 'm, A> {
         NumberedName {
             module: self.module(i),
             at: seen.view.at,
-            name: number_at(&self.numbering.places, i),
+            name: number_at(&self.numbering.places, i) as usize,
         }
     }
 

@@ -46,8 +46,8 @@ impl<A: Allocator> Resolved<A> {
         ensures { result ≡ same_element (element_of self.now.names.items x) (element_of other.now.names.items y) }
     {
         match (x, y) {
-            (Element::Type(a), Element::Type(b)) => self.name(a) == other.name(b),
-            (Element::Attribute(a), Element::Attribute(b)) => self.name(a) == other.name(b),
+            (Element::Type(a), Element::Type(b)) => self.name(a as usize) == other.name(b as usize),
+            (Element::Attribute(a), Element::Attribute(b)) => self.name(a as usize) == other.name(b as usize),
             _ => false,
         }
     }

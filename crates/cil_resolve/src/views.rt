@@ -154,8 +154,8 @@ impl<A: Allocator> Resolved<A> {
         ensures { element_seen result ≡ element_of self.now.names.items element }
     {
         match element {
-            Element::Type(i) => ElementView::Type(self.name(i)),
-            Element::Attribute(i) => ElementView::Attribute(self.name(i)),
+            Element::Type(i) => ElementView::Type(self.name(i as usize)),
+            Element::Attribute(i) => ElementView::Attribute(self.name(i as usize)),
         }
     }
 
