@@ -49,13 +49,13 @@ pub struct Lowering<'l, 'p, 'm, A: Allocator = Global> {
 
 impl<'l, 'p, 'm, A: Allocator + Copy> Lowering<'l, 'p, 'm, A> {
     /// The number of the module of the statement of a place.
-    pub(crate) fn module(&self, i: usize) -> usize
+    pub(crate) fn module(&self, i: usize) -> u32
         requires { (policy : List Placed) × IsLowering self.now policy × (i < length policy) }
         ensures { (policy : List Placed) (s : Placed) → IsLowering self.now policy → slice_get policy i ≡ Some s → slice_index_or (modules_of self.now.checker.now.bound.joined.now) result [] ≡ s.module_name }
     {
         let bound = &self.checker.bound;
         let policy = bound.policy;
-        policy.rows[i].module as usize
+        policy.rows[i].module
     }
 
     /// What a reference of a statement stands for, an alias for its actual type.

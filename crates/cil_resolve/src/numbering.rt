@@ -164,7 +164,8 @@ fn note_words<A: Allocator>(
 {
     for word in words {
         let at = seen.number(*word) as usize;
-        permissions[at] = number_of(names, text_of(seen, *word))?;
+        let number = number_of(names, text_of(seen, *word))?;
+        permissions[at] = number;
     }
     Ok(())
 }
