@@ -11,8 +11,8 @@ use std::alloc::{Allocator, Global};
 /// of names.
 #[derive(Clone, Copy, Debug, PartialEq, Eq)]
 pub enum Element {
-    Type(usize),
-    Attribute(usize),
+    Type(u32),
+    Attribute(u32),
 }
 
 /// The nodes of an expression, each in front of those of its operands, and what its names lead to, in their order.

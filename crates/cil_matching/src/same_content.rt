@@ -25,8 +25,10 @@ fn is_element(numbers: &[Option<usize>], x: Element, y: Element) -> bool
     ensures { result ≡ is_element_by numbers.now x y }
 {
     match (x, y) {
-        (Element::Type(a), Element::Type(b)) => is_number(numbers, a, b),
-        (Element::Attribute(a), Element::Attribute(b)) => is_number(numbers, a, b),
+        (Element::Type(a), Element::Type(b)) => is_number(numbers, a as usize, b as usize),
+        (Element::Attribute(a), Element::Attribute(b)) => {
+            is_number(numbers, a as usize, b as usize)
+        },
         _ => false,
     }
 }

@@ -40,11 +40,11 @@ fn element_bits<A: Allocator>(
     ensures { Cover (name_holds reading.now element) word result }
 {
     match element {
-        Element::Type(ty) => symbol_bit(reading.side.numbering.symbol(ty).unwrap(), word),
+        Element::Type(ty) => symbol_bit(reading.side.numbering.symbol(ty as usize).unwrap(), word),
         Element::Attribute(attribute) => members(
             rows,
             &reading.when,
-            reading.side.numbering.symbol(attribute).unwrap(),
+            reading.side.numbering.symbol(attribute as usize).unwrap(),
             word,
         ),
     }
@@ -92,7 +92,7 @@ fn changed_by_name<A: Allocator>(
     match element {
         Element::Type(_) => 0,
         Element::Attribute(attribute) => {
-            let row = reading.side.numbering.symbol(attribute).unwrap();
+            let row = reading.side.numbering.symbol(attribute as usize).unwrap();
             rows.changed(row, word)
         }
     }
@@ -178,7 +178,7 @@ fn words_of_name<A: Allocator>(
     match element {
         Element::Type(_) => Words::none(),
         Element::Attribute(attribute) => {
-            rows.turned_words(reading.side.numbering.symbol(attribute).unwrap())
+            rows.turned_words(reading.side.numbering.symbol(attribute as usize).unwrap())
         }
     }
 }

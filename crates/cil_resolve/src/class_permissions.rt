@@ -28,7 +28,7 @@ impl<'l, 'p, 'm, A: Allocator + Copy> Lowering<'l, 'p, 'm, A> {
             return Ok(());
         }
         for word in listed.get(place as usize) {
-            let number = number_at(&self.numbering.permissions, *word as usize);
+            let number = number_at(&self.numbering.permissions, *word as usize) as usize;
             if !permissions.contains(&number) {
                 permissions.push(number)?;
             }

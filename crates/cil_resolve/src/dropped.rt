@@ -30,7 +30,7 @@ fn dropped_optional<A: Allocator + Copy>(
         unreachable!("an optional declares its name");
     };
     Ok(DroppedOptional {
-        module: row.module as usize,
+        module: row.module,
         at: view.at,
         name: full_name(alloc, spaces, row.namespace, module.text(id.text as usize))?,
     })

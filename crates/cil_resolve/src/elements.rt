@@ -46,7 +46,7 @@ fn actual_of<A: Allocator>(checker: &Checker<'_, '_, A>, alias: u32) -> Option<u
 }
 
 /// What a name that leads to the statement of a place stands for: an alias for its actual type.
-fn element_at<A: Allocator>(checker: &Checker<'_, '_, A>, places: &[usize], i: u32) -> Element
+fn element_at<A: Allocator>(checker: &Checker<'_, '_, A>, places: &[u32], i: u32) -> Element
     requires { (policy : List Placed) × IsNoted checker.now policy × (i < length policy) }
     ensures { (names : List (List ℕ)) (policy : List Placed) (s : Placed) → IsNoted checker.now policy → IsFaultless policy → HavePlaces names policy places.now → slice_get policy i ≡ Some s
         → IsFirstOf types policy i → IsTrue (is_set policy s) → IsElement names result (element_led policy s s.form) }
@@ -65,7 +65,7 @@ fn element_at<A: Allocator>(checker: &Checker<'_, '_, A>, places: &[usize], i: u
 pub fn elements<A: Allocator + Copy>(
     alloc: A,
     checker: &Checker<'_, '_, A>,
-    places: &[usize],
+    places: &[u32],
 ) -> Result<Vec<Element, A>, AllocError>
     requires { (policy : List Placed) × IsNoted checker.now policy }
     ensures { IfOk result (λ elements. (names : List (List ℕ)) (policy : List Placed) → IsNoted checker.now policy → IsFaultless policy → HavePlaces names policy places.now

@@ -75,8 +75,8 @@ impl<A: Allocator> Resolved<A> {
                     ensures { IsAnswer (F.post known) ty element result }
                 {
                     match element {
-                        Element::Type(named) => named == ty,
-                        Element::Attribute(attribute) => known(attribute),
+                        Element::Type(named) => named as usize == ty,
+                        Element::Attribute(attribute) => known(attribute as usize),
                     }
                 },
             ),

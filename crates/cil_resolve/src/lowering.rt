@@ -49,13 +49,13 @@ pub struct Lowering<'l, 'p, 'm, A: Allocator = Global> {
 
 impl<'l, 'p, 'm, A: Allocator + Copy> Lowering<'l, 'p, 'm, A> {
     /// The number of the module of the statement of a place.
-    pub(crate) fn module(&self, i: usize) -> usize
+    pub(crate) fn module(&self, i: usize) -> u32
         requires { (policy : List Placed) × IsLowering self.now policy × (i < length policy) }
         ensures { (policy : List Placed) (s : Placed) → IsLowering self.now policy → slice_get policy i ≡ Some s → slice_index_or (modules_of self.now.checker.now.bound.joined.now) result [] ≡ s.module_name }
     {
         let bound = &self.checker.bound;
         let policy = bound.policy;
-        policy.rows[i].module as usize
+        policy.rows[i].module
     }
 
     /// What a reference of a statement stands for, an alias for its actual type.
@@ -78,7 +78,7 @@ impl<'l, 'p, 'm, A: Allocator + Copy> Lowering<'l, 'p, 'm, A> {
             (name_or_none permission_sets (leads policy permission_sets s.namespace word.text)) ≡ Some result }
     {
         let place = seen.lead(k).unwrap_or(0);
-        number_at(&self.numbering.places, place as usize)
+        number_at(&self.numbering.places, place as usize) as usize
     }
 
     /// The type or the attribute that the statement of a place declares.
@@ -90,7 +90,7 @@ impl<'l, 'p, 'm, A: Allocator + Copy> Lowering<'l, 'p, 'm, A> {
         NumberedName {
             module: self.module(i),
             at: seen.view.at,
-            name: number_at(&self.numbering.places, i),
+            name: number_at(&self.numbering.places, i) as usize,
         }
     }
 

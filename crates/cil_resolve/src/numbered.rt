@@ -18,7 +18,7 @@ pub enum ResolvedTarget {
 /// of its statement.
 #[derive(Clone, Copy)]
 pub struct NumberedName {
-    pub module: usize,
+    pub module: u32,
     pub at: Place,
     pub name: usize,
 }
@@ -26,7 +26,7 @@ pub struct NumberedName {
 /// A class with its permissions, its common's included, each once.
 #[derive(Drop)]
 pub struct NumberedClass<A: Allocator = Global> {
-    pub module: usize,
+    pub module: u32,
     pub at: Place,
     pub name: usize,
     pub permissions: Vec<usize, A>,
@@ -35,7 +35,7 @@ pub struct NumberedClass<A: Allocator = Global> {
 /// A set statement: its attribute by the place of its full name, and its expression.
 #[derive(Drop)]
 pub struct NumberedSet<A: Allocator = Global> {
-    pub module: usize,
+    pub module: u32,
     pub at: Place,
     pub attribute: usize,
     pub expression: SetExpression<A>,
@@ -53,7 +53,7 @@ pub struct NumberedPermissions<A: Allocator = Global> {
 /// A statement that gives a permission set permissions of a class.
 #[derive(Drop)]
 pub struct NumberedPermissionSet<A: Allocator = Global> {
-    pub module: usize,
+    pub module: u32,
     pub at: Place,
     pub set: usize,
     pub permissions: NumberedPermissions<A>,
@@ -69,7 +69,7 @@ pub enum ResolvedPermissions<A: Allocator = Global> {
 /// A rule whose names are numbers: places in a list of names.
 #[derive(Drop)]
 pub struct NumberedRule<A: Allocator = Global> {
-    pub module: usize,
+    pub module: u32,
     pub at: Place,
     pub kind: RuleKind,
     pub source: Element,
@@ -80,7 +80,7 @@ pub struct NumberedRule<A: Allocator = Global> {
 /// An optional that drops, also one inside another: the place of its module's name, the place of its statement, and its full name.
 #[derive(Drop)]
 pub struct DroppedOptional<A: Allocator = Global> {
-    pub module: usize,
+    pub module: u32,
     pub at: Place,
     pub name: Text<A>,
 }

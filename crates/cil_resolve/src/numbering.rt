@@ -30,8 +30,8 @@ use std::alloc::{AllocError, Allocator, Global};
 #[derive(Drop)]
 pub struct Numbering<A: Allocator = Global> {
     pub names: Vec<Text<A>, A>,
-    pub places: Vec<usize, A>,
-    pub permissions: Vec<usize, A>,
+    pub places: Vec<u32, A>,
+    pub permissions: Vec<u32, A>,
     pub ghost ordered: { IsTrue (names_rise names.items) },
 }
 
@@ -134,14 +134,14 @@ fn place_numbers<A: Allocator + Copy>(
     bound: &BoundPolicy<'_, '_, A>,
     full_names: &Lists<u8, A>,
     names: &Names<'_, A>,
-) -> Result<Vec<usize, A>, AllocError>
+) -> Result<Vec<u32, A>, AllocError>
     requires is { (policy : List Placed) × IsOf bound.now policy × (full_names.now.0 ≡ map full_name_of policy) × AreNamesOf policy names.now }
     ensures { IfOk result (λ places. (policy : List Placed) → IsOf bound.now policy → full_names.now.0 ≡ map full_name_of policy → HavePlaces names.now policy places.items) }
 {
     let mut places = Vec::with_capacity(alloc, bound.len())?;
     for i in 0..bound.len() {
         if is_numbered(bound.kind(i)) {
-            places.push(number_of(names, full_names.get(i)))?;
+            places.push(number_of(names, full_names.get(i))?)?;
         } else {
             places.push(0)?;
         }
@@ -151,21 +151,23 @@ fn place_numbers<A: Allocator + Copy>(
 
 /// Notes the numbers of permissions at those of their words.
 fn note_words<A: Allocator>(
-    permissions: &mut Vec<usize, A>,
+    permissions: &mut Vec<u32, A>,
     names: &Names<'_, A>,
     seen: &Seen<'_, '_, A>,
     words: &[NumberedWord],
-)
+) -> Result<(), AllocError>
     requires is { (all : List (List ℕ)) × (list : List Word) × AreNumbersOf all seen.now.words.now (module_names seen.now.«module».now) × (map (read (texts_of seen.now.«module».now)) words.now ≡ map Some list)
         × AllByRecursion IsOneName list × AllByRecursion (λ w. IsTrue (has_name names.now w.text)) list × (length permissions.old.items ≡ length all) }
-    ensures long { length permissions.new.items ≡ length permissions.old.items }
-    ensures noted { (all before : List (List ℕ)) (list : List Word) → AreNumbersOf all seen.now.words.now (module_names seen.now.«module».now) → map (read (texts_of seen.now.«module».now)) words.now ≡ map Some list
-        → IsDistinct bytes_eq all → AllByRecursion IsOneName list → length permissions.old.items ≡ length all → HavePermissionsOf all names.now before permissions.old.items → HavePermissionsOf all names.now (before ++ texts list) permissions.new.items }
+    ensures long { OnOk result (length permissions.new.items ≡ length permissions.old.items) }
+    ensures noted { OnOk result ((all before : List (List ℕ)) (list : List Word) → AreNumbersOf all seen.now.words.now (module_names seen.now.«module».now) → map (read (texts_of seen.now.«module».now)) words.now ≡ map Some list
+        → IsDistinct bytes_eq all → AllByRecursion IsOneName list → length permissions.old.items ≡ length all → HavePermissionsOf all names.now before permissions.old.items → HavePermissionsOf all names.now (before ++ texts list) permissions.new.items) }
 {
     for word in words {
         let at = seen.number(*word) as usize;
-        permissions[at] = number_of(names, text_of(seen, *word));
+        let number = number_of(names, text_of(seen, *word))?;
+        permissions[at] = number;
     }
+    Ok(())
 }
 
 /// For each word of the policy's numbering its number as a permission, if statements list it as one; 0 for others.
@@ -173,7 +175,7 @@ fn permission_numbers<A: Allocator + Copy>(
     alloc: A,
     bound: &BoundPolicy<'_, '_, A>,
     names: &Names<'_, A>,
-) -> Result<Vec<usize, A>, AllocError>
+) -> Result<Vec<u32, A>, AllocError>
     requires is { (policy : List Placed) × IsOf bound.now policy × AreNamesOf policy names.now }
     ensures { IfOk result (λ permissions. (policy : List Placed) → IsOf bound.now policy → HavePermissions bound.now.policy.now.names names.now policy permissions.items) }
 {
@@ -181,7 +183,7 @@ fn permission_numbers<A: Allocator + Copy>(
     for i in 0..bound.len() {
         if lists_own(bound.kind(i)) {
             let seen = bound.seen(i);
-            note_words(&mut permissions, names, &seen, seen.view.permissions());
+            note_words(&mut permissions, names, &seen, seen.view.permissions())?;
         }
     }
     Ok(permissions)

@@ -19,7 +19,7 @@ impl<'l, 'p, 'm, A: Allocator + Copy> Lowering<'l, 'p, 'm, A> {
         ensures { (policy : List Placed) (s : Placed) (w : Word) → IsIn self.now seen.now policy s → read (texts_of seen.now.«module».now) word ≡ Some w → IsOneName w
             → IsTrue (has_name (listed_names policy) w.text) → number_in self.now.numbering.now.names.items w.text ≡ Some result }
     {
-        number_at(&self.numbering.permissions, seen.number(word) as usize)
+        number_at(&self.numbering.permissions, seen.number(word) as usize) as usize
     }
 
     /// The numbers of the permissions that a statement names.

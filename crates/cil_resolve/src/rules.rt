@@ -18,7 +18,7 @@ use std::alloc::{AllocError, Allocator};
 /// What is kept of a rule but for its permissions, and which of its references leads to their class or to their permission set.
 #[derive(Drop)]
 pub struct RuleStart {
-    pub module: usize,
+    pub module: u32,
     pub at: Place,
     pub kind: RuleKind,
     pub source: Element,

@@ -29,7 +29,7 @@ impl<A: Allocator> Resolved<A> {
         ensures { result ≡ same_set (set_of self.now.modules.items self.now.names.items set.now)
             (set_of other.now.modules.items other.now.names.items against.now) }
     {
-        let module = self.module(set.module) == other.module(against.module);
+        let module = self.module(set.module as usize) == other.module(against.module as usize);
         let at = set.at.offset == against.at.offset;
         let attribute = self.name(set.attribute) == other.name(against.attribute);
         let says = set.expression.is_same(
@@ -46,8 +46,9 @@ impl<A: Allocator> Resolved<A> {
         ensures { result ≡ same_element (element_of self.now.names.items x) (element_of other.now.names.items y) }
     {
         match (x, y) {
-            (Element::Type(a), Element::Type(b)) => self.name(a) == other.name(b),
-            (Element::Attribute(a), Element::Attribute(b)) => self.name(a) == other.name(b),
+            (Element::Type(a), Element::Type(b)) => self.name(a as usize) == other.name(b as usize),
+            (Element::Attribute(a), Element::Attribute(b)) => self.name(a as usize)
+                == other.name(b as usize),
             _ => false,
         }
     }

@@ -120,7 +120,7 @@ fn add_set<A: Allocator>(
 {
     for element in names_of(set) {
         if let Element::Attribute(to) = element {
-            add_edge(graph, set.attribute, *to)?;
+            add_edge(graph, set.attribute, *to as usize)?;
         }
     }
     Ok(())

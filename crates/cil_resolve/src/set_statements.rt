@@ -19,7 +19,7 @@ impl<'l, 'p, 'm, A: Allocator + Copy> Lowering<'l, 'p, 'm, A> {
             → number_in self.now.numbering.now.names.items (name_or_none types (leads policy types s.namespace attribute.text)) ≡ Some result }
     {
         let declared = seen.lead(0).unwrap_or(0);
-        number_at(&self.numbering.places, declared as usize)
+        number_at(&self.numbering.places, declared as usize) as usize
     }
 
     /// What the names of the expression of a set statement stand for, in their order.

@@ -154,8 +154,8 @@ impl<A: Allocator> Resolved<A> {
         ensures { element_seen result ≡ element_of self.now.names.items element }
     {
         match element {
-            Element::Type(i) => ElementView::Type(self.name(i)),
-            Element::Attribute(i) => ElementView::Attribute(self.name(i)),
+            Element::Type(i) => ElementView::Type(self.name(i as usize)),
+            Element::Attribute(i) => ElementView::Attribute(self.name(i as usize)),
         }
     }
 
@@ -193,7 +193,7 @@ impl<A: Allocator> Resolved<A> {
     {
         let declared = self.types.get(i)?;
         Some(NameView {
-            module: self.module(declared.module),
+            module: self.module(declared.module as usize),
             at: declared.at,
             name: self.name(declared.name),
         })
@@ -221,7 +221,7 @@ impl<A: Allocator> Resolved<A> {
     {
         let declared = self.attributes.get(i)?;
         Some(NameView {
-            module: self.module(declared.module),
+            module: self.module(declared.module as usize),
             at: declared.at,
             name: self.name(declared.name),
         })
@@ -249,7 +249,7 @@ impl<A: Allocator> Resolved<A> {
     {
         let class = self.classes.get(i)?;
         Some(ClassView {
-            module: self.module(class.module),
+            module: self.module(class.module as usize),
             at: class.at,
             name: self.name(class.name),
             permissions: class.permissions.len(),
@@ -279,7 +279,7 @@ impl<A: Allocator> Resolved<A> {
     {
         let statement = self.permission_sets.get(i)?;
         Some(PermissionSetView {
-            module: self.module(statement.module),
+            module: self.module(statement.module as usize),
             at: statement.at,
             set: self.name(statement.set),
             class: self.name(statement.permissions.class),
@@ -303,7 +303,7 @@ impl<A: Allocator> Resolved<A> {
     {
         let set = self.sets.at(i)?;
         Some(SetView {
-            module: self.module(set.module),
+            module: self.module(set.module as usize),
             at: set.at,
             attribute: self.name(set.attribute),
             names: set.expression.names().len(),
@@ -323,7 +323,7 @@ impl<A: Allocator> Resolved<A> {
     {
         let rule = self.rules.get(i)?;
         Some(RuleView {
-            module: self.module(rule.module),
+            module: self.module(rule.module as usize),
             at: rule.at,
             kind: rule.kind,
             source: self.element(rule.source),
@@ -354,7 +354,7 @@ impl<A: Allocator> Resolved<A> {
     {
         let dropped = self.dropped.get(i)?;
         Some(NameView {
-            module: self.module(dropped.module),
+            module: self.module(dropped.module as usize),
             at: dropped.at,
             name: dropped.name.as_slice(),
         })

@@ -28,7 +28,7 @@ pub fn lists_own(kind: StatementKind) -> bool
 }
 
 /// The number at an index, and 0 past the end.
-pub fn number_at(numbers: &[usize], i: usize) -> usize
+pub fn number_at(numbers: &[u32], i: usize) -> u32
     ensures { result ≡ slice_index_or numbers.now i 0 }
 {
     match numbers.get(i) {

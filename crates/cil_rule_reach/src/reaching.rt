@@ -29,11 +29,11 @@ fn types_of<A: Allocator + Copy>(
 {
     members.symbols_len();
     match element {
-        Element::Type(ty) => type_line(alloc, symbol_of(numbering, ty)),
+        Element::Type(ty) => type_line(alloc, symbol_of(numbering, ty as usize)),
         Element::Attribute(attribute) => members_line(
             alloc,
             members,
-            symbol_of(numbering, attribute),
+            symbol_of(numbering, attribute as usize),
         ),
     }
 }

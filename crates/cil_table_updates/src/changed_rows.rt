@@ -73,7 +73,7 @@ impl<A: Allocator> ChangedRows<'_, A> {
     {
         match element {
             Element::Type(_) => true,
-            Element::Attribute(attribute) => self.stays(symbol_of(numbering, attribute)),
+            Element::Attribute(attribute) => self.stays(symbol_of(numbering, attribute as usize)),
         }
     }
 

@@ -39,9 +39,9 @@ impl<A: Allocator> Members<'_, A> {
         ensures { IsWordOf (holds_symbol self.now element) index result }
     {
         match element {
-            Element::Type(ty) => word_of(symbol_of(self.numbering, ty), index),
+            Element::Type(ty) => word_of(symbol_of(self.numbering, ty as usize), index),
             Element::Attribute(attribute) => {
-                let row = symbol_of(self.numbering, attribute);
+                let row = symbol_of(self.numbering, attribute as usize);
                 self.rows.present(row, index)
             }
         }
@@ -55,11 +55,11 @@ impl<A: Allocator> Members<'_, A> {
     {
         match element {
             Element::Type(ty) => {
-                let word = symbol_of(self.numbering, ty) / WORD;
+                let word = symbol_of(self.numbering, ty as usize) / WORD;
                 (from <= word).then_some(word)
             }
             Element::Attribute(attribute) => {
-                let row = symbol_of(self.numbering, attribute);
+                let row = symbol_of(self.numbering, attribute as usize);
                 self.rows.next_present_word(row, from)
             }
         }

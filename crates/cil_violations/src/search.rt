@@ -10,6 +10,7 @@ use crate::members::Members;
 use crate::permissions::{given_at, put_in_order, share, shared_classes};
 use crate::row::{Pair, RowNumbers};
 use crate::shared::shared;
+use cil_names::in_32_bits;
 use cil_parse::Lists;
 use cil_resolve::{
     ClassPermission, Element, NumberedRule, Resolved, ResolvedPermissions, ResolvedTarget,
@@ -39,7 +40,7 @@ struct Met<A: Allocator> {
 }
 
 /// The element that a target takes in for a source.
-fn aim(target: ResolvedTarget, source: usize) -> Element
+fn aim(target: ResolvedTarget, source: u32) -> Element
     ensures { result ≡ aim_of target source }
 {
     match target {
@@ -262,8 +263,9 @@ impl<A: Allocator + Copy> Search<'_, A> {
         requires source { source < names_in self.now }
         ensures { IfOk result (λ list. list.items ≡ targets_of self.now never allowed source) }
     {
-        let first = aim(self.rule(never).target, source);
-        let second = aim(self.rule(allowed).target, source);
+        let itself = in_32_bits(source)?;
+        let first = aim(self.rule(never).target, itself);
+        let second = aim(self.rule(allowed).target, itself);
         shared(self.alloc, &self.members, first, second)
     }
 

@@ -31,13 +31,13 @@ index_mut-requires g c =
 
 pub loop-word-preserved : goal.loop-word-preserved
 loop-word-preserved g c = record {
-  long = length-set c.loop-word.permissions.items c.number-at.result c.number_of.result ∙ c.loop-word.invariant.long;
+  long = length-set c.loop-word.permissions.items c.number-at.result c.in_ok-number.number ∙ c.loop-word.invariant.long;
   noted = λ all before list numbered shown distinct single long kept.
       let i = c.loop-word.word-index in
       let found = word-read (texts_of c.args.seen.now.«module».now) c.args.words.now list i no_word shown c.loop-word-test.true in
-      note-next all c.args.names.now before list i found.0 c.number-at.result c.number_of.result c.loop-word.permissions.items distinct (c.loop-word.invariant.long ∙ long) found.1
+      note-next all c.args.names.now before list i found.0 c.number-at.result c.in_ok-number.number c.loop-word.permissions.items distinct (c.loop-word.invariant.long ∙ long) found.1
       (c.number-at.ensures all found.0 numbered found.2 (one-name-at list i found.0 single found.1))
-      (ap (number_in c.args.names.now) (sym (c.text_of.ensures found.0 found.2)) ∙ c.number_of.ensures) (c.loop-word.invariant.noted all before list numbered shown distinct single long kept);
+      (ap (number_in c.args.names.now) (sym (c.text_of.ensures found.0 found.2)) ∙ c.in_ok-number.ensures) (c.loop-word.invariant.noted all before list numbered shown distinct single long kept);
 }
 
 pub returns-clause-noted : goal.returns-clause-noted

@@ -2,7 +2,7 @@ use Rattle.cil_resolve.proofs.Common.{◌≡◌, ◌≤◌, ◌+◌, ◌++◌, �
 use Rattle.cil_resolve.proofs.NumberLemmas.{has-words, named-in, own-named}
 use Rattle.cil_resolve.proofs.StatementLemmas.{at-place, flat-one}
 use Rattle.cil_resolve.proofs.numbering.permission_numbers.Goals as goal
-use Rattle.cil_resolve.proofs.numbering.permission_numbers.Goals.{then-lists_own, else-lists_own}
+use Rattle.cil_resolve.proofs.numbering.permission_numbers.Goals.{then-lists_own+in_ok-note_words, else-lists_own}
 
 pub note_words-requires : goal.note_words-requires
 note_words-requires g c =
@@ -29,8 +29,8 @@ note_words-requires g c =
 
 pub loop-i-preserved : goal.loop-i-preserved
 loop-i-preserved g c = elim c.if-lists_own.branch [
-  | then-lists_own w ↦ record {
-    long = ap (λ v. length v.items) w.permissions-is ∙ w.note_words.ensures.long ∙ c.loop-i.invariant.long;
+  | then-lists_own+in_ok-note_words w ↦ record {
+    long = ap (λ v. length v.items) w.permissions-is ∙ w.in_ok-note_words.ensures.long ∙ c.loop-i.invariant.long;
     noted = λ policy is.
         let names = c.args.bound.now.policy.now.names in
         let i = c.loop-i.i in
@@ -45,7 +45,7 @@ loop-i-preserved g c = elim c.if-lists_own.branch [
         ap (λ l. listed_names (take i policy) ++ texts l) own ∙ sym (flat-one (λ t. texts (own_permissions t.form)) policy i s at) in
         subst (λ some. HavePermissionsOf names c.args.names.now some c.if-lists_own.permissions.items) all
         (subst (HavePermissionsOf names c.args.names.now (listed_names (take i policy) ++ texts list)) (sym (ap (λ v. v.items) w.permissions-is))
-        (w.note_words.ensures.noted names (listed_names (take i policy)) list (w.seen-seen.ensures.worded policy is) (w.permissions.ensures (texts_of w.seen-seen.result.«module».now) seen.f seen.shown)
+        (w.in_ok-note_words.ensures.noted names (listed_names (take i policy)) list (w.seen-seen.ensures.worded policy is) (w.permissions.ensures (texts_of w.seen-seen.result.«module».now) seen.f seen.shown)
         is.bound.stands.numbered.names_distinct (subst (λ f. AllByRecursion IsOneName (permissions_in f)) (sym seen.form) (is.spelt s there).permissions)
         c.loop-i.invariant.long (c.loop-i.invariant.noted policy is)));
   }

@@ -3,7 +3,7 @@ use Rattle.cil_resolve.proofs.FullNamesLemmas.{kind-numbered}
 use Rattle.cil_resolve.proofs.NumberLemmas.{HavePlacesBelow, place-next, full-named, named-in}
 use Rattle.cil_resolve.proofs.StatementLemmas.{mapped-at, at-place}
 use Rattle.cil_resolve.proofs.numbering.place_numbers.Goals as goal
-use Rattle.cil_resolve.proofs.numbering.place_numbers.Goals.{then-is_numbered+in_ok-push, else-is_numbered+in_ok-push-2}
+use Rattle.cil_resolve.proofs.numbering.place_numbers.Goals.{then-is_numbered+in_ok-number_of+in_ok-push, else-is_numbered+in_ok-push-2}
 
 pub number_of-requires : goal.number_of-requires
 number_of-requires g c =
@@ -17,15 +17,15 @@ number_of-requires g c =
 
 pub loop-i-preserved : goal.loop-i-preserved
 loop-i-preserved g c = elim c.if-is_numbered.branch [
-  | then-is_numbered+in_ok-push w ↦ record {
-    long = ap (λ v. length v.items) w.places-is ∙ ap length w.in_ok-push.ensures.items ∙ length_push c.loop-i.places.items w.number_of.result ∙ ap (λ n. n + 1) c.loop-i.invariant.long;
+  | then-is_numbered+in_ok-number_of+in_ok-push w ↦ record {
+    long = ap (λ v. length v.items) w.places-is ∙ ap length w.in_ok-push.ensures.items ∙ length_push c.loop-i.places.items w.in_ok-number_of.field-0 ∙ ap (λ n. n + 1) c.loop-i.invariant.long;
     placed = λ policy is full.
         let i = c.loop-i.i in
         let count = c.len-i-end.ensures policy is in
         let (s, at) = there-at policy i (omega (arith, count)) in
         subst (HavePlacesBelow c.args.names.now policy (i + 1)) (sym (ap (λ v. v.items) w.places-is ∙ w.in_ok-push.ensures.items))
-        (place-next c.args.names.now policy i w.number_of.result s c.loop-i.places.items c.loop-i.invariant.long at
-        (λ numbered. ap (number_in c.args.names.now) (sym (w.get.ensures ∙ ap (λ l. get_or l i []) full ∙ mapped-at full_name_of policy i s [] at)) ∙ w.number_of.ensures)
+        (place-next c.args.names.now policy i w.in_ok-number_of.field-0 s c.loop-i.places.items c.loop-i.invariant.long at
+        (λ numbered. ap (number_in c.args.names.now) (sym (w.get.ensures ∙ ap (λ l. get_or l i []) full ∙ mapped-at full_name_of policy i s [] at)) ∙ w.in_ok-number_of.ensures)
         (c.loop-i.invariant.placed policy is full));
   }
   | else-is_numbered+in_ok-push-2 w ↦ record {

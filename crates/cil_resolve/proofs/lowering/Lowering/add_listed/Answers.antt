@@ -16,10 +16,10 @@ loop-word-preserved g c policy s before is at lists start =
     let (x, here, word) = name-there words c.get-word-items.result.now list i shown c.loop-word-test.true in
     let named : has_name (texts (own_permissions s.form)) x ≡ true = sym (has-distinct (texts (own_permissions s.form)) x) ∙ name-among list i x here in
     let listed = named-in (λ t. texts (own_permissions t.form)) policy s x (contained policy c.args.place s at) named in
-    let number : number_in names x ≡ Some c.number_at-number.result =
-    is.permissions _ x word listed ∙ ap (λ all. Some (get_or all (get_or c.get-word-items.result.now i 0) 0)) (sym c.deref.ensures.value) ∙ ap Some (sym c.number_at-number.ensures) in
+    let number : number_in names x ≡ Some c.number_at.result =
+    is.permissions _ x word listed ∙ ap (λ all. Some (get_or all (get_or c.get-word-items.result.now i 0) 0)) (sym c.deref.ensures.value) ∙ ap Some (sym c.number_at.ensures) in
     let old = c.loop-word.permissions.items in
-    let n = c.number_at-number.result in
+    let n = c.number_at.result in
     let so_far = c.loop-word.invariant policy s before is at lists start in
     let next = numbers-with names (fold with_name before (take i list)) old x n so_far number in
     let among : c.contains.result ≡ list_any (λ k. k == n) old = c.contains.ensures.value ∙ ap (list_any (λ k. k == n)) c.deref-in-loop-word.ensures.value in
