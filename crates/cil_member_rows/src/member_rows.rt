@@ -227,4 +227,15 @@ impl<A: Allocator> MemberRows<A> {
         ended::give_up(&mut self.rows, &mut self.ended);
         marks::clear(&mut self.turned);
     }
+
+    /// `settle`, where there are no fewer steps than rows, so that going over the rows takes no more time than the steps took. Where there
+    /// are fewer, they stay. It takes no memory.
+    pub fn settle_many(&mut self)
+        ensures rows { rows_in self.new ≡ rows_in self.old }
+        ensures now { (r t : ℕ) → count_now self.new r t ≡ count_now self.old r t }
+    {
+        if self.rows.len() <= self.rows.steps() {
+            self.settle();
+        }
+    }
 }

@@ -9,6 +9,7 @@ pub use Rattle.cil_member_updates.specs.Counts.{gives_count, gives_member, one_i
 pub use Rattle.cil_member_updates.specs.Evaluated.{AreUnsettledAt, Comes, Goes, HasTurned, InWord, IsHeld, IsKept, IsMovedAt, IsTurnedAt, IsUnsettled, MayGo, MayTurn, is_asked}
 pub use Rattle.cil_member_updates.specs.Given.{IsUnchanged, Tell, gives, of_name}
 unfoldable pub use Rattle.cil_member_updates.specs.Given.{element_holds, holds, is_of, keeps}
+pub use Rattle.cil_member_updates.specs.Loading.{AreFirst, EvaluatesFirst, IsSettled, MayCount, MustCount}
 pub use Rattle.cil_member_updates.specs.Moved.{AreMoved, IsMoved, nothing}
 pub use Rattle.cil_member_updates.specs.Passes.{gave_in, given_by, gives_in, gone, gone_in, stayed, stayed_in}
 pub use Rattle.cil_member_updates.specs.Places.{no_declared, no_set, set_at}

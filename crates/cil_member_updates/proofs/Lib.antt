@@ -6,6 +6,7 @@ pub mod DirtyLemmas
 pub mod EvaluatedLemmas
 pub mod GivenLemmas
 pub mod KeptLemmas
+pub mod LoadLemmas
 pub mod MovedLemmas
 pub mod NameLemmas
 pub mod PassLemmas

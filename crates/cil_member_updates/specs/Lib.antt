@@ -3,6 +3,7 @@ pub mod Bits
 pub mod Counts
 pub mod Evaluated
 pub mod Given
+pub mod Loading
 pub mod Moved
 pub mod Passes
 pub mod Places

@@ -2,6 +2,7 @@
 #![tactic(auto)]
 
 mod kept;
+mod loading;
 mod masks;
 mod passes;
 mod sets;
@@ -11,5 +12,6 @@ mod when;
 mod words;
 
 pub use kept::KeptTypes;
+pub use loading::load;
 pub use passes::update;
 pub use side::{Side, Sides};
