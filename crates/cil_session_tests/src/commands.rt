@@ -4,10 +4,10 @@ use crate::shown::shown;
 use cil_program::command_line::command;
 use cil_program::command_line::compile::{Asked, Report, compile_entries};
 use cil_program::command_line::files::{ReadFault, read_files};
-use cil_store::{Entry, Seed};
+use cil_store::{OwnedEntry, Seed};
 use cil_stream::{MemorySink, MemorySource};
 use refusing::Refusing;
-use std::alloc::Global;
+use std::alloc::{AllocError, Global};
 use std::fs;
 use std::process::Abort;
 use std::random::RandomSource;
@@ -194,18 +194,22 @@ fn refused_reads(rt: &impl Files, alloc: Global) -> Result<u64, u64> {
     Err(1000)
 }
 
-const ENTRIES: &[Entry<'static>] = &[
-    Entry {
-        name: b"a",
-        priority: 400,
-        text: RULE,
-    },
-    Entry {
-        name: b"b",
-        priority: 400,
-        text: BASE,
-    },
-];
+const TEXTS: &[(&[u8], &[u8])] = &[(b"a", RULE), (b"b", BASE)];
+
+// Entries that own these texts.
+fn entries_in<'a>(
+    alloc: &'a Refusing<Global>,
+) -> Result<Vec<OwnedEntry<'static, &'a Refusing<Global>>, &'a Refusing<Global>>, AllocError> {
+    let mut entries = Vec::new(alloc);
+    for (name, text) in TEXTS {
+        entries.push(OwnedEntry {
+            name: *name,
+            priority: 400,
+            text: Vec::from_slice(alloc, *text)?,
+        })?;
+    }
+    Ok(entries)
+}
 
 // The status of each report and what it prints.
 const REPORTS: &[(Report, u8, &str)] = &[
@@ -227,10 +231,13 @@ fn compiled_at(heap: Global, report: &(Report, u8, &str), nth: u64) -> Told {
         seed,
     };
     let alloc = Refusing::new(heap);
+    let Ok(entries) = entries_in(&alloc) else {
+        return (true, false);
+    };
     alloc.refuse_from(nth);
     let mut out = MemorySink::new(heap);
     let mut err = MemorySink::new(heap);
-    let ended = compile_entries(&alloc, ENTRIES, asked, &mut out, &mut err);
+    let ended = compile_entries(&alloc, entries, asked, &mut out, &mut err);
     let found = (ended, shown(out.bytes()), shown(err.bytes()));
     if alloc.refused() > 0 {
         (true, found == (Ok(1), "", "refused 60 memory\n"))

@@ -242,10 +242,7 @@ fn read_file<'a, F: TextFiles, A: Allocator>(
         → (unread ≡ path.entry) × IsUnreadable (F.content from.now path.entry.now)) }
 {
     match from.read(alloc, path) {
-        Ok(mut text) => {
-            text.shrink_to_fit();
-            Ok(ReadFile { path, text })
-        }
+        Ok(text) => Ok(ReadFile { path, text }),
         Err(TextFault::Unreadable(reason)) => Err(ReadFault::Unreadable { path, reason }),
         Err(TextFault::Memory) => Err(ReadFault::Memory),
     }
