@@ -3,6 +3,7 @@
 use cil_session::command::{Command, InstallLine, Question, ScriptLine, script_line};
 use cil_store::{Call, Edit, Entry};
 use cil_trial_cases::{Fault, first_line, text_of};
+use std::alloc::Global;
 
 /// What a command asks for: a call, or the begin or the end of a batch.
 #[derive(Clone, Copy)]
@@ -82,21 +83,21 @@ pub fn push_calls<'a>(calls: &mut Vec<Call<'a>>, script: &'a [u8]) -> Result<(),
 }
 
 /// Appends the entries that the commands of a script install.
-pub fn push_entries<'a>(entries: &mut Vec<Entry<'a>>, script: &'a [u8]) -> Result<(), Fault> {
-    let mut rest = script;
-    for _ in 0..script.len() {
-        if rest.is_empty() {
-            break;
-        }
-        let (line, after) = first_line(rest);
-        let (call, after) = call_of(line, after)?;
+pub fn push_entries<'a>(
+    alloc: Global,
+    entries: &mut Vec<Entry<'a>>,
+    script: &'a [u8],
+) -> Result<(), Fault> {
+    let mut calls = Vec::new(alloc);
+    push_calls(&mut calls, script)?;
+    for call in &calls {
         let Call::Edit(
             Edit::Install {
                 name,
                 priority,
                 text,
             },
-        ) = call
+        ) = *call
         else {
             return Err(Fault::Case);
         };
@@ -105,7 +106,6 @@ pub fn push_entries<'a>(entries: &mut Vec<Entry<'a>>, script: &'a [u8]) -> Resul
             priority,
             text,
         })?;
-        rest = after;
     }
     Ok(())
 }

@@ -89,35 +89,18 @@ pub struct Makers {
     pub alloc: Global,
 }
 
-impl Makers {
-    fn make_plain(
-        &self,
-        case: &Case<'_>,
-        job: Job<'_>,
-        report: &mut MemorySink,
-    ) -> Result<bool, Fault> {
-        let heap = Refusing::new(self.alloc);
-        let mut tried = TriedPlain::new(self.alloc, &heap);
-        job.make(self.alloc, &mut tried, case, report)
-    }
-
-    fn make_delta(
-        &self,
-        case: &Case<'_>,
-        job: Job<'_>,
-        report: &mut MemorySink,
-    ) -> Result<bool, Fault> {
-        let heap = Refusing::new(self.alloc);
-        let mut tried = TriedDelta::new(self.alloc, &heap);
-        job.make(self.alloc, &mut tried, case, report)
-    }
-}
-
 impl Engines for Makers {
     fn make(&self, case: &Case<'_>, job: Job<'_>, report: &mut MemorySink) -> Result<bool, Fault> {
+        let heap = Refusing::new(self.alloc);
         match case.kind {
-            Kind::Plain => self.make_plain(case, job, report),
-            Kind::Delta => self.make_delta(case, job, report),
+            Kind::Plain => {
+                let mut tried = TriedPlain::new(self.alloc, &heap);
+                job.make(self.alloc, &mut tried, case, report)
+            }
+            Kind::Delta => {
+                let mut tried = TriedDelta::new(self.alloc, &heap);
+                job.make(self.alloc, &mut tried, case, report)
+            }
         }
     }
 }

@@ -67,7 +67,7 @@ impl<'h> Engine for TriedPlain<'h> {
 
     fn compile(&mut self, script: &[u8], sink: &mut MemorySink) -> Result<(), Fault> {
         let mut entries = Vec::new(self.alloc);
-        push_entries(&mut entries, script)?;
+        push_entries(self.alloc, &mut entries, script)?;
         self.compile_entries(entries.as_slice(), sink)
     }
 
