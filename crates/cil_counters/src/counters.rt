@@ -106,6 +106,26 @@ impl<A: Allocator + Copy> Counters<A> {
         numbering
     }
 
+    /// The symbols of a new policy, whose names and kept types have them. What is counted of the old policy stays.
+    fn next_symbols(
+        &mut self,
+        alloc: A,
+        old: &Resolved<A>,
+        new: &Resolved<A>,
+    ) -> Result<PolicySymbols<A>, AllocError>
+        requires now { IsNow old.now self.old }
+        requires before { WasBefore old.now self.old }
+        ensures now { IsNow old.now self.new }
+        ensures before { WasBefore old.now self.new }
+        ensures tables { self.new.tables ≡ self.old.tables }
+        ensures symbols { IfOk result (AreSymbolsOf self.new.names new.now) }
+        ensures distinct { IsDistinct bytes_eq self.new.names }
+        ensures few { HasFewNames old.now new.now self.old self.new }
+    {
+        let numbering = self.number(alloc, old, new)?;
+        PolicySymbols::of(alloc, &self.names, new, numbering)
+    }
+
     /// Brings the members from an old policy to a new one with these symbols.
     fn update_members(
         &mut self,
@@ -148,6 +168,45 @@ impl<A: Allocator + Copy> Counters<A> {
         cil_member_updates::update(&mut self.rows, alloc, &self.names, &sides, meter)
     }
 
+    /// `update_members` from an old policy without set statements, with no way back.
+    fn count_members(
+        &mut self,
+        alloc: A,
+        old: &Resolved<A>,
+        new: &Resolved<A>,
+        next: &PolicySymbols<A>,
+        meter: &mut Meter,
+    ) -> Result<(), AllocError>
+        requires distinct { IsDistinct bytes_eq self.old.names }
+        requires old_symbols { AreSymbolsOf self.old.names old.now self.old.policy }
+        requires new_symbols { AreSymbolsOf self.old.names new.now next.now }
+        requires sets { length (sets_in old.now) ≡ 0 }
+        requires now { AreCounts self.old.names old.now (member_rows.count_now self.old.rows) }
+        ensures now { OnOk result (AreCounts self.old.names new.now (member_rows.count_now self.new.rows)) }
+        ensures names { self.new.names ≡ self.old.names }
+        ensures tables { self.new.tables ≡ self.old.tables }
+        ensures evaluations { OnOk result (EvaluatesFew (meaning_in old.now) (meaning_in new.now)
+            (evaluations_in meter.old) (evaluations_in meter.new)) }
+        ensures adjustments { adjustments_in meter.new ≡ adjustments_in meter.old }
+    {
+        let matching = SetMatching::of(alloc, self.names.seed(), old, new)?;
+        add_rows(&mut self.rows, alloc, self.names.len())?;
+        let sides = Sides {
+            old: Side {
+                resolved: old,
+                numbering: &self.policy.numbering,
+                kept: &self.policy.kept,
+            },
+            new: Side {
+                resolved: new,
+                numbering: &next.numbering,
+                kept: &next.kept,
+            },
+            matching: &matching,
+        };
+        cil_member_updates::load(&mut self.rows, alloc, &self.names, &sides, meter)
+    }
+
     /// Brings the members from an old policy to a new one, in steps, and answers the symbols of the new one. What is counted of accesses
     /// stays.
     fn bring_members(
@@ -169,9 +228,36 @@ impl<A: Allocator + Copy> Counters<A> {
         ensures adjustments { adjustments_in meter.new ≡ adjustments_in meter.old }
         ensures names { HasFewNames old.now new.now self.old self.new }
     {
-        let numbering = self.number(alloc, old, new)?;
-        let next = PolicySymbols::of(alloc, &self.names, new, numbering)?;
+        let next = self.next_symbols(alloc, old, new)?;
         self.update_members(alloc, old, new, &next, meter)?;
+        Ok(next)
+    }
+
+    /// `bring_members` with no way back, so that no log is made of all steps. There is one only where the old policy has set statements.
+    fn load_members(
+        &mut self,
+        alloc: A,
+        old: &Resolved<A>,
+        new: &Resolved<A>,
+        meter: &mut Meter,
+    ) -> Result<PolicySymbols<A>, AllocError>
+        requires now { IsNow old.now self.old }
+        requires before { WasBefore old.now self.old }
+        ensures named { HasNames old.now self.new }
+        ensures members { OnOk result (AreCounts self.new.names new.now (member_rows.count_now self.new.rows)) }
+        ensures accesses { (key : SymbolKey) (t : ℕ)
+            → access_tables.count_now self.new.tables key t ≡ count_named self.new.names (meaning_in old.now) key t }
+        ensures steps { access_tables.steps_in self.new.tables ≡ access_tables.steps_in self.old.tables }
+        ensures symbols { IfOk result (AreSymbolsOf self.new.names new.now) }
+        ensures evaluations { OnOk result (EvaluatesFew (meaning_in old.now) (meaning_in new.now) (evaluations_in meter.old) (evaluations_in meter.new)) }
+        ensures adjustments { adjustments_in meter.new ≡ adjustments_in meter.old }
+        ensures names { HasFewNames old.now new.now self.old self.new }
+    {
+        if old.sets_len() > 0 {
+            return self.bring_members(alloc, old, new, meter);
+        }
+        let next = self.next_symbols(alloc, old, new)?;
+        self.count_members(alloc, old, new, &next, meter)?;
         Ok(next)
     }
 
@@ -222,8 +308,8 @@ impl<A: Allocator + Copy> Counters<A> {
     }
 
     /// Brings the counters from those of a policy without set statements and rules, as that of an empty store is, to those of another one.
-    /// There is no way back: no step of a counter of accesses is logged. After an out of memory the counters are of no use, since `undo`
-    /// doesn't lead back to the old policy.
+    /// There is no way back: no log is made of all steps. After an out of memory the counters are of no use, since `undo` doesn't lead back
+    /// to the old policy.
     pub fn load(
         &mut self,
         alloc: A,
@@ -249,7 +335,7 @@ impl<A: Allocator + Copy> Counters<A> {
         new.rules();
         resolved_is_sound(new);
         resolved_sets_are_in_order(new);
-        let next = self.bring_members(alloc, old, new, meter)?;
+        let next = self.load_members(alloc, old, new, meter)?;
         let new = Named {
             resolved: new,
             numbering: &next.numbering,
@@ -277,7 +363,7 @@ impl<A: Allocator + Copy> Counters<A> {
     {
         resolved_is_sound(new);
         resolved_sets_are_in_order(new);
-        let next = self.bring_members(alloc, old, new, &mut Meter::new())?;
+        let next = self.load_members(alloc, old, new, &mut Meter::new())?;
         self.names.len();
         Violations::of(alloc, new, &next.numbering, &self.rows)
     }

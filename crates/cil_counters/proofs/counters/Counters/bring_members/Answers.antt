@@ -4,37 +4,31 @@ use Rattle.cil_keyed_lines.specs.Keyed as access_tables
 use Rattle.cil_counters.proofs.CountedLemmas.{counted-by-alike}
 use Rattle.cil_counters.proofs.counters.Counters.bring_members.Goals as goal
 
-pub returns-in_err-numbering-clause-accesses : goal.returns-in_err-numbering-clause-accesses
-returns-in_err-numbering-clause-accesses g c = c.number.ensures.now.counted.are_counts
-
-pub returns-in_err-numbering-clause-steps : goal.returns-in_err-numbering-clause-steps
-returns-in_err-numbering-clause-steps g c = ap (λ tables. access_tables.steps_in tables) c.number.ensures.tables
-
 pub returns-in_err-next-clause-accesses : goal.returns-in_err-next-clause-accesses
-returns-in_err-next-clause-accesses g c = c.number.ensures.now.counted.are_counts
+returns-in_err-next-clause-accesses g c = c.next_symbols.ensures.now.counted.are_counts
 
 pub returns-in_err-next-clause-steps : goal.returns-in_err-next-clause-steps
-returns-in_err-next-clause-steps g c = ap (λ tables. access_tables.steps_in tables) c.number.ensures.tables
+returns-in_err-next-clause-steps g c = ap (λ tables. access_tables.steps_in tables) c.next_symbols.ensures.tables
 
 pub returns-in_err-update_members-clause-before : goal.returns-in_err-update_members-clause-before
 returns-in_err-update_members-clause-before g c =
-    counted-by-alike c.args.old.now c.number.new.self.names c.update_members.new.self.names c.number.new.self.policy c.update_members.new.self.policy (member_rows.count_before c.number.new.self.rows) (member_rows.count_before c.update_members.new.self.rows)
-    (access_tables.count_before c.number.new.self.tables) (access_tables.count_before c.update_members.new.self.tables) c.number.ensures.before c.update_members.ensures.names c.update_members.ensures.policy
+    counted-by-alike c.args.old.now c.next_symbols.new.self.names c.update_members.new.self.names c.next_symbols.new.self.policy c.update_members.new.self.policy (member_rows.count_before c.next_symbols.new.self.rows) (member_rows.count_before c.update_members.new.self.rows)
+    (access_tables.count_before c.next_symbols.new.self.tables) (access_tables.count_before c.update_members.new.self.tables) c.next_symbols.ensures.before c.update_members.ensures.names c.update_members.ensures.policy
     c.update_members.ensures.before (λ key t. ap (λ tables. access_tables.count_before tables key t) c.update_members.ensures.tables)
 
 pub returns-in_err-update_members-clause-accesses : goal.returns-in_err-update_members-clause-accesses
 returns-in_err-update_members-clause-accesses g c key t =
     ap (λ tables. access_tables.count_now tables key t) c.update_members.ensures.tables
-    ∙ c.number.ensures.now.counted.are_counts key t
+    ∙ c.next_symbols.ensures.now.counted.are_counts key t
     ∙ ap (λ l. count_named l (meaning_in c.args.old.now) key t) (sym c.update_members.ensures.names)
 
 pub returns-in_err-update_members-clause-steps : goal.returns-in_err-update_members-clause-steps
-returns-in_err-update_members-clause-steps g c = ap (λ tables. access_tables.steps_in tables) (c.update_members.ensures.tables ∙ c.number.ensures.tables)
+returns-in_err-update_members-clause-steps g c = ap (λ tables. access_tables.steps_in tables) (c.update_members.ensures.tables ∙ c.next_symbols.ensures.tables)
 
 pub returns-clause-before : goal.returns-clause-before
 returns-clause-before g c =
-    counted-by-alike c.args.old.now c.number.new.self.names c.update_members.new.self.names c.number.new.self.policy c.update_members.new.self.policy (member_rows.count_before c.number.new.self.rows) (member_rows.count_before c.update_members.new.self.rows)
-    (access_tables.count_before c.number.new.self.tables) (access_tables.count_before c.update_members.new.self.tables) c.number.ensures.before c.update_members.ensures.names c.update_members.ensures.policy
+    counted-by-alike c.args.old.now c.next_symbols.new.self.names c.update_members.new.self.names c.next_symbols.new.self.policy c.update_members.new.self.policy (member_rows.count_before c.next_symbols.new.self.rows) (member_rows.count_before c.update_members.new.self.rows)
+    (access_tables.count_before c.next_symbols.new.self.tables) (access_tables.count_before c.update_members.new.self.tables) c.next_symbols.ensures.before c.update_members.ensures.names c.update_members.ensures.policy
     c.update_members.ensures.before (λ key t. ap (λ tables. access_tables.count_before tables key t) c.update_members.ensures.tables)
 
 pub returns-clause-members : goal.returns-clause-members
@@ -43,11 +37,11 @@ returns-clause-members g c = subst (λ l. AreCounts l c.args.new.now (member_row
 pub returns-clause-accesses : goal.returns-clause-accesses
 returns-clause-accesses g c key t =
     ap (λ tables. access_tables.count_now tables key t) c.update_members.ensures.tables
-    ∙ c.number.ensures.now.counted.are_counts key t
+    ∙ c.next_symbols.ensures.now.counted.are_counts key t
     ∙ ap (λ l. count_named l (meaning_in c.args.old.now) key t) (sym c.update_members.ensures.names)
 
 pub returns-clause-steps : goal.returns-clause-steps
-returns-clause-steps g c = ap (λ tables. access_tables.steps_in tables) (c.update_members.ensures.tables ∙ c.number.ensures.tables)
+returns-clause-steps g c = ap (λ tables. access_tables.steps_in tables) (c.update_members.ensures.tables ∙ c.next_symbols.ensures.tables)
 
 pub returns-clause-symbols : goal.returns-clause-symbols
-returns-clause-symbols g c = subst (λ l. AreSymbolsOf l c.args.new.now c.in_ok-next.next) (sym c.update_members.ensures.names) c.in_ok-next.ensures
+returns-clause-symbols g c = subst (λ l. AreSymbolsOf l c.args.new.now c.in_ok-next.next) (sym c.update_members.ensures.names) c.in_ok-next.ensures.symbols

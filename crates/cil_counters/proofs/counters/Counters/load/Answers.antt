@@ -1,6 +1,7 @@
-use Rattle.cil_counters.proofs.Common.{◌≡◌, ◌∙◌, arith, length, subst, sym, true, list_all, is_rule_below, meaning_in}
+use Rattle.cil_counters.proofs.Common.{◌≡◌, ◌∙◌, ℕ, arith, count_by, length, refl, subst, sym, true, list_all, is_rule_below, meaning_in, sets_in}
 use Rattle.cil_delta_specs.specs.Work.{AdjustsFew, EvaluatesFew}
 use Rattle.cil_member_rows.specs.Rows as member_rows
+use Rattle.cil_member_updates.specs.Given.{gives}
 use Rattle.cil_resolve.specs.Meter.{adjustments_in, evaluations_in}
 use Rattle.cil_keyed_lines.specs.Keyed as access_tables
 use Rattle.cil_table_updates.proofs.FewLemmas.{adjusts-few}
@@ -9,19 +10,19 @@ use Rattle.cil_counters.proofs.CountedLemmas.{count-none, members-counted, none-
 use Rattle.cil_counters.proofs.counters.Counters.load.Goals as goal
 
 pub load-requires-clause-settled : goal.load-requires-clause-settled
-load-requires-clause-settled g c = omega (arith, c.bring_members.ensures.steps, c.requires.settled)
+load-requires-clause-settled g c = omega (arith, c.load_members.ensures.steps, c.requires.settled)
 
 pub load-requires-clause-none : goal.load-requires-clause-none
 load-requires-clause-none g c key t =
     let meaning = meaning_in c.args.old.now in
-    c.bring_members.ensures.accesses key t ∙ count-none c.bring_members.new.self.names meaning key t (none-of meaning.rules c.requires.rules)
+    c.load_members.ensures.accesses key t ∙ count-none c.load_members.new.self.names meaning key t (none-of meaning.rules c.requires.rules)
 
 pub load-requires-clause-new_symbols : goal.load-requires-clause-new_symbols
 load-requires-clause-new_symbols g c = record { numbers = c.in_ok-next.ensures.symbols.numbers; count = c.in_ok-next.ensures.symbols.count }
 
 pub load-requires-clause-new_members : goal.load-requires-clause-new_members
 load-requires-clause-new_members g c =
-    members-counted c.bring_members.new.self.names c.args.new.now c.resolved_is_sound.ensures c.resolved_sets_are_in_order.ensures.the_same (member_rows.count_now c.bring_members.new.self.rows) c.in_ok-next.ensures.members
+    members-counted c.load_members.new.self.names c.args.new.now c.resolved_is_sound.ensures c.resolved_sets_are_in_order.ensures.the_same (member_rows.count_now c.load_members.new.self.rows) c.in_ok-next.ensures.members
 
 pub returns-clause-now : goal.returns-clause-now
 returns-clause-now g c = record {
@@ -35,7 +36,7 @@ returns-clause-now g c = record {
 }
 
 pub returns-clause-named : goal.returns-clause-named
-returns-clause-named g c = (c.bring_members.ensures.before.counted.symbols, c.bring_members.ensures.before.counted.numbers)
+returns-clause-named g c = c.load_members.ensures.named
 
 pub returns-clause-evaluations : goal.returns-clause-evaluations
 returns-clause-evaluations g c =
@@ -43,19 +44,19 @@ returns-clause-evaluations g c =
 
 pub returns-clause-adjustments : goal.returns-clause-adjustments
 returns-clause-adjustments g c changes are =
-    let names = c.bring_members.new.self.names in
+    let names = c.load_members.new.self.names in
     let old = c.args.old.now in
     let new = c.args.new.now in
-    let was = access_tables.count_now c.bring_members.new.self.tables in
+    let was = access_tables.count_now c.load_members.new.self.tables in
     let is = access_tables.count_now c.load.new.lines in
-    let old_rows = member_rows.count_before c.bring_members.new.self.rows in
-    let rows = member_rows.count_now c.bring_members.new.self.rows in
-    let between = adjustments_in c.bring_members.new.meter in
+    let old_rows : ℕ → ℕ → ℕ = (λ a t. count_by (gives names (meaning_in old) a t) (sets_in old)) in
+    let rows = member_rows.count_now c.load_members.new.self.rows in
+    let between = adjustments_in c.load_members.new.meter in
     let after = adjustments_in c.load.new.meter in
-    let before = c.bring_members.ensures.before.counted in
-    subst (λ n. AdjustsFew (meaning_in old) (meaning_in new) changes n after) c.bring_members.ensures.adjustments
+    let named = c.load_members.ensures.named in
+    subst (λ n. AdjustsFew (meaning_in old) (meaning_in new) changes n after) c.load_members.ensures.adjustments
     (adjusts-few names (meaning_in old) (meaning_in new) was is (found names)
-    (tells names old new old_rows rows was is (record { symbols = before.symbols; numbers = before.numbers; are_members = before.are_members; are_counts = c.bring_members.ensures.accesses })
+    (tells names old new old_rows rows was is (record { symbols = named.0; numbers = named.1; are_members = λ a t. refl; are_counts = c.load_members.ensures.accesses })
     (record { symbols = c.in_ok-next.next.numbering.symbols; numbers = c.in_ok-next.ensures.symbols.numbers; are_members = c.in_ok-next.ensures.members; are_counts = c.in_ok-load.ensures.now })
     c.resolved_names_are_kept.ensures.types c.resolved_names_are_kept-2.ensures.types
     (subst (λ l. list_all (is_rule_below (length old.names.items)) l ≡ true) c.rules.ensures.rules c.rules.ensures.within)
@@ -63,7 +64,7 @@ returns-clause-adjustments g c changes are =
     changes are between after (c.in_ok-load.ensures.at_most (meaning_in old) c.requires.rules) c.in_ok-load.ensures.at_least)
 
 pub returns-in_err-next-clause-bounded : goal.returns-in_err-next-clause-bounded
-returns-in_err-next-clause-bounded g c key t = let was = c.bring_members.ensures.accesses key t in omega (arith, was)
+returns-in_err-next-clause-bounded g c key t = let was = c.load_members.ensures.accesses key t in omega (arith, was)
 
 pub returns-in_err-load-clause-bounded : goal.returns-in_err-load-clause-bounded
 returns-in_err-load-clause-bounded g c key t = let is = c.load.ensures.bounded key t in omega (arith, is)

@@ -6,7 +6,7 @@ use Rattle.cil_counters.proofs.counters.Counters.violations_after.Goals as goal
 pub of-requires : goal.of-requires
 of-requires g c =
     let r = rc_value c.args.new.now in
-    let names = c.bring_members.new.self.names in
+    let names = c.load_members.new.self.names in
     record {
       names = names;
       distinct = c.len.ensures.distinct;
@@ -14,6 +14,6 @@ of-requires g c =
       numbers = subst (λ x. AreNumbersOf names c.in_ok-next.next.numbering.symbols x.names.items) c.deref-3.ensures c.in_ok-next.ensures.symbols.numbers;
       are =
           members-counted names r (subst (λ x. HasSoundSets (meaning_in x)) c.deref.ensures c.resolved_is_sound.ensures)
-          (subst (λ x. AreTheSame (meaning_in x).sets (sets_in x)) c.deref-2.ensures c.resolved_sets_are_in_order.ensures.the_same) (member_rows.count_now c.bring_members.new.self.rows)
-          (subst (λ x. AreCounts names x (member_rows.count_now c.bring_members.new.self.rows)) c.deref-3.ensures c.in_ok-next.ensures.members);
+          (subst (λ x. AreTheSame (meaning_in x).sets (sets_in x)) c.deref-2.ensures c.resolved_sets_are_in_order.ensures.the_same) (member_rows.count_now c.load_members.new.self.rows)
+          (subst (λ x. AreCounts names x (member_rows.count_now c.load_members.new.self.rows)) c.deref-3.ensures c.in_ok-next.ensures.members);
     }

@@ -1,0 +1,50 @@
+use Rattle.cil_counters.proofs.Common.{◌∙◌, ap, subst, sym, AreCounts, AreNumbersOf, meaning_in, count_named, AreSymbolsOf}
+use Rattle.cil_member_rows.specs.Rows as member_rows
+use Rattle.cil_keyed_lines.specs.Keyed as access_tables
+use Rattle.cil_counters.proofs.counters.Counters.load_members.Goals as goal
+
+pub returns-then-sets_len-gt0-clause-named : goal.returns-then-sets_len-gt0-clause-named
+returns-then-sets_len-gt0-clause-named g c = (c.bring_members.ensures.before.counted.symbols, c.bring_members.ensures.before.counted.numbers)
+
+pub returns-in_err-next-clause-named : goal.returns-in_err-next-clause-named
+returns-in_err-next-clause-named g c = (c.next_symbols.ensures.now.counted.symbols, c.next_symbols.ensures.now.counted.numbers)
+
+pub returns-in_err-next-clause-accesses : goal.returns-in_err-next-clause-accesses
+returns-in_err-next-clause-accesses g c = c.next_symbols.ensures.now.counted.are_counts
+
+pub returns-in_err-next-clause-steps : goal.returns-in_err-next-clause-steps
+returns-in_err-next-clause-steps g c = ap (λ tables. access_tables.steps_in tables) c.next_symbols.ensures.tables
+
+pub returns-in_err-count_members-clause-named : goal.returns-in_err-count_members-clause-named
+returns-in_err-count_members-clause-named g c =
+    let was = c.next_symbols.ensures.now.counted in
+    (was.symbols, subst (λ l. AreNumbersOf l was.symbols c.args.old.now.names.items) (sym c.count_members.ensures.names) was.numbers)
+
+pub returns-in_err-count_members-clause-accesses : goal.returns-in_err-count_members-clause-accesses
+returns-in_err-count_members-clause-accesses g c key t =
+    ap (λ tables. access_tables.count_now tables key t) c.count_members.ensures.tables
+    ∙ c.next_symbols.ensures.now.counted.are_counts key t
+    ∙ ap (λ l. count_named l (meaning_in c.args.old.now) key t) (sym c.count_members.ensures.names)
+
+pub returns-in_err-count_members-clause-steps : goal.returns-in_err-count_members-clause-steps
+returns-in_err-count_members-clause-steps g c = ap (λ tables. access_tables.steps_in tables) (c.count_members.ensures.tables ∙ c.next_symbols.ensures.tables)
+
+pub returns-clause-named : goal.returns-clause-named
+returns-clause-named g c =
+    let was = c.next_symbols.ensures.now.counted in
+    (was.symbols, subst (λ l. AreNumbersOf l was.symbols c.args.old.now.names.items) (sym c.count_members.ensures.names) was.numbers)
+
+pub returns-clause-accesses : goal.returns-clause-accesses
+returns-clause-accesses g c key t =
+    ap (λ tables. access_tables.count_now tables key t) c.count_members.ensures.tables
+    ∙ c.next_symbols.ensures.now.counted.are_counts key t
+    ∙ ap (λ l. count_named l (meaning_in c.args.old.now) key t) (sym c.count_members.ensures.names)
+
+pub returns-clause-steps : goal.returns-clause-steps
+returns-clause-steps g c = ap (λ tables. access_tables.steps_in tables) (c.count_members.ensures.tables ∙ c.next_symbols.ensures.tables)
+
+pub returns-clause-members : goal.returns-clause-members
+returns-clause-members g c = subst (λ l. AreCounts l c.args.new.now (member_rows.count_now c.count_members.new.self.rows)) (sym c.count_members.ensures.names) c.in_ok-count_members.ensures.now
+
+pub returns-clause-symbols : goal.returns-clause-symbols
+returns-clause-symbols g c = subst (λ l. AreSymbolsOf l c.args.new.now c.in_ok-next.next) (sym c.count_members.ensures.names) c.in_ok-next.ensures.symbols
