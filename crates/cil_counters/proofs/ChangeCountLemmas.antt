@@ -1,5 +1,5 @@
 -- How many accesses came to a table, told by the counters.
-use Rattle.cil_counters.proofs.Common.{◌≡◌, ◌≢◌, ◌⊎◌, ℕ, ◌<◌, true, not, List, [], ◌∷◌, length, map, get_or, nat_lt, Some, Less, Equal, Greater, true≢false, refl, sym, ap, subst, ◌∙◌, inl, inr, arith, IsTrue, AllByRecursion, AllPairs, IsStrictlySortedBy, ltb-true, length-map, slice_get-get_or, is_in_table, atom_cmp, AreAtoms, AreChanges, Atom, AnyByRecursion, all_weaker, contains_from, contains_to, rule_kind_of, RuleKind, Allow, AuditAllow, DontAudit, NeverAllow, SymbolKey, meaning_in, Resolved, atom_of, is_named, name_at, AreApart, IsCounted}
+use Rattle.cil_counters.proofs.Common.{◌≡◌, ◌≢◌, ◌⊎◌, ℕ, ◌<◌, true, not, List, [], ◌∷◌, length, map, nat_lt, Some, Less, Equal, Greater, true≢false, refl, sym, ap, subst, ◌∙◌, inl, inr, arith, IsTrue, AllByRecursion, AllPairs, IsStrictlySortedBy, ltb-true, length-map, slice_get-get_or, is_in_table, atom_cmp, AreAtoms, AreChanges, Atom, AnyByRecursion, all_weaker, contains_from, contains_to, rule_kind_of, RuleKind, Allow, AuditAllow, DontAudit, NeverAllow, SymbolKey, meaning_in, Resolved, atom_of, is_named, name_at, AreApart, IsCounted}
 use Rattle.std.proofs.Common.{Contains}
 use Rattle.std.specs.Ordering.{ordering_reverse}
 use Rattle.std.specs.declared.cmp.Ordering.{Ordering}

@@ -1,5 +1,5 @@
 -- Rows of bits in which one row, or a row more, stands.
-use Rattle.cil_member_rows.proofs.Common.{◌≡◌, ◌≢◌, ℕ, ◌<◌, ◌≤◌, List, [], length, get_or, set, ap, arith, inl, inr, cases_eq, row_of, bits_at, words_of}
+use Rattle.cil_member_rows.proofs.Common.{◌≡◌, ◌≢◌, ℕ, ◌<◌, ◌≤◌, List, [], length, set, ap, arith, inl, inr, cases_eq, row_of, bits_at, words_of}
 use Rattle.std.proofs.lemmas.Grind.{get_or-set_at}
 use Rattle.std.proofs.lemmas.List.{get_or-set_other}
 use Rattle.std.proofs.Math.ListN.{get_or-eq_default}

@@ -3,8 +3,8 @@ use Rattle.cil_member_rows.specs.Rows as member_rows
 use Rattle.cil_keyed_lines.specs.Keyed as access_tables
 use Rattle.cil_counters.proofs.counters.Counters.load_members.Goals as goal
 
-pub returns-then-clause-named : goal.returns-then-clause-named
-returns-then-clause-named g c = (c.bring_members.ensures.before.counted.symbols, c.bring_members.ensures.before.counted.numbers)
+pub returns-then-sets_len-gt0-clause-named : goal.returns-then-sets_len-gt0-clause-named
+returns-then-sets_len-gt0-clause-named g c = (c.bring_members.ensures.before.counted.symbols, c.bring_members.ensures.before.counted.numbers)
 
 pub returns-in_err-next-clause-named : goal.returns-in_err-next-clause-named
 returns-in_err-next-clause-named g c = (c.next_symbols.ensures.now.counted.symbols, c.next_symbols.ensures.now.counted.numbers)
