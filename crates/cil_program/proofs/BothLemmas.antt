@@ -29,9 +29,9 @@ and-status (Ok _) result status is = subst (λ r. IfOk r (λ s. s ≡ status)) (
 and-status (Err _) result status is = subst (λ r. IfOk r (λ s. s ≡ status)) (sym is) tt
 
 -- what is said of a result where a text was written before it
-pub and-ok : {E X P : Type 0} {Q : X → Type 0} (x : X) (written : Result (Unit {0}) E) (result : Result X E) → result ≡ result_and written (Ok x) → OnOk written P → (P → Q x) → IfOk result Q
-and-ok {Q = Q} x (Ok _) result is holds gives = subst (λ r. IfOk r Q) (sym is) (gives holds)
-and-ok {Q = Q} x (Err _) result is holds gives = subst (λ r. IfOk r Q) (sym is) tt
+pub and-ok : {E X P : Type 0} (Q : X → Type 0) (x : X) (written : Result (Unit {0}) E) (result : Result X E) → result ≡ result_and written (Ok x) → OnOk written P → (P → Q x) → IfOk result Q
+and-ok Q x (Ok _) result is holds gives = subst (λ r. IfOk r Q) (sym is) (gives holds)
+and-ok Q x (Err _) result is holds gives = subst (λ r. IfOk r Q) (sym is) tt
 
 -- or the sink failed in the text
 pub and-err : {E X P Q : Type 0} (x : X) (written : Result (Unit {0}) E) (result : Result X E) → result ≡ result_and written (Ok x) → OnErr written P → (P → Q) → OnErr result Q

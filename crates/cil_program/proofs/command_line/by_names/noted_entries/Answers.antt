@@ -7,13 +7,13 @@ use Rattle.cil_program.specs.declared.command_line.compile.Report.{Report}
 use Rattle.cil_program.proofs.command_line.by_names.noted_entries.Goals as goal
 
 pub returns-in-Err-clause-some : goal.returns-in-Err-clause-some
-returns-in-Err-clause-some g c = and-ok None c.write_not_projected.result c.and.result c.and.ensures c.write_not_projected.ensures.2.ok (λ gains. tt)
+returns-in-Err-clause-some g c = and-ok _ None c.write_not_projected.result c.and.result c.and.ensures c.write_not_projected.ensures.2.ok (λ gains. tt)
 
 pub returns-in-Err-clause-none : goal.returns-in-Err-clause-none
 returns-in-Err-clause-none g c =
     let told = c.write_not_projected.ensures in
     let conditionals = conditionals_in c.args.request.conditionals.now in
-    and-ok None c.write_not_projected.result c.and.result c.and.ensures told.2.ok
+    and-ok _ None c.write_not_projected.result c.and.result c.and.ensures told.2.ok
     (λ gains content report read. (
       refusal_text true told.0 ++ hint_by c.in-Err.why,
       gains,
@@ -39,11 +39,11 @@ pub returns-in-Err-clause-counted : goal.returns-in-Err-clause-counted
 returns-in-Err-clause-counted g c = c.write_not_projected.ensures.2.counted
 
 pub returns-in_default-clause-some : goal.returns-in_default-clause-some
-returns-in_default-clause-some g c = and-ok None c.write_no_memory.result c.and-in_default.result c.and-in_default.ensures c.write_no_memory.ensures.ok (λ gains. tt)
+returns-in_default-clause-some g c = and-ok _ None c.write_no_memory.result c.and-in_default.result c.and-in_default.ensures c.write_no_memory.ensures.ok (λ gains. tt)
 
 pub returns-in_default-clause-none : goal.returns-in_default-clause-none
 returns-in_default-clause-none g c =
-    and-ok None c.write_no_memory.result c.and-in_default.result c.and-in_default.ensures c.write_no_memory.ensures.ok (λ gains content report read. (refusal_text true for_memory, gains, none_held refl refl refl))
+    and-ok _ None c.write_no_memory.result c.and-in_default.result c.and-in_default.ensures c.write_no_memory.ensures.ok (λ gains content report read. (refusal_text true for_memory, gains, none_held refl refl refl))
 
 pub returns-in_default-clause-cut : goal.returns-in_default-clause-cut
 returns-in_default-clause-cut g c =
