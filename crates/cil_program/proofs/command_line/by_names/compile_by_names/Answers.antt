@@ -1,4 +1,4 @@
-use Rattle.cil_program.proofs.Common.{◌≡◌, ◌++◌, None, [], All, Ok, ap, arith, gains-none, map, refl, subst, sym, true, AllZip, AnswersByNames, Compiles, IsReadOf, Writes, answers, are_compiled, conditionals_in, note_line, owned_entry}
+use Rattle.cil_program.proofs.Common.{◌≡◌, None, [], All, Ok, arith, gains-none, map, refl, subst, sym, true, AnswersByNames, Compiles, IsReadOf, Writes, answers, are_compiled, conditionals_in, note_line, owned_entry}
 use Rattle.cil_program.proofs.BothLemmas.{both-after, both-failed}
 use Rattle.cil_program.proofs.ByNamesLemmas.{read-texts}
 use Rattle.cil_program.specs.ByNames.{AreEntriesFor, AreProjected}

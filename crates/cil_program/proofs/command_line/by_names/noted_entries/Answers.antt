@@ -1,9 +1,8 @@
-use Rattle.cil_program.proofs.Common.{◌++◌, [], All, Content, IsReadOf, List, None, map, refl, subst, true, ℕ, AnswersByNames, answers, are_compiled, conditionals_in, for_memory, front-longer, hint_by, lacks_memory, none_held, note_line, owned_entry, refusal_text}
+use Rattle.cil_program.proofs.Common.{◌++◌, None, map, refl, subst, true, answers, are_compiled, conditionals_in, for_memory, front-longer, hint_by, lacks_memory, none_held, note_line, owned_entry, refusal_text}
 use Rattle.cil_program.proofs.BothLemmas.{and-err, and-ok, err-anyway}
 use Rattle.cil_program.proofs.ByNamesLemmas.{entries-for, read-texts, refused-by}
 use Rattle.cil_program.specs.ByNames.{AreEntriesFor}
 use Rattle.cil_program.specs.Wanted.{compiled}
-use Rattle.cil_program.specs.declared.command_line.compile.Report.{Report}
 use Rattle.cil_program.proofs.command_line.by_names.noted_entries.Goals as goal
 
 pub returns-in-Err-clause-some : goal.returns-in-Err-clause-some

@@ -1,6 +1,6 @@
 use Rattle.std.proofs.Common.{append_assoc}
 use Rattle.std.specs.Vec.Iter.{into_iter_items}
-use Rattle.cil_program.proofs.Common.{◌≡◌, ◌∙◌, [], ◌∷◌, ◌++◌, List, ap, append-nil, arith, length, refl, sym, subst, AllZip, owned_entry, IsEntryFor}
+use Rattle.cil_program.proofs.Common.{◌≡◌, ◌∙◌, [], ◌∷◌, List, ap, append-nil, arith, length, refl, sym, subst, AllZip, owned_entry, IsEntryFor}
 use Rattle.cil_program.proofs.ZipLemmas.{all_zip-more}
 use Rattle.cil_program.proofs.command_line.files.entries_of.Goals as goal
 

@@ -1,4 +1,4 @@
-use Rattle.cil_program.proofs.Common.{◌∙◌, ℕ, List, [], ◌∷◌, All, map, ap, false, refl, sym, subst, AllZip, Entry, owned_entry, Compiles, Content, IsEntryAt, IsEntryFor, IsReadOf, compiles, is_unreadable, is_not_held, unreadable_line}
+use Rattle.cil_program.proofs.Common.{ℕ, List, [], ◌∷◌, All, map, ap, false, refl, subst, AllZip, Entry, owned_entry, Compiles, Content, IsEntryAt, IsEntryFor, IsReadOf, compiles, is_unreadable, is_not_held, unreadable_line}
 use Rattle.std.proofs.lemmas.List.Elements.{All-head, All-tail}
 use Rattle.cil_specs.proofs.NamesLemmas.{contains-map}
 use Rattle.cil_program.proofs.BothLemmas.{both-told, both-wider}
