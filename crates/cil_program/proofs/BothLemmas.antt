@@ -1,5 +1,5 @@
 -- What is written on two sinks, and the exit status.
-use Rattle.cil_program.proofs.Common.{◌≡◌, ◌∙◌, ◌++◌, ◌≤◌, ◌<◌, ◌⊎◌, inl, inr, ℕ, List, [], Option, None, Result, Ok, Err, IfOk, IsErr, OnErr, refl, sym, subst, arith, Gains, GainsFront, HasFailed, Writes, WritesBoth, Tells, failed-later, front-longer, gains-both, gains-none, gains-then_front}
+use Rattle.cil_program.proofs.Common.{◌≡◌, ◌∙◌, ◌++◌, ◌≤◌, ◌<◌, ◌⊎◌, inl, inr, ℕ, List, [], Option, None, Result, Ok, Err, IfOk, IsErr, OnErr, OnOk, refl, sym, subst, arith, Gains, GainsFront, HasFailed, Writes, WritesBoth, Tells, failed-later, front-longer, gains-both, gains-none, gains-then_front}
 use Rattle.std.specs.Result.{result_and}
 use Rattle.std.proofs.Math.Nat.{eq-or-lt_of_le}
 use Rattle.cil_stream.specs.declared.sink.SinkFault.{SinkFault}
@@ -27,6 +27,21 @@ either f h (inr q) = inr (h q)
 pub and-status : {E : Type 0} (written : Result (Unit {0}) E) (result : Result ℕ E) (status : ℕ) → result ≡ result_and written (Ok status) → IfOk result (λ s. s ≡ status)
 and-status (Ok _) result status is = subst (λ r. IfOk r (λ s. s ≡ status)) (sym is) refl
 and-status (Err _) result status is = subst (λ r. IfOk r (λ s. s ≡ status)) (sym is) tt
+
+-- what is said of a result where a text was written before it
+pub and-ok : {E X P : Type 0} (Q : X → Type 0) (x : X) (written : Result (Unit {0}) E) (result : Result X E) → result ≡ result_and written (Ok x) → OnOk written P → (P → Q x) → IfOk result Q
+and-ok Q x (Ok _) result is holds gives = subst (λ r. IfOk r Q) (sym is) (gives holds)
+and-ok Q x (Err _) result is holds gives = subst (λ r. IfOk r Q) (sym is) tt
+
+-- or the sink failed in the text
+pub and-err : {E X P Q : Type 0} (x : X) (written : Result (Unit {0}) E) (result : Result X E) → result ≡ result_and written (Ok x) → OnErr written P → (P → Q) → OnErr result Q
+and-err {Q = Q} x (Ok _) result is holds gives = subst (λ r. OnErr r Q) (sym is) tt
+and-err {Q = Q} x (Err _) result is holds gives = subst (λ r. OnErr r Q) (sym is) (gives holds)
+
+-- what is known anyway is known behind a failure
+pub err-anyway : {E X P : Type 0} (result : Result X E) → P → OnErr result P
+err-anyway (Ok _) holds = tt
+err-anyway (Err _) holds = holds
 
 module _ {W E : Type 0} {taken : W → Option (List ℕ)} {failures : W → ℕ} {err_taken : E → Option (List ℕ)} {err_failures : E → ℕ} where
   -- a text was told, and nothing printed
@@ -79,6 +94,14 @@ module _ {W E : Type 0} {taken : W → Option (List ℕ)} {failures : W → ℕ}
     out_counted = omega arith;
     err_counted = writes.counted;
   }
+
+  -- or in what was told, of which a beginning was written
+  pub both-failed : {out : W} {err new : E} {IsMeant : List ℕ → List ℕ → ℕ → Type 0} (told : List ℕ) (status : ℕ) (result : Result ℕ SinkFault) → IsErr result
+      → GainsFront (err_taken err) (err_taken new) told → HasFailed (err_failures err) (err_failures new) → err_failures err ≤ err_failures new → IsMeant [] told status
+      → WritesBoth taken failures out out err_taken err_failures err new IsMeant result
+  both-failed told status (Ok _) is front failed counted meant = absurd (cc)
+  both-failed {out = out} told status (Err _) is front failed counted meant =
+      record { ok = tt; cut = ([], told, status, front-none (taken out), front, meant); failed = inr failed; out_counted = omega arith; err_counted = counted }
 
   -- what is meant in another way
   pub both-wider : {out new_out : W} {err new_err : E} {P Q : List ℕ → List ℕ → ℕ → Type 0} (result : Result ℕ SinkFault) → ((printed told : List ℕ) (status : ℕ) → P printed told status → Q printed told status)

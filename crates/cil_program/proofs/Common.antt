@@ -13,7 +13,7 @@ pub use Rattle.cil_session.specs.declared.outcome.SessionFault.TheVariants.{Read
 pub use Rattle.cil_session.specs.declared.outcome.Status.{Status}
 pub use Rattle.cil_specs.specs.Report.{row_line}
 pub use Rattle.cil_store.specs.Edits.{refusal_of}
-pub use Rattle.cil_store.specs.Stored.{entry_of}
+pub use Rattle.cil_store.specs.Stored.{owned_entry}
 pub use Rattle.cil_store_specs.specs.Next.{at_place, by_store, for_memory, install_of}
 pub use Rattle.cil_store_specs.specs.Script.{refusal_line}
 pub use Rattle.cil_store_specs.specs.Store.{Entry, Store, empty}

@@ -1,5 +1,5 @@
 -- The names from elsewhere that this crate's contracts cite most, passed on from one place.
-pub use Rattle.cil_program.specs.CommandLine.{AnswersSession, AsksSession, Compiles, CompilesFiles, IsTold, LacksMemory, Tells, WritesBoth, unreadable_line, untold}
+pub use Rattle.cil_program.specs.CommandLine.{AnswersSession, AsksSession, Compiles, CompilesFiles, Content, IsReadOf, IsTold, LacksMemory, Tells, WritesBoth, unreadable_line, untold}
 pub use Rattle.cil_program.specs.ByNames.{AnswersByNames, AnswersFor}
 pub use Rattle.cil_program.specs.Conditionals.{conditionals_in, foreign_in, misuse_text}
 pub use Rattle.cil_program.specs.Given.{AnswersGiven}
@@ -8,7 +8,7 @@ pub use Rattle.cil_program.specs.Targets.{IsStored}
 pub use Rattle.cil_program.specs.Wanted.{compiled, in_folder, wanted_in}
 pub use Rattle.cil_session.specs.Reply.{Writes}
 pub use Rattle.cil_store.specs.Edits.{refusal_of}
-pub use Rattle.cil_store.specs.Stored.{entry_of}
+pub use Rattle.cil_store.specs.Stored.{owned_entry}
 pub use Rattle.cil_store_specs.specs.Next.{IsMeaningOf, Of, accepts, at_place, by_store, for_memory}
 pub use Rattle.cil_store_specs.specs.Script.{refusal_line}
 pub use Rattle.cil_store_specs.specs.Store.{Store}

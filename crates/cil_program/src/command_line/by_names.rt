@@ -3,6 +3,7 @@
 ghost use Rattle.std.specs.Prelude.{◌≡◌, ◌≤◌, ℕ, List, [], All, map, IfNone, IfOk, IfSome, OnErr};
 ghost use Rattle.cil_projection.specs.Statements.{Counts};
 ghost use Rattle.cil_program.specs.ByNames.{AreEntriesFor, AreProjected, note_line};
+ghost use Rattle.cil_program.specs.declared.command_line.wanted.Wanted.TheVariants.{Compiled};
 ghost use Rattle.cil_program.specs.Common.{Content, Gains, GainsFront, HasFailed, IsReadOf, owned_entry, AnswersByNames, AnswersFor, AnswersGiven, IsStored, Tells, WritesBoth, compiled, conditionals_in, in_folder, wanted_in};
 
 use crate::command_line::compile::{Asked, Report, compile_entries};
@@ -130,7 +131,7 @@ fn answer_projected<F: TextFiles, W: Sink, E: Sink>(
     out: &mut W,
     err: &mut E,
 ) -> Result<u8, SinkFault>
-    requires { (report : Report) → request.old.wanted ≡ Compiled report → ⊥ }
+    requires { (report : Report) → request.wanted ≡ Compiled report → ⊥ }
     ensures { WritesBoth W.taken W.failures out.old out.new E.taken E.failures err.old err.new
         (AnswersFor projected.now (wanted_in request.entry.wanted)) result }
 {

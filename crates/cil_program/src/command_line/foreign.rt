@@ -56,7 +56,7 @@ impl<'m, T: Drop> From<AllocFailed<T>> for NotProjected<'m> {
 const GREATEST_TEXT: usize = 16_777_216;
 
 /// The text of a file, if it isn't longer than a store takes.
-fn text_of<'m>(file: &'m ReadFile<'m, Global>) -> Result<&'m [u8], NotProjected<'m>>
+fn text_of<'m, 'p: 'm>(file: &'m ReadFile<'p, Global>) -> Result<&'m [u8], NotProjected<'m>>
     ensures ok { IfOk result (λ text. text.now ≡ file.entry.now.text.items) }
     ensures short { IfOk result (λ text. length text.now ≤ 16777216) }
     ensures err { IfErr result (AreHindered ((file.entry.now.path.now, file.entry.now.text.items) ∷ [])) }
@@ -80,10 +80,10 @@ fn set_all<'m>(booleans: &mut Booleans<'m>, settings: &'m [Setting<'m>]) -> Resu
 }
 
 /// Collects the values that a file declares.
-fn collect_file<'m>(
+fn collect_file<'m, 'p: 'm>(
     alloc: Global,
     booleans: &mut Booleans<'m>,
-    file: &'m ReadFile<'m, Global>,
+    file: &'m ReadFile<'p, Global>,
 ) -> Result<(), NotProjected<'m>>
     ensures ok { OnOk result (Collects file.entry.now.text.items booleans.old booleans.new) }
     ensures err { IfErr result (AreHindered ((file.entry.now.path.now, file.entry.now.text.items) ∷ [])) }
@@ -100,10 +100,10 @@ fn collect_file<'m>(
 }
 
 /// Collects the values that files declare.
-fn collect_all<'m>(
+fn collect_all<'m, 'p: 'm>(
     alloc: Global,
     booleans: &mut Booleans<'m>,
-    files: &'m [ReadFile<'m, Global>],
+    files: &'m [ReadFile<'p, Global>],
 ) -> Result<(), NotProjected<'m>>
     ensures ok { OnOk result (InTurn Collects (map (λ f. f.text.items) files.entry.now)
         booleans.old booleans.new) }
@@ -117,11 +117,11 @@ fn collect_all<'m>(
 }
 
 /// What is known of booleans by what is asked and by what files declare.
-fn booleans_of<'m>(
+fn booleans_of<'m, 'p: 'm>(
     alloc: Global,
     seed: Seed,
     conditionals: &'m Conditionals<'m>,
-    files: &'m [ReadFile<'m, Global>],
+    files: &'m [ReadFile<'p, Global>],
 ) -> Result<Booleans<'m>, NotProjected<'m>>
     ensures ok { IfOk result (IsKnown (conditionals_in conditionals.entry.now)
         (map (λ f. f.text.items) files.entry.now)) }
@@ -138,9 +138,9 @@ fn booleans_of<'m>(
 }
 
 /// The projection of a file's text, and more behind it.
-fn project_file<'m>(
+fn project_file<'m, 'p: 'm>(
     alloc: Global,
-    file: &'m ReadFile<'m, Global>,
+    file: &'m ReadFile<'p, Global>,
     booleans: &Booleans<'m>,
     more: &[u8],
     tally: &mut Tally<'m>,

@@ -2,6 +2,7 @@ use Rattle.cil_program.proofs.Common.{◌∙◌, ◌++◌, [], All, map, ap, ap�
 use Rattle.cil_specs.proofs.NamesLemmas.{contains-map}
 use Rattle.cil_program.proofs.BothLemmas.{both-told, both-wider}
 use Rattle.cil_program.proofs.ByNamesLemmas.{read-texts, refused-by}
+use Rattle.cil_program.specs.declared.command_line.wanted.Wanted.TheVariants.{Compiled}
 use Rattle.cil_program.proofs.command_line.by_names.answer_by_names.Goals as goal
 
 pub returns-in-Err-Memory : goal.returns-in-Err-Memory
@@ -13,6 +14,18 @@ returns-in-Err-Unreadable g c =
     let unread = found.ensures.err found.path found.reason found.field-0-is in
     let given = contains-map (λ path. path.now) c.args.request.paths.now found.path unread.0 in
     both-told 3 _ c.explain.ensures c.and-in-Err-Unreadable.ensures (one_unreadable found.path.now found.reason given unread.1 refl (ap₂ (λ p r. unreadable_text p.now r) found.path-is found.reason-is) refl)
+
+pub compile_by_names-requires : goal.compile_by_names-requires
+compile_by_names-requires g c = c.in-Ok.ensures.texts
+
+pub returns-in-Compiled : goal.returns-in-Compiled
+returns-in-Compiled g c =
+    let content = g.F.TextFiles.content c.args.from.now in
+    let conditionals = conditionals_in c.args.request.conditionals.now in
+    both-wider c.compile_by_names.result
+    (λ printed told status made. subst (λ w. AnswersByNames content (map (λ path. path.now) c.args.request.paths.now) conditionals w printed told status) (sym (ap wanted_in c.in-Compiled.is))
+    (subst (λ ps. AnswersByNames content ps conditionals (wanted_in (Compiled c.in-Compiled.report)) printed told status) c.in-Ok.ensures.ok made))
+    c.compile_by_names.ensures
 
 pub returns-in-Ok-projected : goal.returns-in-Ok-projected
 returns-in-Ok-projected g c =

@@ -7,9 +7,6 @@ use Rattle.cil_program.proofs.command_line.by_names.answer_projected.Goals as go
 as_wanted : {paths projected : List (List ℕ)} {counts : Counts} {v w : Wanted} → w ≡ v → (printed told : List ℕ) (status : ℕ) → AnswersProjected paths projected counts v printed told status → AnswersProjected paths projected counts w printed told status
 as_wanted {paths = paths} {projected = projected} {counts = counts} is printed told status = subst (λ w. AnswersProjected paths projected counts w printed told status) (sym is)
 
-pub returns-in-Compiled : goal.returns-in-Compiled
-returns-in-Compiled g c = both-wider c.compile_projected.result (as_wanted (ap wanted_in c.in-Compiled.is)) c.compile_projected.ensures
-
 pub returns-in_err-write_note-in-Projections : goal.returns-in_err-write_note-in-Projections
 returns-in_err-write_note-in-Projections g c =
     both-cut _ [] 0 c.from_residual.result c.from_residual.ensures.0 c.in_err-write_note-in-Projections.ensures (are_printed (ap wanted_in c.in-Projections.is) refl (append-nil _) refl)

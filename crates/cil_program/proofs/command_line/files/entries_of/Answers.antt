@@ -1,11 +1,31 @@
-use Rattle.cil_program.proofs.Common.{◌∙◌, [], ◌∷◌, ◌++◌, take, ap, sym, subst, AllZip, take_more, entry_of, IsEntryFor}
+use Rattle.std.proofs.Common.{append_assoc}
+use Rattle.std.specs.Vec.Iter.{into_iter_items}
+use Rattle.cil_program.proofs.Common.{◌≡◌, ◌∙◌, [], ◌∷◌, List, ap, append-nil, arith, length, refl, sym, subst, AllZip, owned_entry, IsEntryFor}
 use Rattle.cil_program.proofs.ZipLemmas.{all_zip-more}
 use Rattle.cil_program.proofs.command_line.files.entries_of.Goals as goal
 
+nothing_left : {X : Type 0} (l : List X) → length l ≡ 0 → l ≡ []
+nothing_left [] h = refl
+nothing_left (x ∷ xs) h = absurd (omega arith)
+
 pub loop-file-preserved : goal.loop-file-preserved
 loop-file-preserved g c =
-    let files = c.args.files.now in
-    let i = c.loop-file.file-index in
-    let taken = ap (λ file. take i files ++ file ∷ []) c.file-item.is ∙ sym (take_more files i _ c.loop-file-test.true) in
-    rw c.in_ok-push.ensures.items (subst (λ l. AllZip (λ file entry. IsEntryFor file.path.now file.text.items (entry_of entry)) l (c.loop-file.entries.items ++ c.as_entry.result ∷ [])) taken
-    (all_zip-more (λ file entry. IsEntryFor file.path.now file.text.items (entry_of entry)) (take i files) c.loop-file.entries.items c.file-item.result c.as_entry.result c.loop-file.invariant c.as_entry.ensures))
+    let at = c.loop-file in
+    let x = c.in-Some.file in
+    let steps : into_iter_items at.file-iterator ≡ x ∷ into_iter_items c.next.new.self = c.in-Some.ensures.steps.0 in (
+      append_assoc at.yielded (x ∷ []) _ ∙ rw (← steps) at.invariant.0,
+      rw c.in_ok-push.ensures.items
+          (all_zip-more (λ file entry. IsEntryFor file.path.now file.text.items (owned_entry entry)) at.yielded at.entries.items x c.into_entry.result at.invariant.1 c.into_entry.ensures),
+      let was = at.invariant.2 in
+          let gone = c.in-Some.ensures.steps.1 in
+          let short = ap length steps in
+          omega arith,
+    )
+
+pub returns : goal.returns
+returns g c =
+    let at = c.loop-file in
+    let none = c.in-None.ensures.steps in
+    let nothing : into_iter_items at.file-iterator ≡ [] = nothing_left _ (sym at.invariant.2 ∙ none.0) in
+    let all = sym (append-nil at.yielded) ∙ rw nothing at at.invariant.0 ∙ c.into_iter-file-iterator.ensures.into_iter_gives.0 in
+    subst (λ l. AllZip (λ file entry. IsEntryFor file.path.now file.text.items (owned_entry entry)) l at.entries.items) all at.invariant.1

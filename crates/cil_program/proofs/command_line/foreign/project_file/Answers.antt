@@ -1,4 +1,4 @@
-use Rattle.std.proofs.Common.{subst}
+use Rattle.std.proofs.Common.{◌∙◌, subst}
 use Rattle.cil_projection.specs.Conditions.{settings_of}
 use Rattle.cil_projection.specs.Statements.{Projects}
 use Rattle.cil_program.proofs.command_line.foreign.project_file.Goals as goal
@@ -8,5 +8,5 @@ returns-in_ok-extend_from_slice-in-Ok-clause-ok c =
     let projected = c.in-Ok.projected.items in (
       projected,
       subst (λ text. Projects (settings_of c.args.booleans.now) text projected) c.in_ok-text.ensures.ok c.in-Ok.ensures.ok,
-      c.in_ok-extend_from_slice-in-Ok.ensures.items,
+      c.shrink_to_fit.ensures.items ∙ c.in_ok-extend_from_slice-in-Ok.ensures.items,
     )

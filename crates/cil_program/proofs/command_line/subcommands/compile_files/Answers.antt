@@ -1,4 +1,4 @@
-use Rattle.cil_program.proofs.Common.{◌∙◌, ℕ, List, [], ◌∷◌, All, map, ap, false, refl, sym, subst, AllZip, Entry, entry_of, Compiles, Content, IsEntryAt, IsEntryFor, IsReadOf, compiles, is_unreadable, is_not_held, unreadable_line}
+use Rattle.cil_program.proofs.Common.{ℕ, List, [], ◌∷◌, All, map, ap, false, refl, subst, AllZip, Entry, owned_entry, Compiles, Content, IsEntryAt, IsEntryFor, IsReadOf, compiles, is_unreadable, is_not_held, unreadable_line}
 use Rattle.std.proofs.lemmas.List.Elements.{All-head, All-tail}
 use Rattle.cil_specs.proofs.NamesLemmas.{contains-map}
 use Rattle.cil_program.proofs.BothLemmas.{both-told, both-wider}
@@ -31,9 +31,8 @@ returns-in_default g c = both-told 1 _ c.write_no_memory-in_default.ensures c.an
 pub returns : goal.returns
 returns g c =
     let content = g.F.TextFiles.content c.args.from.now in
-    let entries = map entry_of c.as_slice-2.result.now in
-    let files_are = ap (map (λ file. file.path.now)) c.as_slice.ensures.value ∙ c.in-Ok.ensures.ok in
-    let read = subst (All (λ file. IsReadOf (content file.path.now) file.text.items)) (sym c.as_slice.ensures.value) c.in-Ok.ensures.texts in
-    let all = subst (λ paths. AllZip (IsEntryAt content) paths entries) files_are
-    (placed content (λ file. file.path.now) (λ file. file.text.items) entry_of c.as_slice.result.now c.as_slice-2.result.now read (rw c.as_slice-2.ensures.value c.in-Ok-entries_of.ensures)) in
+    let written = c.in-Ok-entries_of.entries.items in
+    let entries = map owned_entry written in
+    let all = subst (λ paths. AllZip (IsEntryAt content) paths entries) c.in-Ok.ensures.ok
+    (placed content (λ file. file.path.now) (λ file. file.text.items) owned_entry c.in-Ok.files.items written c.in-Ok.ensures.texts c.in-Ok-entries_of.ensures) in
     both-wider {P = Compiles false entries c.args.asked.report} c.compile_entries.result (λ printed told status compiled. compiles entries all compiled) c.compile_entries.ensures
