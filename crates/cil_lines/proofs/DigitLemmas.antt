@@ -1,5 +1,5 @@
 -- The bits of a digit, and which words have a place in it.
-use Rattle.cil_lines.proofs.Common.{◌≡◌, ◌≢◌, ℕ, ◌<◌, ◌≤◌, List, [], length, get_or, set, ltb, sym, ap, ◌∙◌, arith, if◌then◌else◌, inl, inr, Result, Ok, Err, OnOk, cases_lt, lt-ltb, le-ltb, get_or-set_same, get_or-set_other, length-set, insert, Entry, Words, bits_in, bits_of, HasPlace, Rises, IsEntry, IsGap}
+use Rattle.cil_lines.proofs.Common.{◌≡◌, ◌≢◌, ℕ, ◌<◌, ◌≤◌, List, [], length, get_or, set, ltb, sym, ap, ◌∙◌, arith, if◌then◌else◌, inl, inr, Result, Ok, Err, OnOk, cases_lt, lt-ltb, le-ltb, get_or-eq_default, get_or-set_same, get_or-set_other, length-set, insert, Entry, Words, bits_in, bits_of, HasPlace, Rises, IsEntry, IsGap}
 use Rattle.cil_lines.proofs.EntryLemmas.{bits_in-set_same, bits_in-set_other, bits_in-insert, bits_in-past, has_entry-at, has_entry-insert, no_entry-gap}
 
 -- what follows from a fact follows where there is no error
@@ -76,6 +76,14 @@ bits-spread l l' l'' es end long r kept filled behind w =
             | inr later ↦ ap (λ t. if t then get_or l' w 0 else bits_in es w) (le-ltb w (length l) later) ∙ sym (sparse_is l es w later)
           ]
       | inr past ↦ sparse_is l'' [] w (omega (arith, long)) ∙ sym (bits_in-past (length l) end es w r past) ∙ sym (sparse_is l es w (omega arith))
+    ]
+
+-- dense words alone
+pub words_are : (l : List ℕ) (w : ℕ) → bits_of (record { dense = l; sparse = [] }) w ≡ get_or l w 0
+words_are l w =
+    elim (cases_lt w (length l)) [
+      | inl within ↦ dense_is l [] w within
+      | inr past ↦ sparse_is l [] w past ∙ sym (get_or-eq_default l 0 past)
     ]
 
 pub no_bits : (w : ℕ) → bits_of (record { dense = []; sparse = [] }) w ≡ 0

@@ -1,5 +1,5 @@
 -- Steps of the counters of a word within their limits.
-use Rattle.cil_lines.proofs.Common.{suc, ◌≡◌, ◌≢◌, ℕ, ◌+◌, ◌-◌, ◌*◌, ◌/◌, ◌%◌, ◌^◌, ◌<◌, ◌≤◌, List, [], ◌∷◌, length, get_or, drop, set, min, refl, sym, ap, subst, ◌∙◌, arith, eq-eqb, if◌then◌else◌, bit_xor, bit_and, inl, inr, w64, cases_eq, cases_lt, ne_eqb, bit_at_xor, bit_at_and, bit_at_not, bit_at_above, bit_at-lt, bit_at-zero, bit_at, bit_not, Words, bits_of, HasPlace, Counters, value, count_of, hit, HasRoom, limit, limit_of, AreBelow, CanRaise, CanLower}
+use Rattle.cil_lines.proofs.Common.{suc, ◌≡◌, ◌≢◌, ℕ, ◌+◌, ◌-◌, ◌*◌, ◌/◌, ◌%◌, ◌^◌, ◌<◌, ◌≤◌, List, [], ◌∷◌, length, get_or, get_or-eq_default, drop, set, min, refl, sym, ap, subst, ◌∙◌, arith, eq-eqb, if◌then◌else◌, bit_xor, bit_and, inl, inr, w64, cases_eq, cases_lt, ne_eqb, bit_at_xor, bit_at_and, bit_at_not, bit_at_above, bit_at-lt, bit_at-zero, bit_at, bit_not, Words, bits_of, HasPlace, Counters, value, count_of, hit, HasRoom, limit, limit_of, AreBelow, CanRaise, CanLower}
 use Rattle.std.proofs.Math.Seq.{drop-cons}
 use Rattle.std.proofs.lemmas.Nat.{and_le_l, and_le_r}
 use Rattle.cil_lines.proofs.LineLemmas.{half_add, next_power, some_bit, turn_step}
@@ -125,6 +125,22 @@ module _ (d : Words) (h : List Words) where
       from_below (λ w b. let high = ap (λ l. value l w b) empty in
       let low = ap (λ n. bit_at n b) (none w) in
       omega (arith, high, low, bit_at-zero b, limit-some (d ∷ h) w))
+
+  -- the counters of words are their bits, where no digit is higher
+  pub ones_are : (l : List ℕ) → ((w : ℕ) → bits_of d w ≡ get_or l w 0) → h ≡ [] → (t : ℕ) → count_of line t ≡ bit_at (get_or l (t / 64) 0) (t % 64)
+  ones_are l are empty t =
+      let high = ap (λ r. value r (t / 64) (t % 64)) empty in
+      let low = ap (λ n. bit_at n (t % 64)) (are (t / 64)) in
+      omega (arith, count_value t, high, low)
+
+  pub ones_below : (l : List ℕ) → ((w : ℕ) → bits_of d w ≡ get_or l w 0) → ((w : ℕ) → w < length l → HasPlace d w) → h ≡ [] → AreBelow line
+  ones_below l are places empty =
+      from_below (λ w b. let high = ap (λ r. value r w b) empty in
+      let low = ap (λ n. bit_at n b) (are w) in
+      elim (cases_lt w (length l)) [
+        | inl within ↦ omega (arith, high, bit_at-lt (bits_of d w) b, limit-here d h w (places w within), limit-some h w)
+        | inr past ↦ omega (arith, high, low, ap (λ n. bit_at n b) (get_or-eq_default l 0 past), bit_at-zero b, limit-some (d ∷ h) w)
+      ])
 
   -- the counter of a bit of a word
   count_at : (word b : ℕ) → b < 64 → count_of line (64 * word + b) ≡ value (d ∷ h) word b

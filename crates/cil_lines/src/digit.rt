@@ -1,6 +1,6 @@
 //! One binary digit of the counters of a line.
 
-ghost use Rattle.std.specs.Prelude.{◌≡◌, ◌≢◌, ◌+◌, ◌/◌, ◌<◌, ◌≤◌, ◌^◌, ℕ, length, max, slice_index, vec_capacity, if◌then◌else◌, ltb, IfOk, OnOk, MatchResult};
+ghost use Rattle.std.specs.Prelude.{◌≡◌, ◌≢◌, ◌+◌, ◌/◌, ◌<◌, ◌≤◌, ◌^◌, ℕ, length, max, slice_index, slice_index_or, vec_capacity, if◌then◌else◌, ltb, IfOk, OnOk, MatchResult};
 ghost use Rattle.cil_lines.specs.Digit.{bits_in, bits_of, HasPlace, IsEntry, IsGap, IsLast, IsNext, Rises};
 
 use std::alloc::{AllocError, Allocator, Global};
@@ -113,16 +113,6 @@ impl<A: Allocator + Copy> Digit<A> {
         }
     }
 
-    /// No bit is set, and so many dense words take no further memory.
-    pub fn with_room(alloc: A, words: usize) -> Result<Self, AllocError>
-        ensures { IfOk result (λ digit. (w : ℕ) → bits_of digit w ≡ 0) }
-    {
-        Ok(Digit {
-            dense: Vec::with_capacity(alloc, words)?,
-            sparse: Vec::new(alloc),
-        })
-    }
-
     /// A digit with the same bits and places.
     pub fn copied(&self, alloc: A) -> Result<Self, AllocError>
         ensures { IfOk result (λ digit. digit ≡ self.now) }
@@ -131,6 +121,18 @@ impl<A: Allocator + Copy> Digit<A> {
             dense: Vec::from_slice(alloc, &self.dense)?,
             sparse: Vec::from_slice(alloc, &self.sparse)?,
         })
+    }
+
+    /// A digit whose first words stand densely. It takes no memory beside them.
+    pub fn of_words(alloc: A, words: Vec<u64, A>) -> Self
+        requires { length words.items ≤ 2 ^ 58 }
+        ensures bits { (w : ℕ) → bits_of result w ≡ slice_index_or words.items w 0 }
+        ensures places { (w : ℕ) → w < length words.items → HasPlace result w }
+    {
+        Digit {
+            dense: words,
+            sparse: Vec::new(alloc),
+        }
     }
 
     /// Makes a place for a word, so that `put` takes no memory. No bit changes.
@@ -189,12 +191,22 @@ impl<A: Allocator + Copy> Digit<A> {
 
 impl<A: Allocator> Digit<A> {
     /// The bits of a word.
+    #[inline(always)]
     pub fn bits(&self, word: usize) -> u64
         ensures { result ≡ bits_of self.now word }
     {
         if word < self.dense.len() {
             return self.dense[word];
         }
+        self.sparse_bits(word)
+    }
+
+    /// The bits of a word behind the dense ones.
+    #[inline(never)]
+    fn sparse_bits(&self, word: usize) -> u64
+        requires { length self.now.dense ≤ word }
+        ensures { result ≡ bits_of self.now word }
+    {
         match search(&self.sparse, word) {
             Ok(place) => self.sparse[place].bits,
             Err(_) => 0,

@@ -1,6 +1,7 @@
 //! A line of counters, by the number of a target.
 
-ghost use Rattle.std.specs.Prelude.{◌≡◌, ◌+◌, ◌-◌, ◌<◌, ◌^◌, ◌∷◌, ℕ, min, IfOk, MatchOption, OnErr, OnOk};
+ghost use Rattle.std.specs.Prelude.{◌≡◌, ◌+◌, ◌-◌, ◌/◌, ◌%◌, ◌<◌, ◌≤◌, ◌^◌, ◌∷◌, ℕ, length, min, slice_index_or, IfOk, MatchOption, OnErr, OnOk};
+ghost use Rattle.std.specs.Int.{bit_at};
 ghost use Rattle.cil_lines.specs.Digit.{IsNext};
 ghost use Rattle.cil_lines.specs.Line.{count_of, hit, total, IsPresence, IsNextPresent, NonePresent};
 
@@ -45,15 +46,15 @@ impl<A: Allocator + Copy> Line<A> {
         }
     }
 
-    /// A line whose counters are all 0, with room for its first words: those of a line that is filled word by word, without gaps, take no
-    /// further memory where none has a counter above 1.
-    pub fn with_room(alloc: A, words: usize) -> Result<Self, AllocError>
-        ensures { IfOk result (λ line. (t : ℕ) → count_of line t ≡ 0) }
+    /// A line whose counters are 1 at the bits of its first words, and 0 elsewhere. It takes no memory beside these words.
+    pub fn of_words(alloc: A, words: Vec<u64, A>) -> Self
+        requires { length words.items ≤ 2 ^ 58 }
+        ensures { (t : ℕ) → count_of result t ≡ bit_at (slice_index_or words.items (t / 64) 0) (t % 64) }
     {
-        Ok(Line {
-            lowest: Digit::with_room(alloc, words.saturating_add(words / 8))?,
+        Line {
+            lowest: Digit::of_words(alloc, words),
             higher: Vec::new(alloc),
-        })
+        }
     }
 
     /// A line with the same counters, and with room as far as this one has it.
@@ -95,6 +96,7 @@ impl<A: Allocator> Line<A> {
     }
 
     /// The targets of a word whose counters are at least 1.
+    #[inline(always)]
     pub fn present(&self, word: usize) -> u64
         ensures { IsPresence (count_of self.now) word result }
     {
@@ -102,7 +104,19 @@ impl<A: Allocator> Line<A> {
     }
 
     /// The first word from one on with a target whose counter is at least 1.
+    #[inline(always)]
     pub fn next_present_word(&self, from: usize) -> Option<usize>
+        ensures { MatchOption result (NonePresent (count_of self.now) from) (IsNextPresent (count_of self.now) from) }
+    {
+        if self.present(from) != 0 {
+            return Some(from);
+        }
+        self.search_present_word(from)
+    }
+
+    /// The same, where the word itself may have none.
+    #[inline(never)]
+    fn search_present_word(&self, from: usize) -> Option<usize>
         ensures { MatchOption result (NonePresent (count_of self.now) from) (IsNextPresent (count_of self.now) from) }
     {
         let mut from = from;

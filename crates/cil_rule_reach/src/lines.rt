@@ -1,8 +1,7 @@
 //! Types as lines.
 
-ghost use Rattle.std.specs.Prelude.{◌≡◌, ◌+◌, ◌<◌, ◌≤◌, ◌^◌, ◌==◌, ℕ, min, nat_lt, IfOk, OnOk};
-ghost use Rattle.cil_lines.specs.Line.{count_of, hit};
-ghost use Rattle.cil_rule_shifts.specs.Reach.{is_present, one_if};
+ghost use Rattle.std.specs.Prelude.{◌≡◌, ◌≤◌, ◌==◌, ℕ, nat_lt, IfOk};
+ghost use Rattle.cil_rule_shifts.specs.Reach.{is_present};
 ghost use Rattle.cil_rule_reach.specs.Reaches.{members_of};
 
 use crate::symbol_members::SymbolMembers;
@@ -11,22 +10,6 @@ use std::alloc::{AllocError, Allocator};
 
 // How many types a word has.
 const WORD: usize = 64;
-
-/// Adds 1 for each type of a mask. An empty mask takes no memory.
-fn add_types<A: Allocator + Copy>(
-    line: &mut Line<A>,
-    alloc: A,
-    word: usize,
-    mask: u64,
-) -> Result<(), AllocError>
-    requires { word < 2 ^ 58 }
-    ensures { OnOk result ((t : ℕ) → count_of line.new t ≡ count_of line.old t + hit word mask t) }
-{
-    if mask == 0 {
-        return Ok(());
-    }
-    line.add(alloc, word, mask)
-}
 
 /// The members of an attribute, as those whose counters are above 0.
 pub fn members_line<A: Allocator + Copy>(
@@ -37,12 +20,12 @@ pub fn members_line<A: Allocator + Copy>(
     requires { (a t : ℕ) → members.now.symbols ≤ t → members_of members.now a t ≡ 0 }
     ensures { IfOk result (λ line. (t : ℕ) → is_present line t ≡ nat_lt 0 (members_of members.now row t)) }
 {
-    let words = members.symbols / WORD + 1;
-    let mut line = Line::with_room(alloc, words)?;
-    for word in 0..words {
-        add_types(&mut line, alloc, word, members.word(row, word))?;
+    let count = members.symbols / WORD + 1;
+    let mut words = Vec::with_capacity(alloc, count)?;
+    for word in 0..count {
+        words.push(members.word(row, word))?;
     }
-    Ok(line)
+    Ok(Line::of_words(alloc, words))
 }
 
 /// A type alone.

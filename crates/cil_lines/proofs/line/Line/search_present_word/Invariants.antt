@@ -1,6 +1,6 @@
 use Rattle.std.proofs.Common.{◌≡◌, ◌≤◌, ◌<◌, ◌/◌, ◌-◌, ◌^◌, ℕ}
 use Rattle.cil_lines.specs.Line.{count_of}
-use Rattle.cil_lines.proofs.line.Line.next_present_word.Given as goal
+use Rattle.cil_lines.proofs.line.Line.search_present_word.Given as goal
 
 -- no word that was passed has a target
 abbrev pub invariant-loop-word : goal.invariant-loop-word
