@@ -14,7 +14,7 @@ use Rattle.std.proofs.lemmas.List.Sorted.{Contains-permutation, IsPermutation-sy
 use Rattle.cil_resolve.specs.declared.set_permissions.ClassPermission.{ClassPermission}
 use Rattle.cil_resolve.specs.contracts.set_permissions.ClassPermissionPartialEq.TheImpl as derived
 
-permission-total : IsTotalOrder permission_cmp
+pub permission-total : IsTotalOrder permission_cmp
 permission-total = then_total (on_total (λ g. g.class) nat_cmp_total) (on_total (λ g. g.permission) nat_cmp_total)
 
 tied-numbers : (a b : ℕ) → is_eq (nat_cmp a b) ≡ (a == b)
@@ -34,13 +34,13 @@ tied-both Equal p = refl
 tied-both Greater p = refl
 
 -- they are equal where they tie
-ties : (x y : ClassPermission) → derived.eq-value.it x y ≡ eq_by_cmp permission_cmp x y
+pub ties : (x y : ClassPermission) → derived.eq-value.it x y ≡ eq_by_cmp permission_cmp x y
 ties x y = sym (tied-both (nat_cmp x.class y.class) (nat_cmp x.permission y.permission) ∙ (λ i. tied-numbers x.class y.class i && tied-numbers x.permission y.permission i))
 
-equal-permissions : IsEquivalence derived.eq-value.it
+pub equal-permissions : IsEquivalence derived.eq-value.it
 equal-permissions = subst IsEquivalence (sym (λ i x y. ties x y i)) (eq_by_cmp_equiv permission-total)
 
-one-permission : (x y : ClassPermission) → derived.eq-value.it x y ≡ true → x ≡ y
+pub one-permission : (x y : ClassPermission) → derived.eq-value.it x y ≡ true → x ≡ y
 one-permission x y same =
     let parts = and_parts (x.class == y.class) (x.permission == y.permission) same in
     let classes = eqb-true x.class y.class parts.0 in

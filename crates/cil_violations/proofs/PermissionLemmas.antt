@@ -1,18 +1,19 @@
 -- Permissions in order, each once.
-use Rattle.cil_violations.proofs.Common.{◌≡◌, ◌∙◌, inl, inr, ℕ, ◌+◌, ◌<◌, ◌==◌, ◌&&◌, Bool, true, false, cond, List, [], ◌∷◌, ◌++◌, length, get_or, Some, slice_get, Contains, Ordering, Equal, eqb, refl, sym, ap, subst, arith, true≢false, nat_lt, dedup, IsSorted, IsPermutation, IsStrictlyIncreasing, IsTotalOrder, nat_cmp, ordering_then, cases_eq, cases_lt, and_parts, eq-eqb, eqb-true, ltb-true, ne_eqb, nat_cmp_total, tied_itself, same_Some, Less, Greater, NumberedRule, ClassPermission, given_in, AreInOrder, IsOrdered, is_among, is_same, or_else, permission_cmp, set_gives}
+use Rattle.cil_violations.proofs.Common.{◌≡◌, ◌∙◌, inl, inr, ℕ, ◌+◌, ◌<◌, ◌==◌, ◌&&◌, Bool, true, false, List, [], ◌∷◌, ◌++◌, length, get_or, Some, slice_get, Contains, Ordering, Equal, eqb, refl, sym, ap, subst, arith, true≢false, dedup, IsSorted, IsPermutation, IsStrictlyIncreasing, nat_cmp, ordering_then, cases_eq, cases_lt, eq-eqb, tied_itself, same_Some, Less, Greater, NumberedRule, ClassPermission, given_in, AreInOrder, IsOrdered, is_among, is_same, or_else, permission_cmp, set_gives}
 use Rattle.std.proofs.Common.{Result, Ok, Err, is_ok}
-use Rattle.std.specs.Cmp.{IsEquivalence}
 use Rattle.std.specs.List.Sorted.{IsBinarySearchResult, IsNonDecreasingBy, IsSearchInRange}
-use Rattle.std.specs.Ordering.{eq_by_cmp, is_eq, is_lt, ordering_index, ordering_reverse}
+use Rattle.std.specs.Ordering.{is_lt, ordering_index, ordering_reverse}
 use Rattle.std.proofs.Math.ListN.{get_or-append}
 use Rattle.std.proofs.Math.Seq.{get_or-append_seam}
 use Rattle.std.proofs.lemmas.Bool.{false_from_ne_true}
-use Rattle.std.proofs.lemmas.Cmp.{eq_by_cmp_equiv, on_total, ranked, then_total}
+use Rattle.std.proofs.lemmas.Cmp.{ranked}
 use Rattle.std.proofs.lemmas.List.Folds.{list_any_at, Any-from_list_any}
 use Rattle.std.proofs.lemmas.List.Kept.{Contains-dedup, Contains-from_dedup, Contains-dedup_nat, IsStrictlySortedBy-dedup}
 use Rattle.std.proofs.lemmas.List.Sorted.{Contains-permutation, IsPermutation-sym, searchable_from_sorted}
 use Rattle.std.proofs.lemmas.Map.Keys.{IsStrictlyIncreasing-dedup, Less-from_sorted, sorted_from_strictly_increasing}
 use Rattle.cil_resolve.specs.contracts.set_permissions.ClassPermissionPartialEq.TheImpl as derived
+use Rattle.cil_resolve.proofs.OrderedLemmas.{equal-permissions, one-permission, ties}
+pub use Rattle.cil_resolve.proofs.OrderedLemmas.{permission-total}
 
 -- a list that was sorted and then rid of repeats
 pub ordered-list : (xs ys zs : List ℕ) → IsPermutation xs ys → IsSorted nat_cmp ys → zs ≡ dedup eqb ys → IsOrdered nat_cmp xs zs
@@ -24,41 +25,6 @@ ordered-list xs ys zs moved sorted rid = record {
   );
 }
 
-pub permission-total : IsTotalOrder permission_cmp
-permission-total = then_total (on_total (λ g. g.class) nat_cmp_total) (on_total (λ g. g.permission) nat_cmp_total)
-
-tied-numbers : (a b : ℕ) → is_eq (nat_cmp a b) ≡ (a == b)
-tied-numbers a b = by (nat_lt a b) refl
-  where
-    by : (l : Bool) → nat_lt a b ≡ l → is_eq (cond l Less (cond (a == b) Equal Greater)) ≡ (a == b)
-    by true below = sym (ne_eqb a b (λ e. omega (arith, ltb-true a b below, e)))
-    by false below = either (a == b)
-      where
-        either : (e : Bool) → is_eq (cond e Equal Greater) ≡ e
-        either true = refl
-        either false = refl
-
-tied-both : (o p : Ordering) → is_eq (ordering_then o p) ≡ (is_eq o && is_eq p)
-tied-both Less p = refl
-tied-both Equal p = refl
-tied-both Greater p = refl
-
--- permissions are equal where they tie
-ties : (x y : ClassPermission) → derived.eq-value.it x y ≡ eq_by_cmp permission_cmp x y
-ties x y =
-    sym (tied-both (nat_cmp x.class y.class) (nat_cmp x.permission y.permission)
-    ∙ (λ i. tied-numbers x.class y.class i && tied-numbers x.permission y.permission i))
-
-equal-ones : IsEquivalence derived.eq-value.it
-equal-ones = subst IsEquivalence (sym (λ i x y. ties x y i)) (eq_by_cmp_equiv permission-total)
-
-one-number : (x y : ClassPermission) → derived.eq-value.it x y ≡ true → x ≡ y
-one-number x y same =
-    let parts = and_parts (x.class == y.class) (x.permission == y.permission) same in
-    let classes = eqb-true x.class y.class parts.0 in
-    let permissions = eqb-true x.permission y.permission parts.1 in
-    λ i. record { class = classes i; permission = permissions i }
-
 -- permissions that were sorted so
 pub ordered-permissions : (xs ys zs : List ClassPermission) → IsPermutation xs ys → IsSorted permission_cmp ys → zs ≡ dedup derived.eq-value.it ys
     → IsOrdered permission_cmp xs zs
@@ -66,7 +32,7 @@ ordered-permissions xs ys zs moved sorted rid = record {
   rising = subst AreInOrder (sym rid) (IsStrictlySortedBy-dedup permission-total ties ys sorted);
   same = λ g. (
     λ h. Contains-permutation ys xs g (IsPermutation-sym xs ys moved) (Contains-from_dedup derived.eq-value.it ys g (subst (λ l. Contains l g) rid h)),
-    λ h. subst (λ l. Contains l g) (sym rid) (Contains-dedup equal-ones one-number ys g (Contains-permutation xs ys g moved h)),
+    λ h. subst (λ l. Contains l g) (sym rid) (Contains-dedup equal-permissions one-permission ys g (Contains-permutation xs ys g moved h)),
   );
 }
 
@@ -103,7 +69,7 @@ pub is-itself : (g : ClassPermission) → is_same g g ≡ true
 is-itself g = ap (λ b. b && (g.permission == g.permission)) (eq-eqb g.class g.class refl) ∙ eq-eqb g.permission g.permission refl
 
 pub same-one : (g other : ClassPermission) → is_same g other ≡ true → other ≡ g
-same-one g other same = one-number other g same
+same-one g other same = one-permission other g same
 
 pub among-to : (others : List ClassPermission) (g : ClassPermission) → Contains others g → is_among others g ≡ true
 among-to others g (k, low, is) = list_any_at (is_same g) others k g low (ap (is_same g) is ∙ is-itself g)
