@@ -27,6 +27,7 @@ fn most_references(view: &StatementView<'_>) -> usize
 
 /// Binds the references of a statement of a module from a namespace, in a list of their own. The words are the numbers of the module's
 /// names.
+#[inline(always)]
 fn bind_statement<A: Allocator + Copy>(
     lookup: &Lookup<A>,
     module: &ParsedModule<A>,
@@ -53,8 +54,8 @@ fn bind_statement<A: Allocator + Copy>(
         let Some((table, word)) = view.reference(k) else {
             continue;
         };
-        let found = memo.lead(lookup, module, words, table, namespace, word.text);
-        bound.push(Lead::of(found)?)?;
+        let found = memo.lead(lookup, module, words, table, namespace, word.text)?;
+        bound.push(found)?;
     }
     bound.close()?;
     Ok(())
@@ -74,6 +75,7 @@ fn known<A: Allocator>(lookup: &Lookup<A>, namespace: u32) -> u32
 }
 
 /// Binds the references of the statement of a row, in a list of their own, and tells its kind.
+#[inline(always)]
 pub fn bind_row<A: Allocator + Copy>(
     alloc: A,
     lookup: &Lookup<A>,

@@ -26,8 +26,25 @@ fn are_apart(row: &Row, rows: &[Row], at: usize) -> bool
 }
 
 impl<A: Allocator + Copy> Declarations<A> {
-    /// Takes up what the row at a place declares. True if its name is declared already, but where both are optionals.
+    /// Takes up what the row at a place declares, if it declares a name. True if its name is declared already, but where both are
+    /// optionals.
+    #[inline(always)]
     fn declare(&mut self, rows: &[Row], i: usize) -> Result<bool, AllocError>
+        requires within { i < length rows.now }
+        requires few { length rows.now < 2 ^ 32 }
+        ensures { IfOk result (λ again. (names spaces : List (List ℕ)) (policy : List Placed) → AreNumbered names spaces → AreRows names spaces rows.now policy
+            → HaveDeclared names spaces self.old.first.entries (take i policy) → IsOnce (take i policy)
+            → (s : Placed) → slice_get policy i ≡ Some s → IsTaken names spaces (take i policy) s self.new.first.entries again) }
+    {
+        if rows[i].declares.is_none() {
+            return Ok(false);
+        }
+        self.declare_name(rows, i)
+    }
+
+    /// The same, where most rows declare a name.
+    #[inline(never)]
+    fn declare_name(&mut self, rows: &[Row], i: usize) -> Result<bool, AllocError>
         requires within { i < length rows.now }
         requires few { length rows.now < 2 ^ 32 }
         ensures { IfOk result (λ again. (names spaces : List (List ℕ)) (policy : List Placed) → AreNumbered names spaces → AreRows names spaces rows.now policy

@@ -1,8 +1,9 @@
 //! What texts led to when they were last looked up.
 
-ghost use Rattle.std.specs.Prelude.{◌≡◌, ◌<◌, ◌⊎◌, ℕ, List, [], None, Some, length, IfSome, OnOk};
+ghost use Rattle.std.specs.Prelude.{◌≡◌, ◌<◌, ◌⊎◌, ℕ, List, [], None, Some, length, IfSome, IfOk, OnOk};
 ghost use Rattle.cil_bind.specs.Common.{Placed, names_of, texts_of, AsKnown, LeadsTo, Remembers, RemembersNothing};
 
+use crate::lead::Lead;
 use crate::words::lead;
 use cil_lookup::Lookup;
 use cil_parse::{ParsedModule, Table};
@@ -13,7 +14,7 @@ use std::alloc::{AllocError, Allocator, Global};
 pub struct Remembered {
     pub table: Table,
     pub namespace: u32,
-    pub found: Option<u32>,
+    pub found: Lead,
 }
 
 /// What the texts of one module led to when they were last looked up, by their numbers. Most texts are looked up in one table and from
@@ -49,7 +50,7 @@ impl<A: Allocator + Copy> Memo<A> {
     }
 
     /// What a text led to, if it was last looked up in this table and from this namespace.
-    fn recall(&self, table: Table, namespace: u32, text: u32) -> Option<Option<u32>>
+    fn recall(&self, table: Table, namespace: u32, text: u32) -> Option<Lead>
         ensures { IfSome result (λ found. (names spaces texts : List (List ℕ)) (policy : List Placed)
             → Remembers names spaces texts policy self.now.last.items
             → LeadsTo names spaces texts policy table namespace text found) }
@@ -74,8 +75,10 @@ impl<A: Allocator + Copy> Memo<A> {
         }
     }
 
-    /// Where a text of the module leads from a namespace. The words are the numbers of the module's names.
-    pub fn lead(
+    /// Looks up where a text of the module leads from a namespace, and notes it.
+    #[cold]
+    #[inline(never)]
+    fn look_up(
         &mut self,
         lookup: &Lookup<A>,
         module: &ParsedModule<A>,
@@ -83,22 +86,18 @@ impl<A: Allocator + Copy> Memo<A> {
         table: Table,
         namespace: u32,
         text: u32,
-    ) -> Option<u32>
+    ) -> Result<Lead, AllocError>
         requires within { namespace < length lookup.now.namespaces }
         requires words { length words.now ≡ length (names_of «module».now) }
         requires text { text < length (texts_of «module».now) }
-        ensures lead { AsKnown lookup.now «module».now words.now (λ names policy.
+        ensures lead { IfOk result (λ found. AsKnown lookup.now «module».now words.now (λ names policy.
+            LeadsTo names lookup.now.namespaces (texts_of «module».now) policy table namespace text found)) }
+        ensures remembers { OnOk result (AsKnown lookup.now «module».now words.now (λ names policy.
             Remembers names lookup.now.namespaces (texts_of «module».now) policy self.old.last.items
-            → LeadsTo names lookup.now.namespaces (texts_of «module».now) policy table namespace text result) }
-        ensures remembers { AsKnown lookup.now «module».now words.now (λ names policy.
-            Remembers names lookup.now.namespaces (texts_of «module».now) policy self.old.last.items
-            → Remembers names lookup.now.namespaces (texts_of «module».now) policy self.new.last.items) }
+            → Remembers names lookup.now.namespaces (texts_of «module».now) policy self.new.last.items)) }
         ensures same { self.new.«module» ≡ self.old.«module» }
     {
-        if let Some(found) = self.recall(table, namespace, text) {
-            return found;
-        }
-        let found = lead(lookup, module, words, table, namespace, text);
+        let found = Lead::of(lead(lookup, module, words, table, namespace, text))?;
         self.note(
             text,
             Remembered {
@@ -107,6 +106,35 @@ impl<A: Allocator + Copy> Memo<A> {
                 found,
             },
         );
-        found
+        Ok(found)
+    }
+
+    /// Where a text of the module leads from a namespace. The words are the numbers of the module's names.
+    #[inline(always)]
+    pub fn lead(
+        &mut self,
+        lookup: &Lookup<A>,
+        module: &ParsedModule<A>,
+        words: &[u32],
+        table: Table,
+        namespace: u32,
+        text: u32,
+    ) -> Result<Lead, AllocError>
+        requires within { namespace < length lookup.now.namespaces }
+        requires words { length words.now ≡ length (names_of «module».now) }
+        requires text { text < length (texts_of «module».now) }
+        ensures lead { IfOk result (λ found. AsKnown lookup.now «module».now words.now (λ names policy.
+            Remembers names lookup.now.namespaces (texts_of «module».now) policy self.old.last.items
+            → LeadsTo names lookup.now.namespaces (texts_of «module».now) policy table namespace text found)) }
+        ensures remembers { OnOk result (AsKnown lookup.now «module».now words.now (λ names policy.
+            Remembers names lookup.now.namespaces (texts_of «module».now) policy self.old.last.items
+            → Remembers names lookup.now.namespaces (texts_of «module».now) policy self.new.last.items)) }
+        ensures same { self.new.«module» ≡ self.old.«module» }
+    {
+        if let Some(found) = self.recall(table, namespace, text) {
+            return Ok(found);
+        }
+        let found = self.look_up(lookup, module, words, table, namespace, text)?;
+        Ok(found)
     }
 }

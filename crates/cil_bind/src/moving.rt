@@ -1,6 +1,6 @@
 //! What references are bound to once statements have dropped.
 
-ghost use Rattle.std.specs.Prelude.{◌≡◌, ◌++◌, ◌∷◌, ◌<◌, ◌^◌, ℕ, List, [], true, false, map, length, slice_index_or, OnOk, IfOk};
+ghost use Rattle.std.specs.Prelude.{◌≡◌, ◌++◌, ◌∷◌, ◌<◌, ◌^◌, ℕ, List, [], true, false, map, length, slice_index_or, OnOk, IfOk, IfSome};
 ghost use Rattle.cil_bind.specs.Common.{list_all, Placed, references, Optionals, AreApart, is_within, restricted, Knows, IsRow, AreRows, IsFrom, AreFrom, AreWorded, RemembersOf};
 ghost use Rattle.cil_bind.specs.Binding.{AreLeads, AreBound, AreMoved, Binds, kinds_of, places_from, moved_to, has_place as is_placed};
 
@@ -78,6 +78,78 @@ fn move_references<A: Allocator + Copy>(
     Ok(())
 }
 
+/// The new place of what was found at a place, if that was kept or nothing was found.
+#[inline(always)]
+fn kept(found: Lead, places: &[Lead]) -> Option<Lead>
+    ensures placed { IfSome result (λ lead. is_placed places.now found ≡ true) }
+    ensures lead { IfSome result (λ lead. lead ≡ moved_to places.now found) }
+{
+    let lead = moved(found, places);
+    if found.place().is_none() || lead.place().is_some() {
+        return Some(lead);
+    }
+    None
+}
+
+/// Binds three references, as those of most rules, to the new places of what they are bound to, in a list of their own. Tells whether it
+/// did: it leaves others, and those of which some is bound to what has dropped.
+#[inline(always)]
+fn move_three<A: Allocator + Copy>(
+    found: &[Lead],
+    places: &[Lead],
+    bound: &mut Lists<Lead, A>,
+) -> Result<bool, AllocError>
+    requires { bound.old.1 ≡ [] }
+    ensures placed { IfOk result (λ done. done ≡ true → list_all (is_placed places.now) found.now ≡ true) }
+    ensures moved { IfOk result (λ done. done ≡ true → bound.new ≡ (bound.old.0 ++ map (moved_to places.now) found.now ∷ [], [])) }
+    ensures left { IfOk result (λ done. done ≡ false → bound.new ≡ bound.old) }
+{
+    let [a, b, c] = found else {
+        return Ok(false);
+    };
+    let Some(source) = kept(*a, places) else {
+        return Ok(false);
+    };
+    let Some(target) = kept(*b, places) else {
+        return Ok(false);
+    };
+    let Some(class) = kept(*c, places) else {
+        return Ok(false);
+    };
+    bound.push(source)?;
+    bound.push(target)?;
+    bound.push(class)?;
+    bound.close()?;
+    Ok(true)
+}
+
+/// Binds the references of the statement of a kept row by looking them up.
+#[cold]
+#[inline(never)]
+fn bind_again<A: Allocator + Copy>(
+    alloc: A,
+    lookup: &Lookup<A>,
+    joined: &Joined<'_, A>,
+    words: &[Vec<u32, A>],
+    row: &Row,
+    memo: &mut Memo<A>,
+    bound: &mut Lists<Lead, A>,
+) -> Result<(), AllocError>
+    requires worded { (names : List (List ℕ)) × AreWorded names words.now joined.now.modules.items }
+    requires from { (s : Placed) × IsFrom joined.now.modules.items row.now s }
+    requires closed { bound.old.1 ≡ [] }
+    ensures closed { OnOk result (bound.new.1 ≡ []) }
+    ensures binds { OnOk result ((names : List (List ℕ)) (policy : List Placed) (s : Placed) → Knows lookup.now.namespaces lookup.now.declared.entries names policy
+        → AreWorded names words.now joined.now.modules.items → RemembersOf joined.now.modules.items names lookup.now.namespaces policy memo.old
+        → IsRow names lookup.now.namespaces row.now s → IsFrom joined.now.modules.items row.now s → Binds policy s.namespace s.form bound.old bound.new) }
+    ensures remembers { OnOk result ((names : List (List ℕ)) (policy : List Placed) → Knows lookup.now.namespaces lookup.now.declared.entries names policy
+        → AreWorded names words.now joined.now.modules.items → RemembersOf joined.now.modules.items names lookup.now.namespaces policy memo.old
+        → RemembersOf joined.now.modules.items names lookup.now.namespaces policy memo.new) }
+{
+    bind_row(alloc, lookup, joined, words, row, memo, bound)?;
+    Ok(())
+}
+
 /// Binds the references of the statement of a kept row: to the new places of what they were bound to, but looks them up where some of
 /// that has dropped.
 fn rebind_row<A: Allocator + Copy>(
@@ -103,11 +175,14 @@ fn rebind_row<A: Allocator + Copy>(
         → AreWorded names words.now joined.now.modules.items → RemembersOf joined.now.modules.items names lookup.now.namespaces policy memo.old
         → RemembersOf joined.now.modules.items names lookup.now.namespaces policy memo.new) }
 {
+    if move_three(found, places, bound)? {
+        return Ok(());
+    }
     if have_places(found, places) {
         move_references(found, places, bound)?;
         return Ok(());
     }
-    bind_row(alloc, lookup, joined, words, row, memo, bound)?;
+    bind_again(alloc, lookup, joined, words, row, memo, bound)?;
     Ok(())
 }
 

@@ -12,8 +12,8 @@ loop-k-init g c = record {
   leads_are = λ names policy f knows nums remembers shown. subst (AreLeads policy (namespace_at names c.args.lookup.now.namespaces c.args.namespace) []) (sym c.requires.closed) tt;
 }
 
-pub lead-found-requires-clause-text : goal.lead-found-requires-clause-text
-lead-found-requires-clause-text g c =
+pub lead-requires-clause-text : goal.lead-requires-clause-text
+lead-requires-clause-text g c =
     let texts = texts_of c.args.«module».now in
     let it = c.in-Some.ensures.some texts c.requires.shown.0 c.requires.shown.1 in
     read-within texts c.in-Some.word.now it.0 it.2
@@ -31,16 +31,15 @@ loop-k-preserved-in_default g c = record {
 pub loop-k-preserved : goal.loop-k-preserved
 loop-k-preserved g c = record {
   closed = ap (λ p. p.0) c.in_ok-push.ensures.ok ∙ c.loop-k.invariant.closed;
-  remembers = λ names policy knows nums remembers. c.lead-found.ensures.remembers names policy knows nums (c.loop-k.invariant.remembers names policy knows nums remembers);
-  same = c.lead-found.ensures.same ∙ c.loop-k.invariant.same;
+  remembers = λ names policy knows nums remembers. c.in_ok-found.ensures.remembers names policy knows nums (c.loop-k.invariant.remembers names policy knows nums remembers);
+  same = c.lead.ensures.same ∙ c.loop-k.invariant.same;
   leads_are = λ names policy f knows nums remembers shown.
       let texts = texts_of c.args.«module».now in
       let namespace = namespace_at names c.args.lookup.now.namespaces c.args.namespace in
       let it = c.in-Some.ensures.some texts f shown in
       subst (AreLeads policy namespace (take (c.loop-k.k + 1) (references f.form))) (sym (ap (λ p. p.1) c.in_ok-push.ensures.ok))
-      (subst (λ found. AreLeads policy namespace (take (c.loop-k.k + 1) (references f.form)) (c.loop-k.bound.1 ++ found ∷ [])) (sym c.in_ok-of.ensures)
-      (leads-next policy namespace (references f.form) c.loop-k.k c.loop-k.bound.1 (table_of c.in-Some.table) it.0 texts c.in-Some.word.now c.lead-found.result (c.loop-k.invariant.leads_are names policy f knows nums remembers shown) it.1 it.2
-      (c.lead-found.ensures.lead names policy knows nums (c.loop-k.invariant.remembers names policy knows nums remembers))));
+      (leads-next policy namespace (references f.form) c.loop-k.k c.loop-k.bound.1 (table_of c.in-Some.table) it.0 texts c.in-Some.word.now c.in_ok-found.found (c.loop-k.invariant.leads_are names policy f knows nums remembers shown) it.1 it.2
+      (c.in_ok-found.ensures.lead names policy knows nums (c.loop-k.invariant.remembers names policy knows nums remembers)));
 }
 
 pub returns-clause-binds : goal.returns-clause-binds
