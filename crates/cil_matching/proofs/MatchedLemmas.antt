@@ -15,6 +15,12 @@ from-mapped f xs i y at = by (slice_get xs i) refl
 pub to-mapped : {X Y : Type 0} (f : X → Y) (xs : List X) (i : ℕ) (x : X) → slice_get xs i ≡ Some x → slice_get (map f xs) i ≡ Some (f x)
 to-mapped f xs i x at = slice_get-map f xs i ∙ ap (option_map f) at
 
+-- a place below the length has something
+pub there-is : {X : Type 0} (xs : List X) (i : ℕ) → i < length xs → (x : X) × (slice_get xs i ≡ Some x)
+there-is [] i low = absurd (omega (arith, low))
+there-is (x ∷ xs) zero low = (x, refl)
+there-is (x ∷ xs) (suc i) low = there-is xs i (omega (arith, low))
+
 -- each place has an image
 pub mapped-there : {X Y : Type 0} (f : X → Y) (xs : List X) (i : ℕ) → i < length xs → (y : Y) × (slice_get (map f xs) i ≡ Some y)
 mapped-there f [] i low = absurd (omega (arith, low))

@@ -5,3 +5,4 @@ pub mod Inverse
 pub mod Merged
 pub mod Content
 pub mod Passed
+pub mod Compared

@@ -6,7 +6,7 @@ ghost use Rattle.cil_expression.specs.Same.{all_same, are_same};
 ghost use Rattle.cil_resolve.specs.Numbers.{is_no_list, is_no_list_with, keeps_no_list};
 ghost use Rattle.cil_matching.specs.Content.{is_number_of, is_element_by, is_target_by, is_head_by, is_written_by, are_permissions_by, SayTheSame};
 
-use cil_expression::{Element, Expression, are_same_names};
+use cil_expression::{Element, Expression};
 use cil_resolve::{NumberedPermissions, NumberedRule, ResolvedPermissions, ResolvedTarget};
 use std::alloc::Allocator;
 
@@ -62,10 +62,15 @@ fn is_same_head<A: Allocator>(
 fn is_same_list(numbers: &[Option<usize>], permissions: &[usize], others: &[usize]) -> bool
     ensures { result ≡ all_same (is_number_of numbers.now) permissions.now others.now }
 {
-    let same = |a, b|
-        ensures { result ≡ is_number_of numbers.entry.now a b }
-    { is_number(numbers, a, b) };
-    are_same_names(permissions, others, &same)
+    if permissions.len() != others.len() {
+        return false;
+    }
+    for (i, permission) in permissions.iter().enumerate() {
+        if !is_number(numbers, *permission, others[i]) {
+            return false;
+        }
+    }
+    true
 }
 
 /// Whether two expressions of permissions are the same.

@@ -15,6 +15,7 @@ loop-i-preserved g c =
           let found : IsFoundAt rule_cmp olds news i w.in-Ok.j = w.in-Ok.ensures.ok in
           let grown : c.match-find_rule.places.items ≡ w.push.new.self.items = λ k. (w.places-is k).items in
           record {
+            known_are = c.find_rule.ensures.known;
             places_are =
                 places-next IsSameRule olds news i c.loop-i.places.items c.match-find_rule.places.items w.same.result w.same.ensures (grown ∙ w.in_ok-push-in-Ok.ensures.items) c.loop-i.invariant.places_are;
             before = subst (AreBefore rule_cmp olds news (i + 1)) (sym w.from-is) (before-past rule_cmp rule_total olds news i w.in-Ok.j c.args.old.now.rules_ordered found);
@@ -23,6 +24,7 @@ loop-i-preserved g c =
           let missed : IsMissedAt rule_cmp olds news i w.in-Err.j = w.in-Err.ensures.err in
           let grown : c.match-find_rule.places.items ≡ w.push-in-Err.new.self.items = λ k. (w.places-is k).items in
           record {
+            known_are = c.find_rule.ensures.known;
             places_are =
                 places-next IsSameRule olds news i c.loop-i.places.items c.match-find_rule.places.items None (rule-missed olds news i w.in-Err.j missed) (grown ∙ w.in_ok-push-in-Err.ensures.items)
                 c.loop-i.invariant.places_are;
