@@ -14,7 +14,7 @@ pub use Rattle.cil_optionals.specs.Given.{AreAnswers, AreRecent, IsInverse, IsUp
 pub use Rattle.cil_needs.specs.Needs.{are_met, has_node, is_met, is_need_below, meeting}
 pub use Rattle.cil_optionals.specs.Nested.{ShowsKept, mark_at, set_of}
 pub use Rattle.cil_optionals.specs.Nodes.{AreNodesOf, AreOptionalsOf, declared_table, declared_text, is_naming, is_plain, is_provided, is_single}
-pub use Rattle.cil_optionals.specs.Others.{AreFoundWithin, AreOthers, AreOthersTo, is_need_within}
+pub use Rattle.cil_optionals.specs.Others.{AreFoundWithin, AreOthers, AreOthersTo, HasUnmet, is_need_within}
 pub use Rattle.cil_optionals.specs.Permissions.{HavePermissions, SeenPermissions}
 pub use Rattle.cil_optionals.specs.Providers.{AreProviders, IsDeclaration, IsProvidedBy, IsReady, alternatives, further_out}
 pub use Rattle.cil_needs.specs.declared.dependents.Dependent.{Dependent}

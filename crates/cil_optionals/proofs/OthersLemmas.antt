@@ -1,6 +1,7 @@
 -- What statements and optionals inside others need.
-use Rattle.cil_optionals.proofs.Common.{◌≡◌, ◌≢◌, inl, inr, ℕ, zero, suc, ◌+◌, ◌<◌, ◌≤◌, ◌==◌, Bool, true, false, not, ◌&&◌, ◌||◌, nat_lt, cond, List, [], ◌∷◌, ◌++◌, map, filter, length, get_or, slice_get, Some, None, refl, sym, ap, ◌∙◌, subst, arith, true≢false, list_all, list_any, cases_lt, lt-ltb, eqb-true, list_all-append, same_Some, slice_get_within, is_optional, Placed, references, named_permissions, is_unfound, is_lacking, missing_words, Optionals, is_within, restricted, AreApart, first_true, second_true, both_true, Row, is_met, are_met, meeting, IsInnermost, AreNested, is_need_of, are_found, are_there, AddsNeed, Asks, IsOf, is_need_within, AreOthersTo, AreOthers, Need, IsReady, Word, Policy, NamedModule}
+use Rattle.cil_optionals.proofs.Common.{◌≡◌, ◌≢◌, inl, inr, ℕ, zero, suc, ◌+◌, ◌<◌, ◌≤◌, ◌==◌, Bool, true, false, not, ◌&&◌, ◌||◌, nat_lt, cond, List, [], ◌∷◌, ◌++◌, map, filter, length, get_or, slice_get, Some, None, refl, sym, ap, ◌∙◌, subst, arith, true≢false, list_all, list_any, cases_lt, lt-ltb, eqb-true, list_all-append, same_Some, slice_get_within, is_optional, Placed, references, named_permissions, is_unfound, is_lacking, missing_words, Optionals, is_within, restricted, AreApart, first_true, second_true, both_true, Row, is_met, are_met, meeting, IsInnermost, AreNested, is_need_of, are_found, are_there, AddsNeed, Asks, IsOf, is_need_within, AreOthersTo, AreOthers, HasUnmet, Need, IsReady, Word, Policy, NamedModule}
 use Rattle.cil_specs.proofs.KeptLemmas.{nil-append}
+use Rattle.cil_needs.proofs.GreatestLemmas.{all-got}
 use Rattle.cil_optionals.proofs.KeptLemmas.{place-of, contains-place}
 use Rattle.cil_optionals.proofs.ProviderLemmas.{row-within, HasRow, innermost-low}
 use Rattle.cil_optionals.proofs.AsksLemmas.{asks-same, asks-need}
@@ -208,6 +209,29 @@ others-asks policy rows i row s m old new nested at here inside asks are = subst
     given : (b c : Bool) → (b ≡ true → c ≡ true) → (not b || c) ≡ true
     given true c more = more refl
     given false c more = refl
+
+-- a statement in an optional that has a need that nothing meets needs nothing more
+pub others-unmet : (policy : List Placed) (rows : List Row) (i : ℕ) (row : Row) (s : Placed) (m : ℕ) (needs : List Need) → AreNested rows policy → slice_get rows i ≡ Some row → slice_get policy i ≡ Some s
+    → HasUnmet needs row.optional → AreOthersTo policy rows i m needs → AreOthersTo policy rows (i + 1) m needs
+others-unmet policy rows i row s m needs nested at here unmet are = record {
+  below = are.below;
+  inside = are.inside;
+  found = λ set has nodes. (
+    λ met j t less t_at some within. elim (cases_lt j i) [
+      | inl lower ↦ (are.found set has nodes).0 met j t lower t_at some within
+      | inr past ↦
+          let same : j ≡ i = omega (arith, less, past) in
+          let one : s ≡ t = same_Some s t (sym here ∙ sym (ap (slice_get policy) same) ∙ t_at) in
+          absurd (drops (has row.optional) (row-within rows policy set has nested nodes.optionals_are i row s at here ∙ ap (is_within set) one ∙ within)
+          ((λ k. not (has (sym unmet.optional_is k)) || list_any has (sym unmet.none k)) ∙ all-got (is_met has) needs unmet.place unmet.need met unmet.at))
+    ],
+    λ all. (are.found set has nodes).1 (λ j t less. all j t (omega (arith, less))),
+  );
+}
+  where
+    drops : (b : Bool) → b ≡ true → (not b || false) ≡ true → ⊥
+    drops true e f = true≢false (sym f)
+    drops false e f = true≢false (sym e)
 
 -- all are gone over
 pub others-all : (policy : List Placed) (rows : List Row) (n : ℕ) (needs : List Need) → length policy ≤ n → AreOthersTo policy rows n n needs → AreOthers policy rows needs

@@ -3,7 +3,7 @@ pub use Rattle.cil_bind.specs.Lookup.{IsLead, Knows, namespace_at, table_of, wor
 pub use Rattle.cil_bind.specs.declared.joined.NamedModule.{NamedModule}
 pub use Rattle.cil_optionals.specs.Asks.{AddsNeed, Asks, IsOf, LeadsOutside, are_found, are_there, optional_at}
 pub use Rattle.cil_needs.specs.Needs.{are_met, has_node, is_met, is_need_below}
-pub use Rattle.cil_optionals.specs.Others.{AreNeeds, AreOthers, AreOthersTo}
+pub use Rattle.cil_optionals.specs.Others.{AreNeeds, AreOthers, AreOthersTo, HasUnmet}
 pub use Rattle.cil_optionals.specs.Permissions.{HavePermissions}
 pub use Rattle.cil_optionals.specs.Providers.{IsReady}
 pub use Rattle.cil_parse.specs.Builder.{read}

@@ -27,6 +27,14 @@ pub record AreOthers (policy : List Placed) (rows : List Row) (needs : List Need
       → has (suc k) ≡ true → has row.optional ≡ true
   pub found : (set : Optionals) (has : ℕ → Bool) → AreNodesOf policy set has → (are_met has needs ≡ true) ↔ AreFoundWithin policy set
 
+-- an optional has a need that nothing meets
+pub record HasUnmet (needs : List Need) (optional : ℕ) : Type 0 where
+  pub place : ℕ
+  pub need : Need
+  pub at : slice_get needs place ≡ Some need
+  pub optional_is : need.optional ≡ optional
+  pub none : meeting need ≡ []
+
 -- so many rows are gone over for what their statements need, and so many for what their optionals do
 pub record AreOthersTo (policy : List Placed) (rows : List Row) (n m : ℕ) (needs : List Need) : Type 0 where
   pub below : list_all (is_need_within (length policy)) needs ≡ true

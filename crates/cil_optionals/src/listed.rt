@@ -1,7 +1,7 @@
 //! What classes and commons list, and the commons that are given to classes.
 
 ghost use Rattle.std.specs.Prelude.{◌≡◌, ◌<◌, ◌+◌, ◌&&◌, ◌||◌, ◌==◌, ◌++◌, ◌∷◌, ℕ, [], List, Some, map, length, bytes_eq, position, slice_get, IfOk, OnOk};
-ghost use Rattle.cil_optionals.specs.Common.{list_any, Word, Placed, has_name, texts, NamedModule, read, texts_of, IsOf, HavePermissions, IsReady};
+ghost use Rattle.cil_optionals.specs.Common.{list_any, Word, Placed, has_name, texts, read, texts_of, HavePermissions, IsReady};
 ghost use Rattle.std.specs.Cmp.Rules.{hashing};
 ghost use Rattle.std.specs.Hash as fed;
 ghost use Rattle.std.proofs.Common.{rules};
@@ -121,8 +121,7 @@ impl<'m, A: Allocator + Copy> Listed<'m, A> {
         ensures inverse { OnOk result (IsInverse self.new) }
     {
         for i in 0..policy.rows.len() {
-            let module = module_of(joined, policy, i);
-            self.add(alloc, policy, module, i)?;
+            self.add(alloc, joined, policy, i)?;
         }
         Ok(())
     }
@@ -131,17 +130,18 @@ impl<'m, A: Allocator + Copy> Listed<'m, A> {
     fn add(
         &mut self,
         alloc: A,
+        joined: &Joined<'m, A>,
         policy: &Policy<'m, A>,
-        module: &'m ParsedModule<A>,
         i: usize,
     ) -> Result<(), AllocError>
-        requires { (parsed : List (NamedModule _)) × (all : List Placed) × (s : Placed) × IsReady policy.now parsed all × slice_get all i ≡ Some s × IsOf policy.now «module».now i s × IsUpTo all i self.old × IsInverse self.old }
-        ensures up_to { OnOk result ((parsed : List (NamedModule _)) (all : List Placed) (s : Placed) → IsReady policy.now parsed all → slice_get all i ≡ Some s → IsOf policy.now «module».now i s
+        requires { (all : List Placed) × (s : Placed) × IsReady policy.now joined.now.modules.items all × slice_get all i ≡ Some s × IsInverse self.old }
+        ensures up_to { OnOk result ((all : List Placed) (s : Placed) → IsReady policy.now joined.now.modules.items all → slice_get all i ≡ Some s
             → IsUpTo all i self.old → IsUpTo all (i + 1) self.new) }
         ensures inverse { OnOk result (IsInverse self.new) }
     {
         let kind = policy.kinds[i];
         if lists_own(kind) {
+            let module = module_of(joined, policy, i);
             let row = policy.rows[i];
             let view = module.statement(row.index as usize);
             self.list(alloc, i as u32, module, view.permissions())?;

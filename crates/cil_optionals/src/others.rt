@@ -1,7 +1,7 @@
 //! What the statements in optionals need, and the optionals inside others.
 
-ghost use Rattle.std.specs.Prelude.{◌≡◌, ◌≢◌, ◌<◌, ◌+◌, ◌&&◌, ℕ, List, Some, length, slice_get, IfOk, OnOk};
-ghost use Rattle.cil_optionals.specs.Common.{Placed, restricted, NamedModule, are_found, are_there, optional_at, Asks, AreOthers, AreOthersTo, HavePermissions, IsReady};
+ghost use Rattle.std.specs.Prelude.{◌≡◌, ◌≢◌, ◌<◌, ◌+◌, ◌&&◌, ℕ, List, Some, length, slice_get, IfOk, IsTrue, OnOk};
+ghost use Rattle.cil_optionals.specs.Common.{Placed, restricted, NamedModule, are_found, are_there, optional_at, Asks, AreOthers, AreOthersTo, HasUnmet, HavePermissions, IsReady};
 ghost use Rattle.cil_specs.specs.Lookup.{references as references_of, named_permissions};
 ghost use Rattle.cil_optionals.specs.Given.{permissions_in, IsInverse, IsUpTo};
 
@@ -55,6 +55,16 @@ fn asked<'m, A: Allocator + Copy>(
     Ok(())
 }
 
+/// Whether the last need is one of this optional, and nothing meets it. The optional drops then, whatever else its statements need.
+fn has_unmet(needs: &[Need], optional: usize) -> bool
+    ensures { IsTrue result → HasUnmet needs.now optional }
+{
+    match needs.last() {
+        Some(last) => last.optional == optional && last.first.is_none() && last.second.is_none(),
+        None => false,
+    }
+}
+
 /// Puts what the statement at a place needs behind others.
 fn need_at<'m, A: Allocator + Copy>(
     alloc: A,
@@ -77,6 +87,9 @@ fn need_at<'m, A: Allocator + Copy>(
         return Ok(());
     }
     around(policy, i, needs)?;
+    if has_unmet(needs.as_slice(), row.optional as usize) {
+        return Ok(());
+    }
     asked(alloc, joined, policy, permissions, i, needs)?;
     Ok(())
 }

@@ -55,12 +55,12 @@ fn provide<A: Allocator + Copy>(
         → AreProviders all policy.now.rows.items (i + 1) needs.new.items) }
 {
     let row = policy.rows[i];
-    let Some((table, word)) = row.declares else {
-        return Ok(());
-    };
     if row.optional == 0 {
         return Ok(());
     }
+    let Some((table, word)) = row.declares else {
+        return Ok(());
+    };
     if is_scopes(table) {
         return Ok(());
     }

@@ -1,6 +1,6 @@
-use Rattle.cil_optionals.proofs.Common.{◌+◌, ◌&&◌, ap, subst, restricted, references, named_permissions, are_found, are_there, row_optional, Asks}
+use Rattle.cil_optionals.proofs.Common.{◌+◌, ◌&&◌, ap, subst, restricted, references, named_permissions, are_found, are_there, row_optional, Asks, HasUnmet}
 use Rattle.cil_optionals.proofs.ProviderLemmas.{row-of}
-use Rattle.cil_optionals.proofs.OthersLemmas.{others-skip, others-asks}
+use Rattle.cil_optionals.proofs.OthersLemmas.{others-skip, others-asks, others-unmet}
 use Rattle.cil_optionals.proofs.others.need_at.Goals as goal
 
 pub returns-then-row-eq0-clause-others : goal.returns-then-row-eq0-clause-others
@@ -11,6 +11,15 @@ returns-then-row-eq0-clause-others g c = λ all ready permissions are.
 
 pub around-requires : goal.around-requires
 around-requires g c = record { ready = (c.args.joined.now.modules.items, c.requires.ready.0, c.requires.ready.1); within = c.requires.within }
+
+pub returns-then-has_unmet-clause-others : goal.returns-then-has_unmet-clause-others
+returns-then-has_unmet-clause-others g c = λ all ready permissions are.
+    let p = c.args.policy.now in
+    let row = c.index-row.result.now in
+    let has = row-of p c.args.joined.now.modules.items all c.args.i row ready c.requires.within c.index-row.ensures in
+    others-unmet all p.rows.items c.args.i row has.s (c.args.i + 1) c.around.new.needs.items ready.nested has.row_at has.at
+    (subst (λ l. HasUnmet l row.optional) c.as_slice.ensures.value (c.has_unmet.ensures c.if-has_unmet.true))
+    (c.in_ok-around.ensures c.args.joined.now.modules.items all ready are)
 
 pub returns-clause-others : goal.returns-clause-others
 returns-clause-others g c = λ all ready permissions are.

@@ -11,7 +11,7 @@ add-requires g c =
     let count = c.len-i-end.ensures in
     let here = c.loop-i-test.true in
     let (s, at) = statement-at c.args.policy.now parsed r.0 c.loop-i.i r.1 (omega (arith, count, here)) in
-    (parsed, r.0, s, r.1, at, c.module_of-module.ensures r.0 s r.1 at, c.loop-i.invariant.up_to r.0 r.1, c.loop-i.invariant.inverse)
+    (r.0, s, r.1, at, c.loop-i.invariant.inverse)
 
 pub loop-i-preserved : goal.loop-i-preserved
 loop-i-preserved g c =
@@ -21,7 +21,7 @@ loop-i-preserved g c =
     record {
       up_to = λ all ready.
           let (s, at) = statement-at c.args.policy.now parsed all c.loop-i.i ready (omega (arith, count, here)) in
-          c.in_ok-add.ensures.up_to parsed all s ready at (c.module_of-module.ensures all s ready at) (c.loop-i.invariant.up_to all ready);
+          c.in_ok-add.ensures.up_to all s ready at (c.loop-i.invariant.up_to all ready);
       inverse = c.in_ok-add.ensures.inverse;
     }
 
