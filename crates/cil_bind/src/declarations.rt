@@ -42,7 +42,7 @@ impl<A: Allocator + Copy> Declarations<A> {
         self.declare_name(rows, i)
     }
 
-    /// The same, where most rows declare a name.
+    /// The same for a row that declares a name.
     #[inline(never)]
     fn declare_name(&mut self, rows: &[Row], i: usize) -> Result<bool, AllocError>
         requires within { i < length rows.now }
