@@ -49,7 +49,7 @@ fn asked<'m, A: Allocator + Copy>(
 {
     let module = module_of(joined, policy, i);
     references(policy, module, i, needs)?;
-    if !permissions.are_there(alloc, policy, module, i)? {
+    if !permissions.are_there(alloc, policy, i)? {
         add_need(policy.rows[i].optional as usize, None, needs)?;
     }
     Ok(())

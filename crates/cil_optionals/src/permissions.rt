@@ -6,15 +6,15 @@ ghost use Rattle.cil_specs.specs.Names.{Word};
 ghost use Rattle.cil_specs.specs.Joined.{Placed};
 ghost use Rattle.cil_specs.specs.Lookup.{named_permissions, texts};
 ghost use Rattle.cil_bind.specs.KnownLists.{texts_listed, AreKnown};
-ghost use Rattle.cil_bind.specs.declared.joined.NamedModule.{NamedModule};
 ghost use Rattle.cil_parse.specs.Builder.{read};
 ghost use Rattle.cil_parse.specs.Parsed.{texts_of};
-ghost use Rattle.cil_optionals.specs.Asks.{are_there as all_there, IsOf};
+ghost use Rattle.cil_optionals.specs.Asks.{are_there as all_there};
 ghost use Rattle.cil_optionals.specs.Given.{permissions_in, last_bound as last_of, names_permissions as names_permissions_kind, has_list as has_listed, AreAnswers, AreRecent, IsInverse};
 ghost use Rattle.cil_optionals.specs.Permissions.{HavePermissions};
 ghost use Rattle.cil_optionals.specs.Providers.{IsReady};
 
 use crate::listed::{Listed, Permission};
+use crate::modules::module_of;
 use cil_bind::{Joined, KnownLists, Lead, PermissionList, Policy};
 use cil_names::Seed;
 use cil_parse::{NumberedWord, ParsedModule, StatementKind};
@@ -181,8 +181,7 @@ impl<'l, 'm, A: Allocator + Copy> Permissions<'l, 'm, A> {
         Ok(true)
     }
 
-    /// Whether the class at a place has all of these permissions, which are those of a list. A list that it is known to have is not gone
-    /// over.
+    /// Whether the class at a place has all of these permissions, which are those of a list. It is known to have the list then.
     fn has_list(
         &mut self,
         alloc: A,
@@ -196,9 +195,6 @@ impl<'l, 'm, A: Allocator + Copy> Permissions<'l, 'm, A> {
         ensures listed { self.new.listed ≡ self.old.listed }
         ensures joined { self.new.joined ≡ self.old.joined }
     {
-        if self.known.knows(list, class) {
-            return Ok(true);
-        }
         let there = self.has_all(class, module, words)?;
         if there {
             self.known.note(alloc, list, class)?;
@@ -206,30 +202,35 @@ impl<'l, 'm, A: Allocator + Copy> Permissions<'l, 'm, A> {
         Ok(there)
     }
 
-    /// Whether the class that the statement at a place names has all permissions that it names.
+    /// Whether the class that the statement at a place names has all permissions that it names. A list that it is known to have is not
+    /// gone over.
     pub fn are_there(
         &mut self,
         alloc: A,
         policy: &Policy<'m, A>,
-        module: &'m ParsedModule<A>,
         i: usize,
     ) -> Result<bool, AllocError>
-        requires { (all : List Placed) × (s : Placed) × IsReady policy.now self.old.joined.now.modules.items all × slice_get all i ≡ Some s × IsOf policy.now «module».now i s }
-        ensures there { IfOk result (λ there. (parsed : List (NamedModule _)) (all : List Placed) (s : Placed) → IsReady policy.now parsed all → HavePermissions all (permissions_in self.old.listed.now) → slice_get all i ≡ Some s → IsOf policy.now «module».now i s
+        requires { (all : List Placed) × (s : Placed) × IsReady policy.now self.old.joined.now.modules.items all × slice_get all i ≡ Some s }
+        ensures there { IfOk result (λ there. (all : List Placed) (s : Placed) → IsReady policy.now self.old.joined.now.modules.items all → HavePermissions all (permissions_in self.old.listed.now) → slice_get all i ≡ Some s
             → there ≡ all_there all s.namespace (named_permissions s.form)) }
         ensures listed { self.new.listed ≡ self.old.listed }
         ensures joined { self.new.joined ≡ self.old.joined }
     {
-        let row = policy.rows[i];
-        let view = module.statement(row.index as usize);
-        if !names_permissions(view.kind) {
+        let kind = policy.kinds[i];
+        if !names_permissions(kind) {
             return Ok(true);
         }
         let bound = policy.bound.get(i);
         let Some(class) = last_bound(bound) else {
             return Ok(true);
         };
+        let row = policy.rows[i];
         let list = PermissionList::of(self.joined, &row);
+        if self.known.knows(list, class) {
+            return Ok(true);
+        }
+        let module = module_of(self.joined, policy, i);
+        let view = module.statement(row.index as usize);
         let there = self.has_list(alloc, class, list, module, view.permissions())?;
         Ok(there)
     }

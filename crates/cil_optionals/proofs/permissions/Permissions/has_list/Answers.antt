@@ -3,14 +3,6 @@ use Rattle.cil_bind.specs.KnownLists.{texts_listed}
 use Rattle.cil_optionals.proofs.KnownLemmas.{listed-words}
 use Rattle.cil_optionals.proofs.permissions.Permissions.has_list.Goals as goal
 
-pub returns-then-knows-clause-has : goal.returns-then-knows-clause-has
-returns-then-knows-clause-has g c = λ l shown.
-    let r = c.requires in
-    let has = permissions_in c.args.self.now.listed.now c.args.class in
-    let listed = texts_listed c.args.self.now.joined.now.modules.items c.args.list.«module» c.args.list.list in
-    sym (c.args.self.now.known_are c.args.list.«module» c.args.list.list c.args.class (sym c.knows.ensures ∙ c.if-knows.true))
-    ∙ listed-words (texts_of c.args.«module».now) c.args.words.now has listed r.0 l r.1 r.2 shown
-
 pub invariant_of-self-clause-known_are : goal.invariant_of-self-clause-known_are
 invariant_of-self-clause-known_are g c =
     let r = c.requires in
