@@ -1,8 +1,9 @@
 -- Permissions that classes are known to have.
-use Rattle.cil_check.proofs.Common.{◌≡◌, ℕ, ◌<◌, zero, suc, Bool, true, List, [], ◌∷◌, length, map, get_or, Option, Some, None, Contains, refl, sym, ap, ◌∙◌, none-some, same_Some, slice_get_within, Word, Placed, IsOneName, permissions_in, read, texts_of, NumberedWord, IsNoted, Seen, Listed}
+use Rattle.cil_check.proofs.Common.{◌≡◌, ◌==◌, ◌&&◌, ℕ, ◌<◌, zero, suc, Bool, true, false, true≢false, eqb-true, List, [], ◌∷◌, length, map, get_or, Option, Some, None, Contains, refl, sym, ap, ◌∙◌, none-some, same_Some, slice_get_within, Word, Placed, IsOneName, permissions_in, read, texts_of, NumberedWord, IsNoted, Seen, Listed}
 use Rattle.std.proofs.Common.{replicate, slice_get, slice_set}
-use Rattle.cil_check.specs.Recent.{AreRecent}
+use Rattle.cil_check.specs.Recent.{AreHeld, AreRecent, is_held}
 use Rattle.cil_check.specs.declared.checker.Checker.{Checker}
+use Rattle.cil_check.specs.declared.held.Held.{Held}
 use Rattle.cil_check.proofs.PermissionLemmas.{word-read, one-name-at}
 
 -- a value that isn't there
@@ -27,6 +28,35 @@ recent-noted has (o ∷ slots) zero p is are zero q at = ap (λ (r : Listed). ha
 recent-noted has (o ∷ slots) zero p is are (suc i) q at = are (suc i) q at
 recent-noted has (o ∷ slots) (suc slot) p is are zero q at = are zero q at
 recent-noted has (o ∷ slots) (suc slot) p is are (suc i) q at = recent-noted has slots slot p is (λ j r there. are (suc j) r there) i q at
+
+-- the same of lists
+pub held-none : (holds : ℕ → ℕ → ℕ → Bool) (n : ℕ) → AreHeld holds (replicate n None)
+held-none holds zero i p at = absurd (none-some (Some p) at)
+held-none holds (suc n) zero p at = absurd (none-some p (same_Some None (Some p) at))
+held-none holds (suc n) (suc i) p at = held-none holds n i p at
+
+both-first : (a b : Bool) → (a && b) ≡ true → a ≡ true
+both-first true b is = refl
+both-first false b is = is
+
+both-second : (a b : Bool) → (a && b) ≡ true → b ≡ true
+both-second true b is = is
+both-second false b is = absurd (true≢false (sym is))
+
+pub held-at : (holds : ℕ → ℕ → ℕ → Bool) (slots : List (Option Held)) (slot : ℕ) (p : Held) (number list owner : ℕ) → AreHeld holds slots → slice_get slots slot ≡ Some (Some p) → is_held p number list owner ≡ true → holds number list owner ≡ true
+held-at holds slots slot p number list owner are at is =
+    let first = both-first (p.owner == owner && p.list == list) (p.«module» == number) is in
+    let owned : p.owner ≡ owner = eqb-true p.owner owner (both-first (p.owner == owner) (p.list == list) first) in
+    let listed : p.list ≡ list = eqb-true p.list list (both-second (p.owner == owner) (p.list == list) first) in
+    let numbered : p.«module» ≡ number = eqb-true p.«module» number (both-second (p.owner == owner && p.list == list) (p.«module» == number) is) in
+    (λ k. holds (sym numbered k) (sym listed k) (sym owned k)) ∙ are slot p at
+
+pub held-noted : (holds : ℕ → ℕ → ℕ → Bool) (slots : List (Option Held)) (slot : ℕ) (p : Held) → holds p.«module» p.list p.owner ≡ true → AreHeld holds slots → AreHeld holds (slice_set slots slot (Some p))
+held-noted holds [] slot p is are i q at = are i q at
+held-noted holds (o ∷ slots) zero p is are zero q at = ap (λ (r : Held). holds r.«module» r.list r.owner) (sym (same_Some p q (same_Some (Some p) (Some q) at))) ∙ is
+held-noted holds (o ∷ slots) zero p is are (suc i) q at = are (suc i) q at
+held-noted holds (o ∷ slots) (suc slot) p is are zero q at = are zero q at
+held-noted holds (o ∷ slots) (suc slot) p is are (suc i) q at = held-noted holds slots slot p is (λ j r there. are (suc j) r there) i q at
 
 -- words without a first
 pub first-none : (words : List Word) → slice_get words 0 ≡ None → words ≡ []

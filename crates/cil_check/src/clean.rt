@@ -1,9 +1,9 @@
 //! Policies without faults of the kinds that are seen at one statement.
 
 ghost use Rattle.std.specs.Prelude.{◌≡◌, ◌<◌, [], List, Some, true, length, slice_get, Contains, IsTrue};
-ghost use Rattle.std.specs.List.{list_all};
 ghost use Rattle.cil_check.specs.Common.{Placed, AreNumbersOf, classes, has_name, kind_of, names_of, permissions_of, word_at, IsFirstOf, IsLead, IsSeen, IsNoted, class_lead, lacking_words, HasNoneBelow, IsCleanAt};
-ghost use Rattle.cil_check.specs.Clean.{is_sound as is_sound_lead};
+ghost use Rattle.std.specs.List.{list_all};
+ghost use Rattle.cil_check.specs.Clean.{is_sound as is_sound_lead, is_plainly_sound as is_plainly_sound_lead, are_sound as are_sound_leads};
 ghost use Rattle.cil_check.specs.Recent.{IsKnown};
 ghost use Rattle.cil_check.specs.Kinds.{names_permissions as is_naming_kind, is_rule_of_set as is_rule_of_set_kind, is_plain as is_plain_kind};
 ghost use Rattle.cil_parse.specs.declared.row.StatementKind.TheVariants.{TypeAttributeSet};
@@ -72,6 +72,15 @@ impl<'p, 'm, A: Allocator + Copy> Checker<'p, 'm, A> {
         true
     }
 
+    /// Whether the statement of a place has no fault of those kinds, by its words.
+    fn is_clean_whole(&self, place: usize) -> bool
+        requires { (policy : List Placed) × IsNoted self.now policy × (place < length policy) }
+        ensures { IsTrue result → (policy : List Placed) (s : Placed) → IsNoted self.now policy
+            → slice_get policy place ≡ Some s → IsCleanAt policy place s }
+    {
+        self.is_clean_at(place, &self.bound.seen(place))
+    }
+
     /// Whether a reference is bound, and not to an alias without an actual type.
     fn is_sound(&self, found: Option<u32>) -> bool
         ensures { result
@@ -86,12 +95,41 @@ impl<'p, 'm, A: Allocator + Copy> Checker<'p, 'm, A> {
         }
     }
 
+    /// Whether a reference is bound, and to no alias. No statement has the place that stands for
+    /// nowhere here, since there are fewer than 2^32.
+    fn is_plainly_sound(&self, found: Lead) -> bool
+        ensures { result ≡ is_plainly_sound_lead self.now.bound.policy.now.kinds.items found }
+    {
+        let place = found.place().unwrap_or(u32::MAX);
+        match self.bound.policy.kinds.get(place as usize) {
+            Some(kind) => !Kind::Alias.is(*kind),
+            None => false,
+        }
+    }
+
+    /// Whether all of some references are bound, and none to an alias.
+    fn are_plainly_sound(&self, bound: &[Lead]) -> bool
+        ensures { result ≡ list_all
+            (is_plainly_sound_lead self.now.bound.policy.now.kinds.items) bound.now }
+    {
+        bound.iter().all(|found| self.is_plainly_sound(*found))
+    }
+
     /// Whether all of some references are bound, and none to an alias without an actual type.
-    fn are_sound(&self, bound: &[Lead]) -> bool
+    fn are_each_sound(&self, bound: &[Lead]) -> bool
         ensures { result
             ≡ list_all (is_sound_lead self.now.bound.policy.now.kinds.items self.now.actuals) bound.now }
     {
         bound.iter().all(|found| self.is_sound(found.place()))
+    }
+
+    /// Whether all of some references are bound, and none to an alias without an actual type. Most
+    /// lead to no alias.
+    fn are_sound(&self, bound: &[Lead]) -> bool
+        ensures { result
+            ≡ are_sound_leads self.now.bound.policy.now.kinds.items self.now.actuals bound.now }
+    {
+        self.are_plainly_sound(bound) || self.are_each_sound(bound)
     }
 
     /// Whether a set statement leads to an attribute, and all its references are bound, to no
@@ -161,7 +199,7 @@ impl<'p, 'm, A: Allocator + Copy> Checker<'p, 'm, A> {
 
     /// Whether a class lacks none of the permissions that the statement of a place names of it.
     /// Those of a list that the class is known to have are not gone over.
-    fn has_listed(&self, alloc: A, place: usize, class: u32, known: &mut Known<A>) -> bool
+    fn has_listed(&self, place: usize, class: u32, known: &mut Known<A>) -> bool
         requires { (policy : List Placed) × (s : Placed) × IsNoted self.now policy
             × (slice_get policy place ≡ Some s)
             × IsLead classes policy (Some class) (class_lead policy s) }
@@ -181,14 +219,13 @@ impl<'p, 'm, A: Allocator + Copy> Checker<'p, 'm, A> {
         if !self.has_named(class, &self.bound.seen(place), known) {
             return false;
         }
-        // What there is no memory for is asked again.
-        let _noted = known.lists.note(alloc, list, class);
+        known.lists.note(list, class);
         true
     }
 
     /// Whether a statement that names permissions of a class has no missing word and no alias
     /// without an actual type. Other faults it can't have.
-    fn is_clean_naming(&self, alloc: A, place: usize, known: &mut Known<A>) -> bool
+    fn is_clean_naming(&self, place: usize, known: &mut Known<A>) -> bool
         requires { (policy : List Placed) × (s : Placed) × IsNoted self.now policy
             × (slice_get policy place ≡ Some s) × (is_naming_kind (kind_of s.form) ≡ true) }
         ensures clean { IsTrue result → (policy : List Placed) (s : Placed)
@@ -209,7 +246,7 @@ impl<'p, 'm, A: Allocator + Copy> Checker<'p, 'm, A> {
         if !self.are_sound(bound) {
             return false;
         }
-        self.has_listed(alloc, place, class, known)
+        self.has_listed(place, class, known)
     }
 
     /// Whether a rule of a permission set has all its references bound, to no alias without an
@@ -226,7 +263,7 @@ impl<'p, 'm, A: Allocator + Copy> Checker<'p, 'm, A> {
     /// Whether the statement of a place has no fault of the kinds that are seen at one statement.
     /// Its kind tells which it can have: those of most are told by what its references are bound
     /// to, and only others are looked at whole.
-    fn is_clean_by(&self, alloc: A, place: usize, known: &mut Known<A>) -> bool
+    fn is_clean_by(&self, place: usize, known: &mut Known<A>) -> bool
         requires { (policy : List Placed) × IsNoted self.now policy × (place < length policy) }
         ensures clean { IsTrue result → (policy : List Placed) (s : Placed)
             → IsNoted self.now policy → slice_get policy place ≡ Some s
@@ -235,11 +272,11 @@ impl<'p, 'm, A: Allocator + Copy> Checker<'p, 'm, A> {
             → IsKnown self.now policy known.old → IsKnown self.now policy known.new }
     {
         let kind = self.bound.kind(place);
+        if names_permissions(kind) {
+            return self.is_clean_naming(place, known);
+        }
         if is_plain(kind) {
             return true;
-        }
-        if names_permissions(kind) {
-            return self.is_clean_naming(alloc, place, known);
         }
         if is_rule_of_set(kind) {
             return self.is_clean_rule_of_set(place);
@@ -247,7 +284,7 @@ impl<'p, 'm, A: Allocator + Copy> Checker<'p, 'm, A> {
         if let StatementKind::TypeAttributeSet = kind {
             return self.is_clean_set(place);
         }
-        self.is_clean_at(place, &self.bound.seen(place))
+        self.is_clean_whole(place)
     }
 
     /// Whether no statement has a fault of the kinds 42 to 47: one pass over the policy for all of
@@ -259,7 +296,7 @@ impl<'p, 'm, A: Allocator + Copy> Checker<'p, 'm, A> {
     {
         let mut known = Known::new(alloc);
         for i in 0..self.bound.len() {
-            if !self.is_clean_by(alloc, i, &mut known) {
+            if !self.is_clean_by(i, &mut known) {
                 return false;
             }
         }

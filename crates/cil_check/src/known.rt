@@ -1,11 +1,10 @@
 //! What classes are known to have.
 
-ghost use Rattle.std.specs.Prelude.{◌≡◌, ℕ, Bool, true, false, IsTrue};
-ghost use Rattle.cil_bind.specs.KnownLists.{is_known};
-ghost use Rattle.cil_check.specs.Recent.{AreRecent};
+ghost use Rattle.std.specs.Prelude.{◌≡◌, ℕ, Bool, true, IsTrue};
+ghost use Rattle.cil_check.specs.Recent.{AreHeld, AreRecent};
 
+use crate::held::HeldLists;
 use crate::permissions::Listed;
-use cil_bind::KnownLists;
 use std::alloc::{Allocator, Global};
 
 /// How many permissions are at hand.
@@ -15,7 +14,7 @@ const RECENT: usize = 4096;
 /// asked lately. Each of these has one slot, where another may stand.
 #[derive(Drop)]
 pub struct Known<A: Allocator = Global> {
-    pub lists: KnownLists<A>,
+    pub lists: HeldLists<A>,
     pub recent: Vec<Option<Listed>, A>,
 }
 
@@ -37,12 +36,11 @@ fn empty_slots<A: Allocator + Copy>(alloc: A) -> Vec<Option<Listed>, A>
 impl<A: Allocator + Copy> Known<A> {
     /// Nothing.
     pub fn new(alloc: A) -> Self
-        ensures lists { (number list class_place : ℕ)
-            → is_known result.lists number list class_place ≡ false }
+        ensures lists { (holds : ℕ → ℕ → ℕ → Bool) → AreHeld holds result.lists.slots.items }
         ensures recent { (has : ℕ → ℕ → Bool) → AreRecent has result.recent.items }
     {
         Known {
-            lists: KnownLists::new(alloc),
+            lists: HeldLists::new(alloc),
             recent: empty_slots(alloc),
         }
     }

@@ -10,6 +10,7 @@ mod fault;
 mod few;
 mod firsts;
 mod groups;
+mod held;
 mod inherited;
 mod kinds;
 mod known;

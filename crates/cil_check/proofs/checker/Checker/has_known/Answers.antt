@@ -1,6 +1,5 @@
 use Rattle.cil_check.proofs.Common.{ap, has_list, has_name, holds_of, permissions_of, subst, sym, word_at, ◌∙◌}
-use Rattle.cil_bind.specs.KnownLists.{AreKnown}
-use Rattle.cil_check.specs.Recent.{has_permission}
+use Rattle.cil_check.specs.Recent.{AreHeld, has_permission}
 use Rattle.cil_check.proofs.checker.Checker.has_known.Goals as goal
 
 pub returns-then-has-clause-has : goal.returns-then-has-clause-has
@@ -15,7 +14,7 @@ pub returns-clause-known : goal.returns-clause-known
 returns-clause-known g c = λ policy s noted at first less known.
     let b = c.args.self.now.bound in
     let names = b.policy.now.names in record {
-      lists = subst (AreKnown (has_list b.joined.now.modules.items policy)) (sym c.note.ensures.lists) known.lists;
+      lists = subst (λ l. AreHeld (has_list b.joined.now.modules.items policy) l.slots.items) (sym c.note.ensures.lists) known.lists;
       recent = c.note.ensures.recent (has_permission names policy)
           (ap (holds_of (λ u. has_name (permissions_of policy u) (word_at names c.args.word))) at ∙ sym (c.has_permission.ensures policy s noted at first less) ∙ c.if-not-has_permission.false) known.recent;
     }

@@ -22,7 +22,7 @@ returns-then-knows-clause-none g c = λ is policy s noted at led known.
     let list = c.of-list.result in
     known-lacks-none b.joined.now.modules.items policy s list.«module» list.list c.args.class led
     (c.of-list.ensures s (from-there b policy c.args.place c.index.result.now s noted.is at c.index.ensures))
-    (known.lists list.«module» list.list c.args.class (sym c.knows.ensures ∙ c.if-knows.true))
+    (c.knows.ensures c.if-knows.true (has_list b.joined.now.modules.items policy) known.lists)
 
 pub seen-requires : goal.seen-requires
 seen-requires g c = let r = c.requires in record { is = (r.0, r.2.is, slice_get_within r.0 c.args.place r.1 r.3) }
@@ -46,7 +46,7 @@ returns-clause-known g c = λ policy s noted at led known.
     let contained : Contains policy s = (c.args.place, slice_get_within policy c.args.place s at, get_or_from_slice_get policy c.args.place s s at) in
     let none = c.has_named.ensures.none c.if-not-has_named.false policy s noted seen worded contained led known in
     let after = c.has_named.ensures.known policy s noted seen worded contained led known in record {
-      lists = c.note-noted.ensures (has_list b.joined.now.modules.items policy)
+      lists = c.note.ensures (has_list b.joined.now.modules.items policy)
           (lacks-none-known b.joined.now.modules.items policy s list.«module» list.list c.args.class led (c.of-list.ensures s (from-there b policy c.args.place c.index.result.now s noted.is at c.index.ensures)) none) after.lists;
       recent = after.recent;
     }

@@ -1,4 +1,5 @@
-use Rattle.std.proofs.Common.{◌≤◌, ◌<◌, length, sym, ◌∙◌, true≢false, arith}
+use Rattle.std.proofs.Common.{◌≤◌, ◌<◌, length, arith}
+use Rattle.cil_check.specs.Missing.{has_list}
 use Rattle.cil_check.specs.Recent.{has_permission}
 use Rattle.cil_check.proofs.CleanLemmas.{clean-first, clean-next, clean-end}
 use Rattle.cil_check.proofs.SeenLemmas.{there-at}
@@ -7,7 +8,7 @@ use Rattle.cil_check.proofs.checker.Checker.is_clean.Goals as goal
 pub loop-i-init : goal.loop-i-init
 loop-i-init g c = record {
   clean = λ policy noted. clean-first policy;
-  known = λ policy noted. record { lists = λ number list place is. absurd (true≢false (sym is ∙ c.new-known.ensures.lists number list place)); recent = c.new-known.ensures.recent (has_permission c.args.self.now.bound.policy.now.names policy) };
+  known = λ policy noted. record { lists = c.new-known.ensures.lists (has_list c.args.self.now.bound.joined.now.modules.items policy); recent = c.new-known.ensures.recent (has_permission c.args.self.now.bound.policy.now.names policy) };
 }
 
 pub is_clean_by-requires : goal.is_clean_by-requires

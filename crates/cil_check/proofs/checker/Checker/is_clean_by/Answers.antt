@@ -21,9 +21,3 @@ returns-then-names_permissions-clause-known g c = λ policy noted known.
     let less : c.args.place < length policy = omega (arith, long, other, within) in
     let (s, at) = there-at policy c.args.place less in
     c.is_clean_naming.ensures.known policy s noted at (sym (c.names_permissions.ensures ∙ ap names_permissions (c.kind-kind.ensures policy s noted.is at)) ∙ c.if-names_permissions.true) known
-
-pub is_clean_at-requires : goal.is_clean_at-requires
-is_clean_at-requires g c =
-    let (policy, noted, less) = c.requires in
-    let (s, at) = there-at policy c.args.place less in
-    (policy, s, noted, c.seen.ensures.seen policy s noted.is at, at)
