@@ -98,3 +98,12 @@ returns-in_default-clause-there g c = λ all s ready have at.
     let named = named-class all s.namespace s.form is c.get-bound.result.now (leads-of p parsed all c.args.i s c.get-bound.result.now ready at c.get-bound.ensures) in
     let led = subst (λ o. IsLead classes all o (leads all classes s.namespace named.the_class.text)) (sym c.last_bound.ensures ∙ c.in_default.is) named.lead in
     sym (ap (are_there all s.namespace) named.named ∙ there-none all s.namespace named.the_class (listed_in s.form) led)
+
+pub overflow_cast-row : goal.overflow_cast-row
+overflow_cast-row g c =
+    let r = c.requires in
+    let m = c.module_of-module.result.now in
+    let of = c.module_of-module.ensures r.0 r.1 r.2 r.3 in
+    let low = subst (λ row. row.index < statement_count m) (row-one c.args.policy.now m c.args.i r.1 c.index.result.now of c.index.ensures).0 of.within in
+    let size = m.rows.ok.0 in
+    omega (arith, low, size)
