@@ -61,9 +61,6 @@ fn place_counts<A: Allocator>(
     ensures { IfOk result (AreCounted (came_at lines.now place) (went_at lines.now place)) }
 {
     let mut counts = ChangeCounts::none();
-    if lines.is_same(past, place) {
-        return Ok(counts);
-    }
     let mut from = 0;
     while let Some(word) = lines.next_turned_word(past, place, from) {
         let was = lines.present_before(past, place, word);
@@ -74,7 +71,7 @@ fn place_counts<A: Allocator>(
     Ok(counts)
 }
 
-/// The same, where the numbers of the place before are told: a place that is alike has these too.
+/// The same, where the numbers of the place before are told: a place that is alike has these too. Of most places nothing has turned.
 fn next_counts<A: Allocator>(
     lines: &KeyedLines<A>,
     past: &Past<A>,
@@ -86,6 +83,9 @@ fn next_counts<A: Allocator>(
         → AreCounted (came_at lines.now (place - 1)) (went_at lines.now (place - 1)) before }
     ensures { IfOk result (AreCounted (came_at lines.now place) (went_at lines.now place)) }
 {
+    if lines.is_same(past, place) {
+        return Ok(ChangeCounts::none());
+    }
     if place > 0 && lines.are_alike(past, place, place - 1) {
         return Ok(before);
     }

@@ -2,13 +2,6 @@ use Rattle.cil_keyed_lines.proofs.ChangeLemmas.{word-behind}
 use Rattle.cil_symbol_changes.proofs.WordCountLemmas.{turned-all, turned-more, turned-none}
 use Rattle.cil_symbol_changes.proofs.counted_changes.place_counts.Goals as goal
 
-pub returns-then-is_same : goal.returns-then-is_same
-returns-then-is_same g c =
-    let lines = c.args.lines.now in
-    let place = c.args.place in
-    let counts = c.none-counts.result in
-    turned-all lines place 0 counts (c.is_same.ensures c.if-is_same.true) (turned-none lines place counts c.none-counts.ensures.added c.none-counts.ensures.removed)
-
 pub loop-word-init : goal.loop-word-init
 loop-word-init g c = turned-none c.args.lines.now c.args.place c.none-counts.result c.none-counts.ensures.added c.none-counts.ensures.removed
 
