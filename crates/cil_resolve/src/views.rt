@@ -82,8 +82,8 @@ pub struct SetView<'r> {
 }
 
 impl<A: Allocator> Resolved<A> {
-    /// The name of a module, by its place.
-    pub(crate) fn module(&self, i: usize) -> &[u8]
+    /// The name of a module, by its place; empty where there is none.
+    pub fn module(&self, i: usize) -> &[u8]
         ensures { result.now ≡ slice_index_or self.now.modules.items i [] }
     {
         match self.modules.get(i) {
