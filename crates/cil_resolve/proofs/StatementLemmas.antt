@@ -1,9 +1,14 @@
 -- Statements of a policy at their places.
-use Rattle.cil_resolve.proofs.Common.{◌≡◌, ℕ, ◌+◌, ◌<◌, zero, suc, List, [], ◌∷◌, ◌++◌, length, get_or, take, map, flat_map, Contains, Some, sym, ap, ◌∙◌, subst, arith, append-nil, none-some, same_Some, slice_get-get_or, slice_get_within, get_or_from_slice_get, take_more, map-append, get_or-map, flat_map-append, Placed, contains-first, contains-other, Row, row-at, IsOf, is-long, row-there, modules_of}
+use Rattle.cil_resolve.proofs.Common.{◌≡◌, ℕ, ◌+◌, ◌<◌, zero, suc, List, [], ◌∷◌, ◌++◌, length, get_or, take, map, flat_map, Contains, Some, sym, ap, ◌∙◌, subst, arith, append-nil, none-some, same_Some, slice_get-get_or, slice_get_within, get_or_from_slice_get, take_more, map-append, get_or-map, flat_map-append, Placed, contains-first, contains-other, Row, row-at, IsOf, is-long, row-there, modules_of, IsIn, IsLowering}
 use Rattle.std.proofs.Common.{slice_get}
 use Rattle.cil_bind.specs.Rows.{IsRow}
 use Rattle.cil_bind.proofs.PositionLemmas.{take-last}
 use Rattle.cil_check.specs.declared.bound.BoundPolicy.{BoundPolicy}
+use Rattle.cil_check.specs.Bound.{IsSeen}
+use Rattle.cil_check.specs.declared.bound.Seen.{Seen}
+use Rattle.cil_parse.specs.Lexicon.{AreNumbersOf}
+use Rattle.cil_parse.specs.Parsed.{names_of}
+use Rattle.cil_resolve.specs.declared.lowering.Lowering.{Lowering}
 
 -- an element at a place
 pub at-place : {X : Type 0} (xs : List X) (i : ℕ) (x : X) → slice_get xs i ≡ Some x → (i < length xs) × Contains xs x
@@ -42,3 +47,8 @@ module-named b policy i row s is at here =
 -- an element that stands at a place
 pub contained : {X : Type 0} (xs : List X) (i : ℕ) (x : X) → slice_get xs i ≡ Some x → Contains xs x
 contained xs i x at = (at-place xs i x at).1
+
+-- what is seen of the statement of a place
+pub seen-in : {A : Type 0} (l : Lowering A) (seen : Seen A) (policy : List Placed) (s : Placed) (i : ℕ) → IsLowering l policy → slice_get policy i ≡ Some s → IsSeen seen policy s
+    → AreNumbersOf l.checker.now.bound.policy.now.names seen.words.now (names_of seen.«module».now) → IsIn l seen policy s
+seen-in l seen policy s i is at shown worded = record { lowering = is; there = contained policy i s at; seen_is = shown; worded = worded }

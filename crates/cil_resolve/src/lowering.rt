@@ -82,11 +82,12 @@ impl<'l, 'p, 'm, A: Allocator + Copy> Lowering<'l, 'p, 'm, A> {
     }
 
     /// The type or the attribute that the statement of a place declares.
-    fn declared(&self, seen: &Seen<'p, 'm, A>, i: usize) -> NumberedName
+    fn declared(&self, i: usize) -> NumberedName
         requires { (policy : List Placed) × IsLowering self.now policy × (i < length policy) }
-        ensures { (policy : List Placed) (s : Placed) → IsIn self.now seen.now policy s → slice_get policy i ≡ Some s → IsTrue (is_numbered s.form)
+        ensures { (policy : List Placed) (s : Placed) → IsLowering self.now policy → slice_get policy i ≡ Some s → IsTrue (is_numbered s.form)
             → IsDeclared (modules_of self.now.checker.now.bound.joined.now) self.now.numbering.now.names.items result s }
     {
+        let seen = self.checker.bound.seen(i);
         NumberedName {
             module: self.module(i),
             at: seen.view.at,
@@ -95,12 +96,12 @@ impl<'l, 'p, 'm, A: Allocator + Copy> Lowering<'l, 'p, 'm, A> {
     }
 
     /// The class that the statement of a place declares.
-    fn class_at(&self, seen: &Seen<'p, 'm, A>, i: u32) -> Result<NumberedClass<A>, AllocError>
+    fn class_at(&self, i: u32) -> Result<NumberedClass<A>, AllocError>
         requires { (policy : List Placed) × IsLowering self.now policy × (i < length policy) }
-        ensures { IfOk result (λ class. (policy : List Placed) (s : Placed) → IsIn self.now seen.now policy s → slice_get policy i ≡ Some s → IsTrue (is_class s.form)
+        ensures { IfOk result (λ class. (policy : List Placed) (s : Placed) → IsLowering self.now policy → slice_get policy i ≡ Some s → IsTrue (is_class s.form)
             → IsClass (modules_of self.now.checker.now.bound.joined.now) self.now.numbering.now.names.items class policy s) }
     {
-        let declared = self.declared(seen, i as usize);
+        let declared = self.declared(i as usize);
         Ok(NumberedClass {
             module: declared.module,
             at: declared.at,
@@ -109,7 +110,8 @@ impl<'l, 'p, 'm, A: Allocator + Copy> Lowering<'l, 'p, 'm, A> {
         })
     }
 
-    /// Takes up what the statement of a place declares or says, but for what it says of a permission set.
+    /// Takes up what the statement of a place declares or says, but for what it says of a permission set. By its kind it is told what of
+    /// it is looked at.
     fn add(
         &self,
         known: &mut KnownPermissions<A>,
@@ -125,20 +127,17 @@ impl<'l, 'p, 'm, A: Allocator + Copy> Lowering<'l, 'p, 'm, A> {
         ensures known { OnOk result ((policy : List Placed) (s : Placed) → IsLowering self.now policy
             → slice_get policy i ≡ Some s → KnowNumbers self.now known.old policy → KnowNumbers self.now known.new policy) }
     {
-        let seen = self.checker.bound.seen(i as usize);
-        match seen.view.kind {
-            StatementKind::TypeName => parts.types.push(self.declared(&seen, i as usize))?,
-            StatementKind::TypeAttribute => {
-                parts.attributes.push(self.declared(&seen, i as usize))?;
-            }
-            StatementKind::Class => parts.classes.push(self.class_at(&seen, i)?)?,
-            StatementKind::TypeAttributeSet => parts.sets.push(self.set(&seen, i as usize)?)?,
+        match self.checker.bound.kind(i as usize) {
+            StatementKind::TypeName => parts.types.push(self.declared(i as usize))?,
+            StatementKind::TypeAttribute => parts.attributes.push(self.declared(i as usize))?,
+            StatementKind::Class => parts.classes.push(self.class_at(i)?)?,
+            StatementKind::TypeAttributeSet => parts.sets.push(self.set(i as usize)?)?,
             StatementKind::Rule(_) | StatementKind::RuleToSelf(_) => {
-                let rule = self.rule_of_class(known, &seen, i as usize)?;
+                let rule = self.rule_of_class(known, i as usize)?;
                 parts.rules.push(rule)?;
             }
             StatementKind::RuleOfSet(_) | StatementKind::RuleToSelfOfSet(_) => {
-                let rule = self.rule_of_set(given, &seen, i as usize)?;
+                let rule = self.rule_of_set(given, i as usize)?;
                 parts.rules.push(rule)?;
             }
             _ => {}

@@ -50,26 +50,44 @@ impl<'l, 'p, 'm, A: Allocator + Copy> Lowering<'l, 'p, 'm, A> {
         }
     }
 
+    /// The numbers of the permissions that the statement of a place names, which are kept for the statements of its module that name the
+    /// same.
+    #[inline(never)]
+    fn kept_permissions(
+        &self,
+        known: &mut KnownPermissions<A>,
+        i: usize,
+    ) -> Result<PermissionNumbers<A>, AllocError>
+        requires { (policy : List Placed) × (s : Placed) × IsLowering self.now policy × (slice_get policy i ≡ Some s) }
+        ensures numbers { IfOk result (λ numbers. (policy : List Placed) (s : Placed) → IsLowering self.now policy → slice_get policy i ≡ Some s
+            → IsTrue (list_all (has_name (listed_names policy)) (texts (permissions_in s.form)))
+            → AreNumbersIn self.now.numbering.now.names.items (texts (permissions_in s.form)) numbers) }
+        ensures known { OnOk result ((policy : List Placed) (s : Placed) → IsLowering self.now policy → slice_get policy i ≡ Some s → KnowNumbers self.now known.old policy
+            → KnowNumbers self.now known.new policy) }
+    {
+        let seen = self.checker.bound.seen(i);
+        let numbers = PermissionNumbers::new(self.alloc, self.permissions(&seen)?)?;
+        known.keep(self.list_place(i), numbers.share()?)?;
+        Ok(numbers)
+    }
+
     /// The numbers of the permissions that the statement of a place names, which it shares with those of its module that name the same.
+    #[inline(always)]
     pub(crate) fn shared_permissions(
         &self,
         known: &mut KnownPermissions<A>,
-        seen: &Seen<'p, 'm, A>,
         i: usize,
     ) -> Result<PermissionNumbers<A>, AllocError>
-        requires { (policy : List Placed) × ((s : Placed) × IsIn self.now seen.now policy s × (slice_get policy i ≡ Some s)) }
-        ensures numbers { IfOk result (λ numbers. (policy : List Placed) (s : Placed) → IsIn self.now seen.now policy s → slice_get policy i ≡ Some s → KnowNumbers self.now known.old policy
+        requires { (policy : List Placed) × (s : Placed) × IsLowering self.now policy × (slice_get policy i ≡ Some s) }
+        ensures numbers { IfOk result (λ numbers. (policy : List Placed) (s : Placed) → IsLowering self.now policy → slice_get policy i ≡ Some s → KnowNumbers self.now known.old policy
             → IsTrue (list_all (has_name (listed_names policy)) (texts (permissions_in s.form)))
             → AreNumbersIn self.now.numbering.now.names.items (texts (permissions_in s.form)) numbers) }
-        ensures known { OnOk result ((policy : List Placed) (s : Placed) → IsIn self.now seen.now policy s → slice_get policy i ≡ Some s → KnowNumbers self.now known.old policy
+        ensures known { OnOk result ((policy : List Placed) (s : Placed) → IsLowering self.now policy → slice_get policy i ≡ Some s → KnowNumbers self.now known.old policy
             → KnowNumbers self.now known.new policy) }
     {
-        let at = self.list_place(i);
-        if let Some(numbers) = known.get(at) {
+        if let Some(numbers) = known.get(self.list_place(i)) {
             return numbers.share();
         }
-        let numbers = PermissionNumbers::new(self.alloc, self.permissions(seen)?)?;
-        known.keep(at, numbers.share()?)?;
-        Ok(numbers)
+        self.kept_permissions(known, i)
     }
 }

@@ -3,7 +3,7 @@
 ghost use Rattle.std.specs.Prelude.{◌≡◌, ◌∷◌, [], List, Some, slice_get, IfOk, OnOk};
 ghost use Rattle.cil_specs.specs.Statements.{ClassPermissions, Target, rule};
 ghost use Rattle.cil_specs.specs.Statements as spec;
-ghost use Rattle.cil_resolve.specs.Common.{Word, Placed, AreRules, IsIn, IsRule, IsRuleOfClass, IsRuleOfSet, IsRuleStart, KnowNumbers, KnowSets, modules_of, rule_if, rule_with};
+ghost use Rattle.cil_resolve.specs.Common.{Word, Placed, AreRules, IsIn, IsLowering, IsRule, IsRuleOfClass, IsRuleOfSet, IsRuleStart, KnowNumbers, KnowSets, modules_of, rule_if, rule_with};
 
 use crate::given_sets::GivenSets;
 use crate::known_permissions::KnownPermissions;
@@ -44,6 +44,7 @@ impl RuleStart {
 
 impl<'l, 'p, 'm, A: Allocator + Copy> Lowering<'l, 'p, 'm, A> {
     /// The rule of a place but for its permissions.
+    #[inline(always)]
     fn rule_start(&self, seen: &Seen<'p, 'm, A>, i: usize) -> RuleStart
         requires { (policy : List Placed) × (s : Placed) × IsIn self.now seen.now policy s
             × (slice_get policy i ≡ Some s) × IsRule s.form }
@@ -75,20 +76,20 @@ impl<'l, 'p, 'm, A: Allocator + Copy> Lowering<'l, 'p, 'm, A> {
     pub(crate) fn rule_of_class(
         &self,
         known: &mut KnownPermissions<A>,
-        seen: &Seen<'p, 'm, A>,
         i: usize,
     ) -> Result<NumberedRule<A>, AllocError>
-        requires { (policy : List Placed) × (s : Placed) × IsIn self.now seen.now policy s
+        requires { (policy : List Placed) × (s : Placed) × IsLowering self.now policy
             × (slice_get policy i ≡ Some s) × IsRuleOfClass s.form }
-        ensures rule { IfOk result (λ rule. (policy : List Placed) (s : Placed) → IsIn self.now seen.now policy s
+        ensures rule { IfOk result (λ rule. (policy : List Placed) (s : Placed) → IsLowering self.now policy
             → slice_get policy i ≡ Some s → IsRuleOfClass s.form → KnowNumbers self.now known.old policy
             → AreRules (modules_of self.now.checker.now.bound.joined.now) self.now.numbering.now.names.items
             policy (rule ∷ []) (rule_if policy s)) }
-        ensures known { OnOk result ((policy : List Placed) (s : Placed) → IsIn self.now seen.now policy s
+        ensures known { OnOk result ((policy : List Placed) (s : Placed) → IsLowering self.now policy
             → slice_get policy i ≡ Some s → KnowNumbers self.now known.old policy → KnowNumbers self.now known.new policy) }
     {
-        let start = self.rule_start(seen, i);
-        let permissions = self.statement_permissions(known, seen, i, start.reference)?;
+        let seen = self.checker.bound.seen(i);
+        let start = self.rule_start(&seen, i);
+        let permissions = self.statement_permissions(known, &seen, i, start.reference)?;
         Ok(start.with(ResolvedPermissions::OfClass(permissions)))
     }
 
@@ -96,18 +97,18 @@ impl<'l, 'p, 'm, A: Allocator + Copy> Lowering<'l, 'p, 'm, A> {
     pub(crate) fn rule_of_set(
         &self,
         given: &GivenSets<A>,
-        seen: &Seen<'p, 'm, A>,
         i: usize,
     ) -> Result<NumberedRule<A>, AllocError>
-        requires { (policy : List Placed) × (s : Placed) × IsIn self.now seen.now policy s
+        requires { (policy : List Placed) × (s : Placed) × IsLowering self.now policy
             × (slice_get policy i ≡ Some s) × IsRuleOfSet s.form }
-        ensures { IfOk result (λ rule. (policy : List Placed) (s : Placed) → IsIn self.now seen.now policy s
+        ensures { IfOk result (λ rule. (policy : List Placed) (s : Placed) → IsLowering self.now policy
             → slice_get policy i ≡ Some s → IsRuleOfSet s.form → KnowSets self.now given.now policy
             → AreRules (modules_of self.now.checker.now.bound.joined.now) self.now.numbering.now.names.items
             policy (rule ∷ []) (rule_if policy s)) }
     {
-        let start = self.rule_start(seen, i);
-        let permissions = given.find(self.number(seen, start.reference))?;
+        let seen = self.checker.bound.seen(i);
+        let start = self.rule_start(&seen, i);
+        let permissions = given.find(self.number(&seen, start.reference))?;
         Ok(start.with(ResolvedPermissions::OfSet(permissions)))
     }
 }

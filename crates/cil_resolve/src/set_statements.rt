@@ -1,7 +1,7 @@
 //! Set statements by the numbers of their names.
 
-ghost use Rattle.std.specs.Prelude.{◌≡◌, ◌<◌, ◌∷◌, [], List, Some, map, length, slice_get, IfOk};
-ghost use Rattle.cil_resolve.specs.Common.{Word, WordExpr, leaves, map_leaves, attribute_set, Placed, types, leads, IsIn, AreElements, IsSet, IsExpression, AreSets, modules_of, set_if, number_in};
+ghost use Rattle.std.specs.Prelude.{◌≡◌, ◌∷◌, [], List, Some, map, slice_get, IfOk};
+ghost use Rattle.cil_resolve.specs.Common.{Word, WordExpr, leaves, map_leaves, attribute_set, Placed, types, leads, IsIn, IsLowering, AreElements, IsSet, IsExpression, AreSets, modules_of, set_if, number_in};
 ghost use Rattle.cil_specs.specs.Rule.{element_of as element_led, name_or_none};
 
 use crate::lowering::Lowering;
@@ -53,16 +53,17 @@ impl<'l, 'p, 'm, A: Allocator + Copy> Lowering<'l, 'p, 'm, A> {
     }
 
     /// The set statement of a place.
-    pub(crate) fn set(&self, seen: &Seen<'p, 'm, A>, i: usize) -> Result<NumberedSet<A>, AllocError>
-        requires { (policy : List Placed) × (s : Placed) × IsIn self.now seen.now policy s × IsSet s.form × (i < length policy) }
-        ensures { IfOk result (λ set. (policy : List Placed) (s : Placed) (attribute : Word) (expr : WordExpr) → IsIn self.now seen.now policy s → slice_get policy i ≡ Some s → s.form ≡ attribute_set attribute expr
+    pub(crate) fn set(&self, i: usize) -> Result<NumberedSet<A>, AllocError>
+        requires { (policy : List Placed) × (s : Placed) × IsLowering self.now policy × (slice_get policy i ≡ Some s) × IsSet s.form }
+        ensures { IfOk result (λ set. (policy : List Placed) (s : Placed) (attribute : Word) (expr : WordExpr) → IsLowering self.now policy → slice_get policy i ≡ Some s → s.form ≡ attribute_set attribute expr
             → AreSets (modules_of self.now.checker.now.bound.joined.now) self.now.numbering.now.names.items (set ∷ []) (set_if policy s)) }
     {
+        let seen = self.checker.bound.seen(i);
         Ok(NumberedSet {
             module: self.module(i),
             at: seen.view.at,
-            attribute: self.attribute(seen),
-            expression: self.set_expression(seen)?,
+            attribute: self.attribute(&seen),
+            expression: self.set_expression(&seen)?,
         })
     }
 }

@@ -4,7 +4,7 @@ ghost use Rattle.std.specs.Prelude.{◌≡◌, ◌==◌, ℕ, not, filter, List,
 ghost use Rattle.cil_specs.specs.Rule.{class_name};
 ghost use Rattle.cil_parse.specs.Forms.{is_plain};
 ghost use Rattle.cil_expression.specs.Expression.{expr_in};
-ghost use Rattle.cil_resolve.specs.Common.{Word, WordExpr, Placed, holds_by, IsIn, NamesPermissions, WritesPermissions, IsSpeltBy, ArePermissions, KnowNumbers};
+ghost use Rattle.cil_resolve.specs.Common.{Word, WordExpr, Placed, holds_by, IsIn, IsLowering, NamesPermissions, WritesPermissions, IsSpeltBy, ArePermissions, KnowNumbers};
 ghost use Rattle.cil_resolve.specs.Numbers.{written_in, is_no_list};
 
 use crate::known_permissions::KnownPermissions;
@@ -102,7 +102,22 @@ impl<'l, 'p, 'm, A: Allocator + Copy> Lowering<'l, 'p, 'm, A> {
         Ok(permissions)
     }
 
+    /// The permissions of the statement of a place, which are no plain list, and whose class is the reference of a number. Few statements
+    /// have such permissions, so they are looked at anew.
+    #[inline(never)]
+    fn written_at(&self, i: usize, k: usize) -> Result<NumberedPermissions<A>, AllocError>
+        requires { (policy : List Placed) × (s : Placed) × (the_class : Word) × (permissions : WordExpr)
+            × IsLowering self.now policy × (slice_get policy i ≡ Some s) × WritesPermissions s.form k the_class permissions }
+        ensures { IfOk result (λ p. (policy : List Placed) (s : Placed) (the_class : Word) (permissions : WordExpr)
+            → IsLowering self.now policy → slice_get policy i ≡ Some s → WritesPermissions s.form k the_class permissions
+            → ArePermissions self.now.numbering.now.names.items policy (class_name policy s.namespace the_class) permissions p) }
+    {
+        let seen = self.checker.bound.seen(i);
+        self.written_permissions(&seen, k)
+    }
+
     /// The permissions of the statement of a place, whose class is the reference of a number.
+    #[inline(always)]
     pub(crate) fn statement_permissions(
         &self,
         known: &mut KnownPermissions<A>,
@@ -120,11 +135,11 @@ impl<'l, 'p, 'm, A: Allocator + Copy> Lowering<'l, 'p, 'm, A> {
             → slice_get policy i ≡ Some s → KnowNumbers self.now known.old policy → KnowNumbers self.now known.new policy) }
     {
         if !seen.view.nodes.is_empty() {
-            return self.written_permissions(seen, k);
+            return self.written_at(i, k);
         }
         Ok(NumberedPermissions {
             class: self.number(seen, k),
-            given: self.shared_permissions(known, seen, i)?,
+            given: self.shared_permissions(known, i)?,
             written: None,
         })
     }

@@ -1,23 +1,21 @@
-use Rattle.cil_resolve.proofs.Common.{inl, inr, ◌∙◌, ◌∷◌, [], length, true, refl, sym, ap, if◌then◌else◌, types, declared_in, declared_as, class_as, first_true, seen-kind, there-at, form-set, is_name_below, is_class_below, is_set_below, numbered_id, is_numbered, IsIn, modules_of, type_if, attribute_if, class_if, set_if, declared_of, class_of, set_of}
+use Rattle.cil_resolve.proofs.Common.{inl, inr, ◌∙◌, ◌∷◌, [], length, true, refl, sym, ap, if◌then◌else◌, types, declared_in, declared_as, class_as, first_true, there-at, form-set, is_name_below, is_class_below, is_set_below, numbered_id, is_numbered, modules_of, type_if, attribute_if, class_if, set_if, declared_of, class_of, set_of}
 use Rattle.cil_parse.specs.declared.row.StatementKind.TheVariants as kinds
 use Rattle.cil_specs.proofs.CircularLemmas.{attribute-word}
 use Rattle.cil_check.specs.Kinds.{is_rule_of_set}
 use Rattle.cil_resolve.proofs.ElementLemmas.{type-form}
 use Rattle.cil_resolve.proofs.FormLemmas.{form-of-class, form-of-set, is_of_class}
 use Rattle.cil_resolve.proofs.PartLemmas.{declared-made, of-kind, is_rule_kind, no-type-kind, no-attribute-kind, no-class-kind, no-set-kind, no-rule-kind, adds-none, adds-one, type-added, attribute-added, class-added, parts-more, rules-stay, with-none, with-rule}
-use Rattle.cil_resolve.proofs.StatementLemmas.{contained}
 use Rattle.cil_resolve.proofs.lowering.Lowering.add.Goals as goal
 
 pub set-requires : goal.set-requires
 set-requires g c =
     let (policy, is, low) = c.requires in
-    let (s, at) = there-at policy c.args.i low in
-    let seen = c.seen-seen.ensures.seen policy s is.noted.is at in (
+    let (s, at) = there-at policy c.args.i low in (
       policy,
       s,
-      record { lowering = is; there = contained policy c.args.i s at; seen_is = seen; worded = c.seen-seen.ensures.worded policy is.noted.is },
-      form-set s.form (sym (seen-kind c.seen-seen.result policy s seen) ∙ c.in-TypeAttributeSet.is),
-      low,
+      is,
+      at,
+      form-set s.form (sym (c.kind.ensures policy s is.noted.is at) ∙ c.in-TypeAttributeSet.is),
     )
 
 pub returns-in_ok-push-in-TypeName-clause-parts : goal.returns-in_ok-push-in-TypeName-clause-parts
@@ -25,12 +23,10 @@ returns-in_ok-push-in-TypeName-clause-parts g c policy statements s is at knows 
     let modules = modules_of c.args.self.now.checker.now.bound.joined.now in
     let names = c.args.self.now.numbering.now.names.items in
     let parts = c.args.parts.now in
-    let seen = c.seen-seen.ensures.seen policy s is.noted.is at in
-    let is_in : IsIn c.args.self.now c.seen-seen.result policy s = record { lowering = is; there = contained policy c.args.i s at; seen_is = seen; worded = c.seen-seen.ensures.worded policy is.noted.is } in
-    let kind = of-kind policy s kinds.TypeName (sym (seen-kind c.seen-seen.result policy s seen) ∙ c.in-TypeName.is) in
+    let kind = of-kind policy s kinds.TypeName (sym (c.kind.ensures policy s is.noted.is at) ∙ c.in-TypeName.is) in
     let (id, form) = type-form s.form kind.type in
     let d = c.declared.result in
-    let made = declared-made modules names d s id (c.declared.ensures policy s is_in at (ap is_numbered form)) (ap numbered_id form) (ap (declared_in types) form) in
+    let made = declared-made modules names d s id (c.declared.ensures policy s is at (ap is_numbered form)) (ap numbered_id form) (ap (declared_in types) form) in
     parts-more modules names policy statements s parts _ so_far refl (adds-one d c.in_ok-push-in-TypeName.ensures.items (type-added s kind.type ∙ ap (λ x. x ∷ []) (sym made.0)) made.1)
     (adds-none (attribute-added s kind.attribute)) (adds-none (class-added policy s kind.a_class)) (adds-none (kind.no_set refl)) (rules-stay modules names policy parts.rules.items statements s so_far.rules_are (kind.no_rule refl))
 
@@ -39,12 +35,10 @@ returns-in_ok-push-in-TypeAttribute-clause-parts g c policy statements s is at k
     let modules = modules_of c.args.self.now.checker.now.bound.joined.now in
     let names = c.args.self.now.numbering.now.names.items in
     let parts = c.args.parts.now in
-    let seen = c.seen-seen.ensures.seen policy s is.noted.is at in
-    let is_in : IsIn c.args.self.now c.seen-seen.result policy s = record { lowering = is; there = contained policy c.args.i s at; seen_is = seen; worded = c.seen-seen.ensures.worded policy is.noted.is } in
-    let kind = of-kind policy s kinds.TypeAttribute (sym (seen-kind c.seen-seen.result policy s seen) ∙ c.in-TypeAttribute.is) in
+    let kind = of-kind policy s kinds.TypeAttribute (sym (c.kind.ensures policy s is.noted.is at) ∙ c.in-TypeAttribute.is) in
     let (id, form) = attribute-word s.form kind.attribute in
     let d = c.declared-in-TypeAttribute.result in
-    let made = declared-made modules names d s id (c.declared-in-TypeAttribute.ensures policy s is_in at (ap is_numbered form)) (ap numbered_id form) (ap (declared_in types) form) in
+    let made = declared-made modules names d s id (c.declared-in-TypeAttribute.ensures policy s is at (ap is_numbered form)) (ap numbered_id form) (ap (declared_in types) form) in
     parts-more modules names policy statements s parts _ so_far refl (adds-none (type-added s kind.type)) (adds-one d c.in_ok-push-in-TypeAttribute.ensures.items (attribute-added s kind.attribute ∙ ap (λ x. x ∷ []) (sym made.0)) made.1)
     (adds-none (class-added policy s kind.a_class)) (adds-none (kind.no_set refl)) (rules-stay modules names policy parts.rules.items statements s so_far.rules_are (kind.no_rule refl))
 
@@ -53,10 +47,8 @@ returns-in_ok-push-in-Class-clause-parts g c policy statements s is at knows set
     let modules = modules_of c.args.self.now.checker.now.bound.joined.now in
     let names = c.args.self.now.numbering.now.names.items in
     let parts = c.args.parts.now in
-    let seen = c.seen-seen.ensures.seen policy s is.noted.is at in
-    let is_in : IsIn c.args.self.now c.seen-seen.result policy s = record { lowering = is; there = contained policy c.args.i s at; seen_is = seen; worded = c.seen-seen.ensures.worded policy is.noted.is } in
-    let kind = of-kind policy s kinds.Class (sym (seen-kind c.seen-seen.result policy s seen) ∙ c.in-Class.is) in
-    let made = c.in_ok-class_at-in-Class.ensures policy s is_in at kind.a_class in
+    let kind = of-kind policy s kinds.Class (sym (c.kind.ensures policy s is.noted.is at) ∙ c.in-Class.is) in
+    let made = c.in_ok-class_at-in-Class.ensures policy s is at kind.a_class in
     let x = c.in_ok-class_at-in-Class.field-0 in
     parts-more modules names policy statements s parts _ so_far refl (adds-none (type-added s kind.type)) (adds-none (attribute-added s kind.attribute))
     (adds-one x c.in_ok-push-in-Class.ensures.items (class-added policy s kind.a_class ∙ ap (λ y. y ∷ []) (sym made.is)) made.below) (adds-none (kind.no_set refl))
@@ -67,13 +59,11 @@ returns-in_ok-push-in-TypeAttributeSet-clause-parts g c policy statements s is a
     let modules = modules_of c.args.self.now.checker.now.bound.joined.now in
     let names = c.args.self.now.numbering.now.names.items in
     let parts = c.args.parts.now in
-    let seen = c.seen-seen.ensures.seen policy s is.noted.is at in
-    let is_in : IsIn c.args.self.now c.seen-seen.result policy s = record { lowering = is; there = contained policy c.args.i s at; seen_is = seen; worded = c.seen-seen.ensures.worded policy is.noted.is } in
-    let is_kind = sym (seen-kind c.seen-seen.result policy s seen) ∙ c.in-TypeAttributeSet.is in
+    let is_kind = sym (c.kind.ensures policy s is.noted.is at) ∙ c.in-TypeAttributeSet.is in
     let kind = of-kind policy s kinds.TypeAttributeSet is_kind in
     let (attribute, expr, form) = form-set s.form is_kind in
     let x = c.in_ok-set-in-TypeAttributeSet.field-0 in
-    let made = c.in_ok-set-in-TypeAttributeSet.ensures policy s attribute expr is_in at form in
+    let made = c.in_ok-set-in-TypeAttributeSet.ensures policy s attribute expr is at form in
     parts-more modules names policy statements s parts _ so_far refl (adds-none (type-added s kind.type)) (adds-none (attribute-added s kind.attribute)) (adds-none (class-added policy s kind.a_class))
     (record { added = x ∷ []; pushed = c.in_ok-push-in-TypeAttributeSet.ensures.items; are = made.is; fit = made.below }) (rules-stay modules names policy parts.rules.items statements s so_far.rules_are (kind.no_rule refl))
 
@@ -81,11 +71,10 @@ pub rule_of_class-requires : goal.rule_of_class-requires
 rule_of_class-requires g c =
     let (policy, is, low) = c.requires in
     let (s, at) = there-at policy c.args.i low in
-    let seen = c.seen-seen.ensures.seen policy s is.noted.is at in
-    let kind = sym (seen-kind c.seen-seen.result policy s seen) in (
+    let kind = sym (c.kind.ensures policy s is.noted.is at) in (
       policy,
       s,
-      record { lowering = is; there = contained policy c.args.i s at; seen_is = seen; worded = c.seen-seen.ensures.worded policy is.noted.is },
+      is,
       at,
       form-of-class s.form (ap is_of_class kind ∙ elim c.in-Rule.is [ inl e ↦ ap is_of_class e.1 | inr e ↦ ap is_of_class e.1 ]),
     )
@@ -94,11 +83,10 @@ pub rule_of_set-requires : goal.rule_of_set-requires
 rule_of_set-requires g c =
     let (policy, is, low) = c.requires in
     let (s, at) = there-at policy c.args.i low in
-    let seen = c.seen-seen.ensures.seen policy s is.noted.is at in
-    let kind = sym (seen-kind c.seen-seen.result policy s seen) in (
+    let kind = sym (c.kind.ensures policy s is.noted.is at) in (
       policy,
       s,
-      record { lowering = is; there = contained policy c.args.i s at; seen_is = seen; worded = c.seen-seen.ensures.worded policy is.noted.is },
+      is,
       at,
       form-of-set s.form (ap is_rule_of_set kind ∙ elim c.in-RuleOfSet.is [ inl e ↦ ap is_rule_of_set e.1 | inr e ↦ ap is_rule_of_set e.1 ]),
     )
@@ -107,35 +95,30 @@ pub returns-in_ok-push-in-Rule-clause-parts : goal.returns-in_ok-push-in-Rule-cl
 returns-in_ok-push-in-Rule-clause-parts g c policy statements s is at knows sets so_far =
     let modules = modules_of c.args.self.now.checker.now.bound.joined.now in
     let names = c.args.self.now.numbering.now.names.items in
-    let seen = c.seen-seen.ensures.seen policy s is.noted.is at in
-    let is_in : IsIn c.args.self.now c.seen-seen.result policy s = record { lowering = is; there = contained policy c.args.i s at; seen_is = seen; worded = c.seen-seen.ensures.worded policy is.noted.is } in
-    let kind = sym (seen-kind c.seen-seen.result policy s seen) in
+    let kind = sym (c.kind.ensures policy s is.noted.is at) in
     let rule = form-of-class s.form (ap is_of_class kind ∙ elim c.in-Rule.is [ inl e ↦ ap is_of_class e.1 | inr e ↦ ap is_of_class e.1 ]) in
     with-rule modules names policy statements s c.args.parts.now _ c.in_ok-rule-in-Rule.rule (ap is_rule_kind kind ∙ elim c.in-Rule.is [ inl e ↦ ap is_rule_kind e.1 | inr e ↦ ap is_rule_kind e.1 ]) so_far
-    c.in_ok-push-in-Rule.ensures.items (c.in_ok-rule-in-Rule.ensures.rule policy s is_in at rule knows)
+    c.in_ok-push-in-Rule.ensures.items (c.in_ok-rule-in-Rule.ensures.rule policy s is at rule knows)
 
 pub returns-in_ok-push-in-RuleOfSet-clause-parts : goal.returns-in_ok-push-in-RuleOfSet-clause-parts
 returns-in_ok-push-in-RuleOfSet-clause-parts g c policy statements s is at knows sets so_far =
     let modules = modules_of c.args.self.now.checker.now.bound.joined.now in
     let names = c.args.self.now.numbering.now.names.items in
-    let seen = c.seen-seen.ensures.seen policy s is.noted.is at in
-    let is_in : IsIn c.args.self.now c.seen-seen.result policy s = record { lowering = is; there = contained policy c.args.i s at; seen_is = seen; worded = c.seen-seen.ensures.worded policy is.noted.is } in
-    let kind = sym (seen-kind c.seen-seen.result policy s seen) in
+    let kind = sym (c.kind.ensures policy s is.noted.is at) in
     let rule = form-of-set s.form (ap is_rule_of_set kind ∙ elim c.in-RuleOfSet.is [ inl e ↦ ap is_rule_of_set e.1 | inr e ↦ ap is_rule_of_set e.1 ]) in
     with-rule modules names policy statements s c.args.parts.now _ c.in_ok-rule-in-RuleOfSet.rule (ap is_rule_kind kind ∙ elim c.in-RuleOfSet.is [ inl e ↦ ap is_rule_kind e.1 | inr e ↦ ap is_rule_kind e.1 ]) so_far
-    c.in_ok-push-in-RuleOfSet.ensures.items (c.in_ok-rule-in-RuleOfSet.ensures policy s is_in at rule sets)
+    c.in_ok-push-in-RuleOfSet.ensures.items (c.in_ok-rule-in-RuleOfSet.ensures policy s is at rule sets)
 
 pub returns-in_default-clause-parts : goal.returns-in_default-clause-parts
 returns-in_default-clause-parts g c policy statements s is at knows sets so_far =
     let modules = modules_of c.args.self.now.checker.now.bound.joined.now in
     let names = c.args.self.now.numbering.now.names.items in
-    let kind = c.seen-seen.result.view.kind in
+    let kind = c.kind.result in
     let other = c.in_default in
-    with-none modules names policy statements s c.args.parts.now kind (sym (seen-kind c.seen-seen.result policy s (c.seen-seen.ensures.seen policy s is.noted.is at))) (no-type-kind kind other.not-TypeName)
+    with-none modules names policy statements s c.args.parts.now kind (sym (c.kind.ensures policy s is.noted.is at)) (no-type-kind kind other.not-TypeName)
     (no-attribute-kind kind other.not-TypeAttribute) (no-class-kind kind other.not-Class) (no-set-kind kind other.not-TypeAttributeSet)
     (no-rule-kind kind other.not-Rule other.not-RuleToSelf other.not-RuleOfSet other.not-RuleToSelfOfSet) so_far
 
 pub returns-in_ok-push-in-Rule-clause-known : goal.returns-in_ok-push-in-Rule-clause-known
 returns-in_ok-push-in-Rule-clause-known g c policy s is at knows =
-    c.in_ok-rule-in-Rule.ensures.known policy s
-    (record { lowering = is; there = contained policy c.args.i s at; seen_is = c.seen-seen.ensures.seen policy s is.noted.is at; worded = c.seen-seen.ensures.worded policy is.noted.is }) at knows
+    c.in_ok-rule-in-Rule.ensures.known policy s is at knows
