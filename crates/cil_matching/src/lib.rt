@@ -3,6 +3,7 @@
 
 mod inverse;
 mod name_numbers;
+mod numbers;
 mod passed_over;
 mod positions;
 mod rule_matching;

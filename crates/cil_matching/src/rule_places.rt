@@ -8,6 +8,7 @@ ghost use Rattle.cil_specs.specs.Rule.{Rule};
 ghost use Rattle.cil_specs.specs.Violations.{rule_cmp};
 
 use crate::name_numbers::name_numbers;
+use crate::numbers::Numbers;
 use crate::same_content::is_same_content;
 use cil_resolve::Resolved;
 use std::alloc::{AllocError, Allocator};
@@ -112,7 +113,7 @@ fn find_rule<A: Allocator>(
 
 /// The place in the new policy of the same rule, where this one stands at its position.
 fn same<A: Allocator>(
-    numbers: &[Option<usize>],
+    numbers: &Numbers<'_>,
     old: &Resolved<A>,
     i: usize,
     new: &Resolved<A>,
@@ -127,7 +128,8 @@ fn same<A: Allocator>(
 }
 
 /// For each rule of the old policy the place of the same one in the new one, if that has it. The rules of both stand in order, so it goes
-/// along them once.
+/// along them once. It isn't inlined, so that its loop has the registers for itself.
+#[inline(never)]
 pub fn rule_places<A: Allocator + Copy>(
     alloc: A,
     old: &Resolved<A>,
@@ -135,7 +137,8 @@ pub fn rule_places<A: Allocator + Copy>(
 ) -> Result<Vec<Option<usize>, A>, AllocError>
     ensures { IfOk result (λ places. ArePlaces IsSameRule (meaning_in old.now).rules (meaning_in new.now).rules (length (meaning_in old.now).rules) places.items) }
 {
-    let numbers = name_numbers(alloc, old, new)?;
+    let list = name_numbers(alloc, old, new)?;
+    let numbers = Numbers::of(&list);
     let mut places = Vec::with_capacity(alloc, old.rules_len())?;
     let mut known = None;
     let mut from = 0;

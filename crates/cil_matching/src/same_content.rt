@@ -6,22 +6,13 @@ ghost use Rattle.cil_expression.specs.Same.{all_same, are_same};
 ghost use Rattle.cil_resolve.specs.Numbers.{is_no_list, is_no_list_with, keeps_no_list};
 ghost use Rattle.cil_matching.specs.Content.{is_number_of, is_element_by, is_target_by, is_head_by, is_written_by, are_permissions_by, SayTheSame};
 
+use crate::numbers::{Numbers, is_number};
 use cil_expression::{Element, Expression};
 use cil_resolve::{NumberedPermissions, NumberedRule, ResolvedPermissions, ResolvedTarget};
 use std::alloc::Allocator;
 
-/// Whether a name of the old policy has this number in the new one.
-fn is_number(numbers: &[Option<usize>], a: usize, b: usize) -> bool
-    ensures { result ≡ is_number_of numbers.now a b }
-{
-    match numbers.get(a) {
-        Some(Some(number)) => *number == b,
-        _ => false,
-    }
-}
-
 /// Whether two numbers lead to types of one name, or to attributes of one name.
-fn is_element(numbers: &[Option<usize>], x: Element, y: Element) -> bool
+fn is_element(numbers: &Numbers<'_>, x: Element, y: Element) -> bool
     ensures { result ≡ is_element_by numbers.now x y }
 {
     match (x, y) {
@@ -34,7 +25,7 @@ fn is_element(numbers: &[Option<usize>], x: Element, y: Element) -> bool
 }
 
 /// Whether two targets are the same.
-fn is_target(numbers: &[Option<usize>], x: ResolvedTarget, y: ResolvedTarget) -> bool
+fn is_target(numbers: &Numbers<'_>, x: ResolvedTarget, y: ResolvedTarget) -> bool
     ensures { result ≡ is_target_by numbers.now x y }
 {
     match (x, y) {
@@ -46,7 +37,7 @@ fn is_target(numbers: &[Option<usize>], x: ResolvedTarget, y: ResolvedTarget) ->
 
 /// Whether two rules say the same but for their permissions.
 fn is_same_head<A: Allocator>(
-    numbers: &[Option<usize>],
+    numbers: &Numbers<'_>,
     rule: &NumberedRule<A>,
     other: &NumberedRule<A>,
 ) -> bool
@@ -59,7 +50,7 @@ fn is_same_head<A: Allocator>(
 }
 
 /// Whether as many permissions are the same, in their order.
-fn is_same_list(numbers: &[Option<usize>], permissions: &[usize], others: &[usize]) -> bool
+fn is_same_list(numbers: &Numbers<'_>, permissions: &[usize], others: &[usize]) -> bool
     ensures { result ≡ all_same (is_number_of numbers.now) permissions.now others.now }
 {
     if permissions.len() != others.len() {
@@ -73,9 +64,10 @@ fn is_same_list(numbers: &[Option<usize>], permissions: &[usize], others: &[usiz
     true
 }
 
-/// Whether two expressions of permissions are the same.
+/// Whether two expressions of permissions are the same. Few are asked for, so it isn't inlined where plain lists are compared.
+#[inline(never)]
 fn is_same_expression<A: Allocator>(
-    numbers: &[Option<usize>],
+    numbers: &Numbers<'_>,
     expression: &Expression<usize, A>,
     other: &Expression<usize, A>,
 ) -> bool
@@ -92,7 +84,7 @@ fn is_same_expression<A: Allocator>(
 
 /// Whether permissions of a class are written the same. Those that keep no expression are a plain list, and none that keep one are.
 fn are_written_same<A: Allocator>(
-    numbers: &[Option<usize>],
+    numbers: &Numbers<'_>,
     permissions: &NumberedPermissions<A>,
     other: &NumberedPermissions<A>,
 ) -> bool
@@ -113,7 +105,7 @@ fn are_written_same<A: Allocator>(
 
 /// Whether the permissions of two rules are the same: of one class and written the same, or those of one permission set.
 fn are_same_permissions<A: Allocator>(
-    numbers: &[Option<usize>],
+    numbers: &Numbers<'_>,
     permissions: &ResolvedPermissions<A>,
     other: &ResolvedPermissions<A>,
 ) -> bool
@@ -133,9 +125,11 @@ fn are_same_permissions<A: Allocator>(
     }
 }
 
-/// Whether a rule of the old policy says what one of the new policy says, by the numbers that the new policy gives the old one's names.
+/// Whether a rule of the old policy says what one of the new policy says, by the numbers that the new policy gives the old one's names. It
+/// isn't inlined, so that its loop over permissions has the registers for itself.
+#[inline(never)]
 pub fn is_same_content<A: Allocator>(
-    numbers: &[Option<usize>],
+    numbers: &Numbers<'_>,
     rule: &NumberedRule<A>,
     other: &NumberedRule<A>,
 ) -> bool
