@@ -4,8 +4,8 @@
 # cil_trials; the building takes two to three minutes.
 #
 # `rt try` makes the program as LLVM's bitcode, with checks of overflows, indexes and addresses in it. Here it runs from a folder with a
-# compiler in place of the kit's that keeps the bitcode. Out of this the checks are taken, since the proofs make them needless, and it is
-# compiled as a proved program is. A program that isn't proved may do anything, so it is for measuring alone.
+# compiler in place of the kit's that keeps the bitcode. Out of this the checks are taken, since the proofs make them needless, the hints
+# on inlining that it leaves out are put in, and it is compiled as a proved program is. A program that isn't proved may do anything, so it is for measuring alone.
 set -eu
 out=$(realpath -m "$1")
 crate=${2:-cilsem}
@@ -39,6 +39,6 @@ module=$(ls -S "$folder"/kept/*.bc 2> "$folder/known" | head -n 1)
 [ -n "$module" ] || { cat "$folder/told"; exit 1; }
 clang="$kit/toolchain/bin/clang --target=x86_64-unknown-linux-gnu --no-default-config"
 $clang -S -emit-llvm -O0 -x ir "$module" -o "$folder/checked.ll"
-python3 bench/unchecked.py < "$folder/checked.ll" > "$folder/module.ll"
+python3 bench/unchecked.py < "$folder/checked.ll" | python3 bench/hinted.py crates/* "$kit"/rattle/* > "$folder/module.ll"
 $clang --sysroot="$kit/toolchain" -march=x86-64-v2 -O3 -fPIE -ffunction-sections -fdata-sections -c -x ir "$folder/module.ll" -o "$folder/module.o"
 "$kit/bin/rattle-link" --target x86_64-unknown-linux-gnu --toolchain "$kit/toolchain" -o "$out" "$folder/module.o" "$kit"/c/libos_c.a "$kit"/c/liblibc_c.a > "$folder/told" 2>&1 || { cat "$folder/told"; exit 1; }
