@@ -1,5 +1,5 @@
 -- Bits of words.
-use Rattle.cil_member_updates.proofs.Common.{◌≡◌, ◌≢◌, ◌==◌, ◌+◌, ◌*◌, ◌/◌, ◌%◌, ◌^◌, ◌<◌, ◌≤◌, ◌&&◌, ℕ, Bool, true, false, bit_and, bit_or, nat_lt, refl, sym, ap, ◌∙◌, inl, inr, arith, w64, below_more, cases_lt, eq-eqb, ne_eqb, le-ltb, shr_and_one, bit_at_and, bit_at_or, bit_at_set_same, bit_at-lt, bit_at-pow_same, bit_at-pow_other, bit_at-zero, and-false, bit_at, IsPresence, one_if, differ, AreBits, Cover}
+use Rattle.cil_member_updates.proofs.Common.{◌≡◌, ◌≢◌, ◌==◌, ◌+◌, ◌*◌, ◌/◌, ◌%◌, ◌^◌, ◌<◌, ◌≤◌, ◌&&◌, ℕ, Bool, true, false, bit_and, bit_or, nat_lt, refl, sym, ap, ◌∙◌, inl, inr, arith, w64, below_more, cases_lt, eq-eqb, ne_eqb, le-ltb, shr_and_one, bit_at_and, bit_at_or, bit_at_set_same, bit_at-lt, bit_at-pow_same, bit_at-pow_other, bit_at-zero, and-false, bit_at, IsPresence, one_if, differ, AreBits, Cover, CoverAmong}
 
 pub cover-first : (test : ℕ → Bool) (word one other : ℕ) → Cover test word one → Cover test word (bit_or one other)
 cover-first test word one other covers b within none = covers b within (omega (arith, none, bit_at_or one other b))
@@ -90,13 +90,14 @@ pub set-among : (bits among b : ℕ) → bit_at (bit_and bits among) b ≡ 1 →
 set-among bits among b set = omega (arith, set, bit_at_and bits among b, bit_at-lt bits b, bit_at-lt among b)
 
 -- two tests differ where bits are set that cover this, among those where one of the two may hold
-pub cover-either : (was is : ℕ → Bool) (word bits one other : ℕ) → Cover (λ t. differ (was t) (is t)) word bits → Cover was word one → Cover is word other
+pub cover-either : (was is : ℕ → Bool) (word bits one other : ℕ) → Cover (λ t. differ (was t) (is t)) word bits → CoverAmong bits was word one → CoverAmong bits is word other
     → Cover (λ t. differ (was t) (is t)) word (bit_and bits (bit_or one other))
 cover-either was is word bits one other differs covers_was covers_is b within none = elim (cases_lt 0 (bit_at bits b)) [
   | inl some ↦
       let either : bit_at (bit_or one other) b ≡ 0 = omega (arith, some, none, bit_at_and bits (bit_or one other) b) in
-      let not_was : was (64 * word + b) ≡ false = covers_was b within (omega (arith, either, bit_at_or one other b)) in
-      let not_is : is (64 * word + b) ≡ false = covers_is b within (omega (arith, either, bit_at_or one other b)) in
+      let set : bit_at bits b ≡ 1 = omega (arith, some, bit_at-lt bits b) in
+      let not_was : was (64 * word + b) ≡ false = covers_was b within set (omega (arith, either, bit_at_or one other b)) in
+      let not_is : is (64 * word + b) ≡ false = covers_is b within set (omega (arith, either, bit_at_or one other b)) in
       ap (λ w. differ w (is (64 * word + b))) not_was ∙ not_is
   | inr clear ↦ differs b within (omega (arith, clear))
 ]

@@ -4,7 +4,7 @@ pub use Rattle.cil_lines.specs.Line.{IsPresence, hit}
 pub use Rattle.cil_matching.specs.Matching.{AreMatched, AreSameAt, Matched}
 pub use Rattle.cil_member_rows.specs.Rows.{count_before, count_now}
 pub use Rattle.cil_member_rows.specs.Words.{IsOutside}
-pub use Rattle.cil_member_updates.specs.Bits.{AreBits, AreHeld, Cover}
+pub use Rattle.cil_member_updates.specs.Bits.{AreBits, AreHeld, Cover, CoverAmong}
 pub use Rattle.cil_member_updates.specs.Counts.{gives_count, gives_member, one_if}
 pub use Rattle.cil_member_updates.specs.Evaluated.{AreUnsettledAt, Comes, Goes, HasTurned, InWord, IsHeld, IsKept, IsMovedAt, IsTurnedAt, IsUnsettled, MayGo, MayTurn, is_asked}
 pub use Rattle.cil_member_updates.specs.Given.{IsUnchanged, Tell, gives, of_name}

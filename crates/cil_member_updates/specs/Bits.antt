@@ -11,6 +11,10 @@ AreBits test word bits = (b : ℕ) → b < 64 → bit_at bits b ≡ one_if (test
 abbrev pub Cover : (ℕ → Bool) → ℕ → ℕ → Type 0
 Cover test word bits = (b : ℕ) → b < 64 → bit_at bits b ≡ 0 → test (64 * word + b) ≡ false
 
+-- a test fails at each symbol of a word that has a bit among some bits and none among others
+abbrev pub CoverAmong : ℕ → (ℕ → Bool) → ℕ → ℕ → Type 0
+CoverAmong among test word bits = (b : ℕ) → b < 64 → bit_at among b ≡ 1 → bit_at bits b ≡ 0 → test (64 * word + b) ≡ false
+
 -- the bits tell at which symbols of a word a test holds, among those of some bits
 abbrev pub AreHeld : ℕ → (ℕ → Bool) → ℕ → ℕ → Type 0
 AreHeld visits test word mask = (b : ℕ) → b < 64 → bit_at mask b ≡ one_if ((bit_at visits b == 1) && test (64 * word + b))

@@ -1,7 +1,7 @@
 -- The names from elsewhere that this crate's contracts cite most, passed on from one place.
 pub use Rattle.cil_member_rows.specs.Rows.{count_before, count_now, rows_in}
 pub use Rattle.cil_member_rows.specs.Words.{IsOutside}
-pub use Rattle.cil_member_updates.specs.Bits.{AreHeld, Cover}
+pub use Rattle.cil_member_updates.specs.Bits.{AreHeld, Cover, CoverAmong}
 pub use Rattle.cil_member_updates.specs.Evaluated.{is_asked}
 pub use Rattle.cil_member_updates.specs.Loading.{EvaluatesFirst, IsSettled}
 pub use Rattle.cil_member_updates.specs.Moved.{AreAtLeast, AreMoved, IsAtLeast, IsMoved}

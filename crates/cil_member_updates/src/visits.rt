@@ -1,7 +1,7 @@
 //! Where a set statement may hold a type, word by word.
 
 ghost use Rattle.std.specs.Prelude.{◌<◌, ◌==◌, ℕ, Contains, length};
-ghost use Rattle.cil_member_updates.specs.Common.{sets_in, IsOutside, IsSide, AreNamesTurned, AreNamesUnchanged, ArePolicies, AreVisits, CoversNames, CoversStayed, HasStayed, IsNameIn, IsNameTurned, IsNameUnchanged, Reads, held_by, name_holds, named_by, set_of, Cover};
+ghost use Rattle.cil_member_updates.specs.Common.{sets_in, IsOutside, IsSide, AreNamesTurned, AreNamesUnchanged, ArePolicies, AreVisits, CoversNames, CoversStayed, HasStayed, IsNameIn, IsNameTurned, IsNameUnchanged, Reads, held_by, name_holds, named_by, set_of, Cover, CoverAmong};
 ghost use Rattle.cil_specs.specs.Expr.{leaves};
 
 use crate::side::{Reading, Stayed};
@@ -74,6 +74,24 @@ pub fn reached<A: Allocator>(reading: &Reading<'_, A>, rows: &MemberRows<A>, wor
     } else {
         name_bits(reading, rows, word)
     }
+}
+
+/// The types of a word that a set statement may hold, told of some types alone. Where the policy keeps
+/// none of these, the statement isn't looked at.
+fn reached_among<A: Allocator>(
+    reading: &Reading<'_, A>,
+    rows: &MemberRows<A>,
+    word: usize,
+    among: u64,
+) -> u64
+    requires { Reads reading.now rows.now }
+    ensures { CoverAmong among (held_by reading.now) word result }
+{
+    let kept = among & reading.side.kept.word(word);
+    if kept == 0 {
+        return 0;
+    }
+    reached(reading, rows, word)
 }
 
 /// The types of a word that became members of the attribute of a name of an expression, or are none
@@ -162,7 +180,9 @@ pub fn unsettled<A: Allocator>(stayed: &Stayed<'_, A>, rows: &MemberRows<A>, wor
         when: When::Now,
         place: stayed.j,
     };
-    bits & (reached(&was, rows, word) | reached(&is, rows, word))
+    let reached_was = reached_among(&was, rows, word, bits);
+    let reached_is = reached_among(&is, rows, word, bits);
+    bits & (reached_was | reached_is)
 }
 
 /// Words outside which the attribute of a name of an expression has the members that it had.

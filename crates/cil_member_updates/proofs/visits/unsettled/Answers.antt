@@ -7,6 +7,6 @@ returns-then-bits-eq0 g c = subst (AreVisits c.args.stayed.now c.args.word) c.if
 
 pub returns : goal.returns
 returns g c = record {
-  cover = cover-either (was_held c.args.stayed.now) (is_held c.args.stayed.now) c.args.word c.touched-bits.result c.reached.result c.reached-2.result c.touched-bits.ensures.cover c.reached.ensures c.reached-2.ensures;
+  cover = cover-either (was_held c.args.stayed.now) (is_held c.args.stayed.now) c.args.word c.touched-bits.result c.reached_among-reached_was.result c.reached_among-reached_is.result c.touched-bits.ensures.cover c.reached_among-reached_was.ensures c.reached_among-reached_is.ensures;
   unsettled = λ b within set keeps. c.touched-bits.ensures.unsettled b within (set-among c.touched-bits.result _ b set) keeps;
 }
