@@ -9,7 +9,7 @@ import sys
 
 HINTS = {"#[inline(always)]": "alwaysinline", "#[inline(never)]": "noinline", "#[inline]": "inlinehint", "#[cold]": "cold"}
 IMPL = re.compile(r"impl(?:<.*?>)? (\w+)[^{]*\{")
-FUNCTION = re.compile(r"(?:pub(?:\(crate\))? )?(?:const )?fn (\w+)")
+FUNCTION = re.compile(r"(?:pub(?:\(\w+\))? )?(?:const |unsafe )*fn (\w+)")
 DEFINED = re.compile(r'define .*? @"([^"]+)"\(')
 
 
@@ -26,8 +26,9 @@ def hinted(path):
                 of_type = None
             if word in HINTS:
                 hints.append(HINTS[word])
-            elif matched := FUNCTION.match(word):
-                if hints and of_type != "":
+            elif not word.startswith(("#[", "//")):
+                matched = FUNCTION.match(word)
+                if matched and hints and of_type != "":
                     found[of_type, matched.group(1)] = " ".join(hints)
                 hints = []
     return found

@@ -11,7 +11,7 @@ use Rattle.cil_policy_tests.proofs.policies.joined.Goals as goal
 written : {A : Type 0} (name : List ℕ) (p : ParsedModule A) (is : (text : List ℕ) × IsParsed text p) → IsWritten (record { name = name; statements = is.1.statements })
 written name p is = record { bytes = is.0; trees = is.1.is_text.trees; reads = is.1.is_text.reads; shapes = is.1.is_text.shapes }
 
-two : (first second : Statements) → List Module
+abbrev two : (first second : Statements) → List Module
 two first second = record { name = codes "m"; statements = first } ∷ record { name = codes "n"; statements = second } ∷ []
 
 pub returns-clause-parsed : goal.returns-clause-parsed
