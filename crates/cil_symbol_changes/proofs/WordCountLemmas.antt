@@ -169,6 +169,13 @@ module _ (lines : Keyed) (place : ℕ) where
     removed = subst (RisesBy (is_before (went_at lines place) 0) 0) (sym removed) (before-none (went_at lines place));
   }
 
+  -- where no target turned
+  pub none-came : NoneTurned lines place 0 → (t : ℕ) → came_at lines place t ≡ false
+  none-came none t = same-risen (before_at lines place t) (now_at lines place t) (none t (omega arith))
+
+  pub none-went : NoneTurned lines place 0 → (t : ℕ) → went_at lines place t ≡ false
+  none-went none t = same-risen (now_at lines place t) (before_at lines place t) (sym (none t (omega arith)))
+
   -- where the place counts the same as another
   pub alike-counts : (other : ℕ) (counts : ChangeCounts) → AreAlike lines place other → AreCounted (came_at lines other) (went_at lines other) counts → AreCounted (came_at lines place) (went_at lines place) counts
   alike-counts other counts alike are = record {
@@ -196,4 +203,12 @@ module _ (came went : ℕ → ℕ → Bool) where
   places-more place old more new added removed own are = record {
     added = place-more came place 0 old.added more.added new.added added own.added are.added;
     removed = place-more went place 0 old.removed more.removed new.removed removed own.removed are.removed;
+  }
+
+  -- a place that counts nothing
+  pub places-none : (place : ℕ) (counts : ChangeCounts) → ((x : ℕ) → came place x ≡ false) → ((x : ℕ) → went place x ≡ false)
+      → AreCounted (below came place) (below went place) counts → AreCounted (below came (place + 1)) (below went (place + 1)) counts
+  places-none place counts none_came none_went are = record {
+    added = rises-next came place 0 counts.added counts.added are.added (rises-none (came place) counts.added none_came);
+    removed = rises-next went place 0 counts.removed counts.removed are.removed (rises-none (went place) counts.removed none_went);
   }

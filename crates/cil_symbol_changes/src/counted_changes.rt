@@ -71,7 +71,7 @@ fn place_counts<A: Allocator>(
     Ok(counts)
 }
 
-/// The same, where the numbers of the place before are told: a place that is alike has these too. Of most places nothing has turned.
+/// The same, where the numbers of the place before are told: a place that is alike has these too.
 fn next_counts<A: Allocator>(
     lines: &KeyedLines<A>,
     past: &Past<A>,
@@ -83,16 +83,14 @@ fn next_counts<A: Allocator>(
         → AreCounted (came_at lines.now (place - 1)) (went_at lines.now (place - 1)) before }
     ensures { IfOk result (AreCounted (came_at lines.now place) (went_at lines.now place)) }
 {
-    if lines.is_same(past, place) {
-        return Ok(ChangeCounts::none());
-    }
     if place > 0 && lines.are_alike(past, place, place - 1) {
         return Ok(before);
     }
     place_counts(lines, past, place)
 }
 
-/// How many accesses of all places appeared and how many went, or the greatest `u128` where they are more.
+/// How many accesses of all places appeared and how many went, or the greatest `u128` where they are more. Places of which nothing has
+/// turned, which most are, are passed by.
 fn count_places<A: Allocator>(
     lines: &KeyedLines<A>,
     past: &Past<A>,
@@ -104,6 +102,10 @@ fn count_places<A: Allocator>(
     let mut counts = ChangeCounts::none();
     let mut of_place = ChangeCounts::none();
     for place in 0..lines.len() {
+        if lines.is_same(past, place) {
+            of_place = ChangeCounts::none();
+            continue;
+        }
         of_place = next_counts(lines, past, place, of_place)?;
         counts = counts.plus(of_place);
     }
