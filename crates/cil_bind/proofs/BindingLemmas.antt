@@ -1,10 +1,11 @@
 -- References that are bound.
-use Rattle.cil_bind.proofs.Common.{◌≡◌, ℕ, zero, suc, ◌+◌, ◌≤◌, List, [], ◌∷◌, ◌++◌, map, length, get_or, take, Option, Some, None, refl, sym, ap, ◌∙◌, subst, add-one, arith, length-map, map-append, take_all, none-some, same_Some, Word, Form, block, optional, type_name, type_alias, alias_actual, type_attribute, attribute_set, common, class, class_common, class_order, class_permission, class_permission_set, rule, anonymous, by_name, itself, the_named, Placed, Table, types, classes, leads, references, read, FlatStatement, words_in, AreRows, Row, IsShown, NumberedWord, StatementView, IsLead, kind_of, StatementKind, AreLeads, AreBound, Binds, kinds_of, most_references, AreFrom, NamedModule}
+use Rattle.cil_bind.proofs.Common.{◌≡◌, ℕ, zero, suc, ◌+◌, ◌<◌, ◌≤◌, List, [], ◌∷◌, ◌++◌, length, get_or, take, Option, Some, None, refl, sym, ap, ◌∙◌, subst, add-one, arith, map-append, take_all, none-some, same_Some, Word, Form, Placed, Table, leads, references, AreRows, Row, IsLead, kind_of, StatementKind, AreLeads, AreBound, Binds, kinds_of, table_of, AreCited, IsCited, AreFrom, NamedModule}
 use Rattle.std.proofs.Common.{slice_get}
-use Rattle.cil_specs.specs.Expr.{leaves}
+use Rattle.std.proofs.lemmas.Option.{get_or_from_slice_get, slice_get-get_or, slice_get_within}
+use Rattle.cil_parse.specs.declared.citations.Citation.{Citation}
+use Rattle.cil_parse.specs.declared.table.Table.TheVariants.{Types}
 use Rattle.cil_bind.proofs.DeclareLemmas.{rows-length}
 use Rattle.cil_bind.proofs.PositionLemmas.{take-next, take-last}
-use Rattle.cil_bind.proofs.ScopeLemmas.{read-text}
 
 leads-push : (policy : List Placed) (namespace : List (List ℕ)) (refs : List (Table × Word)) (bound : List (Option ℕ)) (r : Table × Word) (found : Option ℕ) → AreLeads policy namespace refs bound
     → IsLead r.0 policy found (leads policy r.0 namespace r.1.text) → AreLeads policy namespace (refs ++ r ∷ []) (bound ++ found ∷ [])
@@ -13,77 +14,49 @@ leads-push policy namespace [] (b ∷ bound) r found are is = absurd are
 leads-push policy namespace (q ∷ refs) [] r found are is = absurd are
 leads-push policy namespace (q ∷ refs) (b ∷ bound) r found are is = (are.0, leads-push policy namespace refs bound r found are.1 is)
 
+cited-at : (texts : List (List ℕ)) (refs : List (Table × Word)) (citations : List Citation) (k : ℕ) (c : Citation) → AreCited texts refs citations → slice_get citations k ≡ Some c → (r : Table × Word) × (slice_get refs k ≡ Some r) × IsCited texts r c
+cited-at texts [] [] k c are at = absurd (none-some c at)
+cited-at texts [] (d ∷ citations) k c are at = absurd are
+cited-at texts (r ∷ refs) [] k c are at = absurd are
+cited-at texts (r ∷ refs) (d ∷ citations) zero c are at = (r, refl, subst (IsCited texts r) (same_Some d c at) are.0)
+cited-at texts (r ∷ refs) (d ∷ citations) (suc k) c are at = cited-at texts refs citations k c are.1 at
+
+-- what is read behind the end of what is looked up
+abbrev no_citation : Citation
+no_citation = record { table = Types; text = 0 }
+
+-- what is looked up is a text of the module
+pub cited-within : (texts : List (List ℕ)) (refs : List (Table × Word)) (citations : List Citation) (k : ℕ) → AreCited texts refs citations → k < length citations → (get_or citations k no_citation).text < length texts
+cited-within texts refs citations k are low =
+    let c = get_or citations k no_citation in
+    let (r, there, cited) = cited-at texts refs citations k c are (slice_get-get_or citations k no_citation low) in
+    slice_get_within texts c.text r.1.text cited.1
+
 -- one reference more
-pub leads-next : (policy : List Placed) (namespace : List (List ℕ)) (refs : List (Table × Word)) (k : ℕ) (bound : List (Option ℕ)) (table : Table) (word : Word) (texts : List (List ℕ)) (at : NumberedWord) (found : Option ℕ)
-    → AreLeads policy namespace (take k refs) bound → slice_get refs k ≡ Some (table, word) → read texts at ≡ Some word
-    → IsLead table policy found (leads policy table namespace (get_or texts at.text [])) → AreLeads policy namespace (take (k + 1) refs) (bound ++ found ∷ [])
-leads-next policy namespace refs k bound table word texts at found are there is lead =
-    let next : take (k + 1) refs ≡ take k refs ++ (table, word) ∷ [] = rw add-one (take-next refs k (table, word) there) in
+pub leads-next : (policy : List Placed) (namespace texts : List (List ℕ)) (refs : List (Table × Word)) (citations : List Citation) (k : ℕ) (bound : List (Option ℕ)) (found : Option ℕ)
+    → AreCited texts refs citations → k < length citations → AreLeads policy namespace (take k refs) bound
+    → IsLead (table_of (get_or citations k no_citation).table) policy found (leads policy (table_of (get_or citations k no_citation).table) namespace (get_or texts (get_or citations k no_citation).text [])) → AreLeads policy namespace (take (k + 1) refs) (bound ++ found ∷ [])
+leads-next policy namespace texts refs citations k bound found are low so_far lead =
+    let c = get_or citations k no_citation in
+    let (r, there, cited) = cited-at texts refs citations k c are (slice_get-get_or citations k no_citation low) in
+    let next : take (k + 1) refs ≡ take k refs ++ r ∷ [] = rw add-one (take-next refs k r there) in
+    let text = get_or_from_slice_get texts c.text r.1.text [] cited.1 in
     subst (λ l. AreLeads policy namespace l (bound ++ found ∷ [])) (sym next)
-    (leads-push policy namespace (take k refs) bound (table, word) found are (subst (λ t. IsLead table policy found (leads policy table namespace t)) (sym (read-text texts at word is)) lead))
+    (leads-push policy namespace (take k refs) bound r found so_far
+    (subst (λ t. IsLead r.0 policy found (leads policy r.0 namespace t)) text (subst (λ u. IsLead u policy found (leads policy u namespace (get_or texts c.text []))) cited.0 lead)))
 
--- no reference more
-pub leads-stay : (policy : List Placed) (namespace : List (List ℕ)) (refs : List (Table × Word)) (k : ℕ) (bound : List (Option ℕ)) → AreLeads policy namespace (take k refs) bound → slice_get refs k ≡ None → AreLeads policy namespace (take (k + 1) refs) bound
-leads-stay policy namespace refs k bound are none =
-    subst (λ l. AreLeads policy namespace l bound) (take_all k refs (past refs k none) ∙ sym (take_all (k + 1) refs (let p = past refs k none in omega arith))) are
-  where
-    past : (xs : List (Table × Word)) (i : ℕ) → slice_get xs i ≡ None → length xs ≤ i
-    past [] i e = omega arith
-    past (x ∷ xs) zero e = absurd (none-some x (sym e))
-    past (x ∷ xs) (suc i) e = omega (arith, past xs i e)
-
-length-tagged : (table : Table) (words : List Word) → length {A = Table × Word} (map (λ w. (table, w)) words) ≡ length words
-length-tagged table [] = refl
-length-tagged table (w ∷ words) = ap suc (length-tagged table words)
-
--- references are among the words
-references-few : (form : Form) → length (references form) ≤ length (words_in form)
-references-few (block id) = omega arith
-references-few (optional id) = omega arith
-references-few (type_name id) = omega arith
-references-few (type_alias id) = omega arith
-references-few (alias_actual alias actual) = omega arith
-references-few (type_attribute id) = omega arith
-references-few (attribute_set attribute expr) = omega (arith, length-tagged types (leaves expr))
-references-few (common id permissions) = omega arith
-references-few (class id permissions) = omega arith
-references-few (class_common the_class the_common) = omega arith
-references-few (class_order the_classes) = omega (arith, length-tagged classes the_classes)
-references-few (class_permission id) = omega arith
-references-few (class_permission_set set the_class permissions) = omega arith
-references-few (rule kind source itself (anonymous the_class permissions)) = omega arith
-references-few (rule kind source itself (by_name set)) = omega arith
-references-few (rule kind source (the_named target) (anonymous the_class permissions)) = omega arith
-references-few (rule kind source (the_named target) (by_name set)) = omega arith
-
--- so are they among those that a kind can have
-references-most : (form : Form) → length (references form) ≤ most_references (kind_of form) (length (words_in form))
-references-most (class_permission_set set the_class permissions) = omega arith
-references-most (rule kind source itself (anonymous the_class permissions)) = omega arith
-references-most (rule kind source itself (by_name set)) = omega arith
-references-most (rule kind source (the_named target) (anonymous the_class permissions)) = omega arith
-references-most (rule kind source (the_named target) (by_name set)) = omega arith
-references-most (block id) = references-few (block id)
-references-most (optional id) = references-few (optional id)
-references-most (type_name id) = references-few (type_name id)
-references-most (type_alias id) = references-few (type_alias id)
-references-most (alias_actual alias actual) = references-few (alias_actual alias actual)
-references-most (type_attribute id) = references-few (type_attribute id)
-references-most (attribute_set attribute expr) = references-few (attribute_set attribute expr)
-references-most (common id permissions) = references-few (common id permissions)
-references-most (class id permissions) = references-few (class id permissions)
-references-most (class_common the_class the_common) = references-few (class_common the_class the_common)
-references-most (class_order the_classes) = references-few (class_order the_classes)
-references-most (class_permission id) = references-few (class_permission id)
+cited-long : (texts : List (List ℕ)) (refs : List (Table × Word)) (citations : List Citation) → AreCited texts refs citations → length citations ≡ length refs
+cited-long texts [] [] are = refl
+cited-long texts [] (d ∷ citations) are = absurd are
+cited-long texts (r ∷ refs) [] are = absurd are
+cited-long texts (r ∷ refs) (d ∷ citations) are = ap suc (cited-long texts refs citations are.1)
 
 -- all references
-pub leads-all : (policy : List Placed) (namespace : List (List ℕ)) (texts : List (List ℕ)) (v : StatementView) (f : FlatStatement) (k : ℕ) (bound : List (Option ℕ)) → IsShown texts v f → most_references v.kind (length v.words.now) ≤ k
-    → AreLeads policy namespace (take k (references f.form)) bound → AreLeads policy namespace (references f.form) bound
-leads-all policy namespace texts v f k bound shown past are =
-    let long : length v.words.now ≡ length (words_in f.form) = sym (length-map v.words.now (read texts)) ∙ ap length shown.words ∙ length-map (words_in f.form) Some in
-    let most : most_references v.kind (length v.words.now) ≡ most_references (kind_of f.form) (length (words_in f.form)) = ap (λ kind. most_references kind (length v.words.now)) shown.kind ∙ ap (most_references (kind_of f.form)) long in
-    let few = references-most f.form in
-    subst (λ l. AreLeads policy namespace l bound) (take_all k (references f.form) (omega (arith, most, few, past))) are
+pub leads-all : (policy : List Placed) (namespace texts : List (List ℕ)) (refs : List (Table × Word)) (citations : List Citation) (k : ℕ) (bound : List (Option ℕ)) → AreCited texts refs citations → length citations ≤ k
+    → AreLeads policy namespace (take k refs) bound → AreLeads policy namespace refs bound
+leads-all policy namespace texts refs citations k bound are past so_far =
+    let long = cited-long texts refs citations are in
+    subst (λ l. AreLeads policy namespace l bound) (take_all k refs (omega (arith, long, past))) so_far
 
 bound-push : (policy statements : List Placed) (bound : List (List (Option ℕ))) (s : Placed) (b : List (Option ℕ)) → AreBound policy statements bound → AreLeads policy s.namespace (references s.form) b
     → AreBound policy (statements ++ s ∷ []) (bound ++ b ∷ [])
@@ -157,3 +130,7 @@ kind-at policy kinds i s d are at = ap (λ l. get_or l i d) are ∙ there policy
     there [] i e = absurd (none-some s e)
     there (x ∷ xs) zero e = ap (λ t. kind_of t.form) (same_Some x s e)
     there (x ∷ xs) (suc i) e = there xs i e
+
+-- what is read at a place of a list
+pub place-told : (places : List (Option ℕ)) (i : ℕ) (o found : Option ℕ) → i < length places → o ≡ get_or places i o → found ≡ o → get_or places i None ≡ found
+place-told places i o found low is told = get_or_from_slice_get places i o None (slice_get-get_or places i o low ∙ ap Some (sym is)) ∙ sym told

@@ -1,5 +1,5 @@
 -- The names from elsewhere that this crate's proofs cite most, passed on from one place.
-pub use Rattle.cil_bind.specs.Binding.{AreBound, AreLeads, AreMoved, Binds, has_place, kinds_of, most_references, moved_to, places_from}
+pub use Rattle.cil_bind.specs.Binding.{AreBound, AreLeads, Binds, kinds_of}
 pub use Rattle.cil_bind.specs.Ordered.{AreOrdered, IsBefore, IsLeast, IsRising, offsets_in, offsets_of}
 pub use Rattle.cil_bind.specs.Policy.{AreMarked, IsFirstAgain, IsTold, fault_of}
 pub use Rattle.cil_bind.specs.Rows.{AreNumbered, AreRows, DeclareThat, IsDeclared, IsOnce, IsRow, IsTaken, is_optional_row}
@@ -13,6 +13,7 @@ pub use Rattle.cil_lookup.specs.declared.lookup.Key.{Key}
 pub use Rattle.cil_parse.proofs.AroundLemmas.{placed-flat}
 pub use Rattle.cil_parse.specs.Around.{ArePlacedAs, IsBlockOf, IsOptionalOf, IsPlacedAs}
 pub use Rattle.cil_parse.specs.Builder.{read, row_for, row_of}
+pub use Rattle.cil_parse.specs.Citations.{AreCited, IsCited}
 pub use Rattle.cil_parse.specs.Flat.{FlatStatement, flat}
 pub use Rattle.cil_parse.specs.Forms.{kind_of, permissions_in, words_in}
 pub use Rattle.cil_parse.specs.Lexicon.{AreNumbersOf}

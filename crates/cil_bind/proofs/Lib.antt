@@ -10,8 +10,6 @@ pub mod BindingLemmas
 pub mod FromLemmas
 pub mod RestrictLemmas
 pub mod MemoLemmas
-pub mod StayLemmas
-pub mod MoveLemmas
 pub mod AroundLemmas
 pub mod OrderedLemmas
 pub mod NestedLemmas

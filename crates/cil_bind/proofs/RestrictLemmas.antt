@@ -1,5 +1,5 @@
 -- The statements of a policy that stand in kept optionals alone.
-use Rattle.cil_bind.proofs.Common.{◌≡◌, ◌⊎◌, inl, inr, ℕ, suc, ◌<◌, ◌≤◌, ◌^◌, length, Bool, true, false, cond, if◌then◌else◌, List, [], ◌∷◌, filter, get_or, Some, None, Contains, refl, sym, ap, ◌∙◌, subst, arith, stands_apart, Placed, list_all, Optionals, is_within, restricted, AreApart, first_true, second_true, contains-cases, contains-first, contains-other, AreRows, IsOpenedIn, Stands, AreFrom, places_from, AreMarked, NamedModule, Row}
+use Rattle.cil_bind.proofs.Common.{◌≡◌, ◌⊎◌, inl, inr, ℕ, suc, ◌<◌, ◌≤◌, ◌^◌, length, Bool, true, false, cond, if◌then◌else◌, List, [], ◌∷◌, filter, get_or, Some, None, Contains, refl, sym, ap, ◌∙◌, subst, arith, stands_apart, Placed, list_all, Optionals, is_within, restricted, AreApart, first_true, second_true, contains-cases, contains-first, contains-other, AreRows, IsOpenedIn, Stands, AreFrom, AreMarked, NamedModule, Row}
 
 abbrev pub mark : List Bool → Row → Bool
 mark kept row = get_or kept row.optional false
@@ -90,12 +90,3 @@ all-restricted set kept rows seen policy same all marked = whole rows policy (ap
     whole (row ∷ rows) (s ∷ policy) all marked =
         ap (λ b. cond b (s ∷ restricted set policy) (restricted set policy)) (sym marked.0 ∙ first_true (mark kept row) (list_all (mark kept) rows) all)
         ∙ ap (λ l. s ∷ l) (whole rows policy (second_true (mark kept row) (list_all (mark kept) rows) all) marked.1)
-
--- the new places of the rows are those of their statements
-pub places-marked : (set : Optionals) (kept : List Bool) (n : ℕ) (rows : List Row) (policy : List Placed) → AreMarked set kept rows policy → places_from (mark kept) n rows ≡ places_from (is_within set) n policy
-places-marked set kept n [] [] marked = refl
-places-marked set kept n [] (s ∷ policy) marked = absurd marked
-places-marked set kept n (row ∷ rows) [] marked = absurd marked
-places-marked set kept n (row ∷ rows) (s ∷ policy) marked =
-    (λ i. (if marked.0 i then Some n else None) ∷ places_from (mark kept) (if marked.0 i then suc n else n) rows)
-    ∙ ap (λ l. (if is_within set s then Some n else None) ∷ l) (places-marked set kept (if is_within set s then suc n else n) rows policy marked.1)

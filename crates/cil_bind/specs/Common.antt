@@ -1,11 +1,12 @@
 -- The names from elsewhere that this crate's contracts cite most, passed on from one place.
-pub use Rattle.cil_bind.specs.Binding.{AreBound, Binds, kinds_of, most_references, places_from}
+pub use Rattle.cil_bind.specs.Binding.{AreBound, Binds, kinds_of}
 pub use Rattle.cil_bind.specs.Policy.{AreMarked, IsBoundTo, IsFirstAgain, IsTold, Makes, TellsAround, fault_of}
 pub use Rattle.cil_bind.specs.Rows.{AreNumbered, AreRows, DeclareThat, IsDeclared, IsOnce, IsRow, IsTaken, is_optional_row}
 pub use Rattle.cil_bind.specs.Scope.{AreAround, AreFrom, AreSpelt, IsFrom, StandsFor}
 pub use Rattle.cil_bind.specs.Words.{AreWorded, AsKnown, LeadsTo, Remembers, RemembersNothing, RemembersOf}
 pub use Rattle.cil_bind.specs.declared.rows.Row.{Row}
 pub use Rattle.cil_lookup.specs.Lookup.{HaveDeclared, Knows}
+pub use Rattle.cil_parse.specs.Citations.{AreCited}
 pub use Rattle.cil_parse.specs.Flat.{FlatStatement}
 pub use Rattle.cil_parse.specs.Forms.{kind_of, permissions_in}
 pub use Rattle.cil_parse.specs.Lexicon.{AreNumbersOf}
@@ -17,4 +18,5 @@ pub use Rattle.cil_specs.specs.Lookup.{declared_in, references, texts}
 pub use Rattle.cil_specs.specs.Names.{Word}
 pub use Rattle.cil_specs.specs.PolicyFault.{IsFaultOf, twice, twice_words}
 pub use Rattle.cil_specs.specs.Report.{names_rise}
+pub use Rattle.cil_specs.specs.Statements.{Form}
 pub use Rattle.std.specs.List.{IsDistinct, list_all}

@@ -1,7 +1,7 @@
 //! What references are bound to.
 
 ghost use Rattle.std.specs.Prelude.{◌≡◌, ◌<◌, ℕ, List, [], length, OnOk, IfOk};
-ghost use Rattle.cil_bind.specs.Common.{Placed, FlatStatement, kind_of, AreNumbersOf, names_of, texts_of, IsShown, Binds, AreBound, kinds_of, most_references, IsRow, AreRows, IsFrom, AreFrom, AreWorded, AsKnown, Remembers, RemembersOf};
+ghost use Rattle.cil_bind.specs.Common.{Placed, Form, references, kind_of, AreNumbersOf, names_of, texts_of, AreCited, Binds, AreBound, kinds_of, IsRow, AreRows, IsFrom, AreFrom, AreWorded, AsKnown, Remembers, RemembersOf};
 ghost use Rattle.cil_lookup.specs.Lookup.{namespace_at as namespace_of, Knows};
 
 use crate::joined::Joined;
@@ -9,52 +9,46 @@ use crate::lead::Lead;
 use crate::memo::Memo;
 use crate::rows::Row;
 use cil_lookup::Lookup;
-use cil_parse::{Lists, ParsedModule, StatementKind, StatementView};
+use cil_parse::{Citation, Lists, ParsedModule, StatementKind};
 use std::alloc::{AllocError, Allocator, Global};
 
-/// How many of a statement's words are references at most: behind those of a rule, or of a statement of a permission set, permissions
-/// stand, and they are many.
-fn most_references(view: &StatementView<'_>) -> usize
-    ensures { result ≡ most_references view.now.kind (length view.now.words.now) }
-{
-    match view.kind {
-        StatementKind::ClassPermissionSet => 2,
-        StatementKind::Rule(_) | StatementKind::RuleOfSet(_) => 3,
-        StatementKind::RuleToSelf(_) | StatementKind::RuleToSelfOfSet(_) => 2,
-        _ => view.words.len(),
-    }
-}
-
-/// Binds the references of a statement of a module from a namespace, in a list of their own. The words are the numbers of the module's
-/// names.
+/// Binds what the references of a statement of a module look up from a namespace, in a list of their own. The words are the numbers of
+/// the module's names.
 #[inline(always)]
-fn bind_statement<A: Allocator + Copy>(
+fn bind_citations<A: Allocator + Copy>(
     lookup: &Lookup<A>,
     module: &ParsedModule<A>,
     words: &[u32],
     namespace: u32,
-    view: &StatementView<'_>,
+    citations: &[Citation],
     memo: &mut Memo<A>,
     bound: &mut Lists<Lead, A>,
 ) -> Result<(), AllocError>
     requires within { namespace < length lookup.now.namespaces }
     requires words { length words.now ≡ length (names_of «module».now) }
-    requires shown { (f : FlatStatement) × IsShown (texts_of «module».now) view.now f }
+    requires cited { (form : Form) × AreCited (texts_of «module».now) (references form) citations.now }
     requires closed { bound.old.1 ≡ [] }
     ensures closed { OnOk result (bound.new.1 ≡ []) }
-    ensures binds { OnOk result ((names : List (List ℕ)) (policy : List Placed) (f : FlatStatement) → Knows lookup.now.namespaces lookup.now.declared.entries names policy
-        → AreNumbersOf names words.now (names_of «module».now) → Remembers names lookup.now.namespaces (texts_of «module».now) policy memo.old.last.items → IsShown (texts_of «module».now) view.now f
-        → Binds policy (namespace_of names lookup.now.namespaces namespace) f.form bound.old bound.new) }
+    ensures binds { OnOk result ((names : List (List ℕ)) (policy : List Placed) (form : Form)
+        → Knows lookup.now.namespaces lookup.now.declared.entries names policy
+        → AreNumbersOf names words.now (names_of «module».now)
+        → Remembers names lookup.now.namespaces (texts_of «module».now) policy memo.old.last.items
+        → AreCited (texts_of «module».now) (references form) citations.now
+        → Binds policy (namespace_of names lookup.now.namespaces namespace) form bound.old bound.new) }
     ensures remembers { OnOk result (AsKnown lookup.now «module».now words.now (λ names policy.
         Remembers names lookup.now.namespaces (texts_of «module».now) policy memo.old.last.items
         → Remembers names lookup.now.namespaces (texts_of «module».now) policy memo.new.last.items)) }
     ensures same { memo.new.«module» ≡ memo.old.«module» }
 {
-    for k in 0..most_references(view) {
-        let Some((table, word)) = view.reference(k) else {
-            continue;
-        };
-        let found = memo.lead(lookup, module, words, table, namespace, word.text)?;
+    for citation in citations {
+        let found = memo.lead(
+            lookup,
+            module,
+            words,
+            citation.table,
+            namespace,
+            citation.text,
+        )?;
         bound.push(found)?;
     }
     bound.close()?;
@@ -76,7 +70,7 @@ fn known<A: Allocator>(lookup: &Lookup<A>, namespace: u32) -> u32
 
 /// Binds the references of the statement of a row, in a list of their own, and tells its kind.
 #[inline(always)]
-pub fn bind_row<A: Allocator + Copy>(
+fn bind_row<A: Allocator + Copy>(
     alloc: A,
     lookup: &Lookup<A>,
     joined: &Joined<'_, A>,
@@ -99,19 +93,19 @@ pub fn bind_row<A: Allocator + Copy>(
 {
     let number = row.module as usize;
     let module = joined.modules[number].module;
-    let view = module.statement(row.index as usize);
+    let index = row.index as usize;
     let namespace = known(lookup, row.namespace);
     memo.turn_to(alloc, row.module, module.text_count())?;
-    bind_statement(
+    bind_citations(
         lookup,
         module,
         words[number].as_slice(),
         namespace,
-        &view,
+        module.citations(index),
         memo,
         bound,
     )?;
-    Ok(view.kind)
+    Ok(module.kind(index))
 }
 
 /// What is read of the statements of rows: what their references are bound to, a list for each, and their kinds.
@@ -122,7 +116,7 @@ pub struct Bound<A: Allocator = Global> {
 }
 
 /// About how many references so many statements have: most are rules, which have three. A list that grew would be copied.
-pub fn room(statements: usize) -> usize {
+fn room(statements: usize) -> usize {
     statements.saturating_mul(3)
 }
 

@@ -8,7 +8,6 @@ mod known_lists;
 mod laws;
 mod lead;
 mod memo;
-mod moving;
 mod policy;
 mod redeclaration;
 mod rows;

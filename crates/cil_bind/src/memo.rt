@@ -75,41 +75,7 @@ impl<A: Allocator + Copy> Memo<A> {
         }
     }
 
-    /// Looks up where a text of the module leads from a namespace, and notes it.
-    #[cold]
-    #[inline(never)]
-    fn look_up(
-        &mut self,
-        lookup: &Lookup<A>,
-        module: &ParsedModule<A>,
-        words: &[u32],
-        table: Table,
-        namespace: u32,
-        text: u32,
-    ) -> Result<Lead, AllocError>
-        requires within { namespace < length lookup.now.namespaces }
-        requires words { length words.now ≡ length (names_of «module».now) }
-        requires text { text < length (texts_of «module».now) }
-        ensures lead { IfOk result (λ found. AsKnown lookup.now «module».now words.now (λ names policy.
-            LeadsTo names lookup.now.namespaces (texts_of «module».now) policy table namespace text found)) }
-        ensures remembers { OnOk result (AsKnown lookup.now «module».now words.now (λ names policy.
-            Remembers names lookup.now.namespaces (texts_of «module».now) policy self.old.last.items
-            → Remembers names lookup.now.namespaces (texts_of «module».now) policy self.new.last.items)) }
-        ensures same { self.new.«module» ≡ self.old.«module» }
-    {
-        let found = Lead::of(lead(lookup, module, words, table, namespace, text))?;
-        self.note(
-            text,
-            Remembered {
-                table,
-                namespace,
-                found,
-            },
-        );
-        Ok(found)
-    }
-
-    /// Where a text of the module leads from a namespace. The words are the numbers of the module's names.
+    /// Where a text of the module leads from a namespace, which is noted. The words are the numbers of the module's names.
     #[inline(always)]
     pub fn lead(
         &mut self,
@@ -134,7 +100,15 @@ impl<A: Allocator + Copy> Memo<A> {
         if let Some(found) = self.recall(table, namespace, text) {
             return Ok(found);
         }
-        let found = self.look_up(lookup, module, words, table, namespace, text)?;
+        let found = Lead::of(lead(lookup, module, words, table, namespace, text))?;
+        self.note(
+            text,
+            Remembered {
+                table,
+                namespace,
+                found,
+            },
+        );
         Ok(found)
     }
 }

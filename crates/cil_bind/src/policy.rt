@@ -1,14 +1,13 @@
 //! A joined policy whose references are bound.
 
 ghost use Rattle.std.specs.Prelude.{◌≡◌, ◌<◌, ◌^◌, ℕ, IfOk, OnOk, List, false, filter, bytes_eq, length, slice_index_or};
-ghost use Rattle.cil_bind.specs.Common.{IsDistinct, list_all, places_from, AreSpelt, AreFrom, AreAround, StandsFor, HaveDeclared, DeclareThat, IsOnce, Makes, IsBoundTo, AreMarked, TellsAround, AreWorded, Optionals, AreApart, restricted};
+ghost use Rattle.cil_bind.specs.Common.{IsDistinct, list_all, AreSpelt, AreFrom, AreAround, StandsFor, HaveDeclared, DeclareThat, IsOnce, Makes, IsBoundTo, AreMarked, TellsAround, AreWorded, Optionals, AreApart, restricted};
 ghost use Rattle.cil_specs.specs.Joined.{Placed, Module, joined as joined_policy};
 
 use crate::binding::bind;
 use crate::declarations::{Declarations, Declared};
 use crate::joined::Joined;
 use crate::lead::Lead;
-use crate::moving::{kept_kinds, places_of, rebind};
 use crate::redeclaration::Redeclaration;
 use crate::rows::{Row, is_kept};
 use crate::scope::Scope;
@@ -141,7 +140,7 @@ impl<'m, A: Allocator + Copy> Policy<'m, A> {
         self.leave_out(alloc, joined, kept)
     }
 
-    /// Leaves out the statements whose innermost optional isn't marked.
+    /// Leaves out the statements whose innermost optional isn't marked, and binds the others again.
     fn leave_out(
         &mut self,
         alloc: A,
@@ -152,36 +151,18 @@ impl<'m, A: Allocator + Copy> Policy<'m, A> {
         ensures { OnOk result ((policy : List Placed) (set : Optionals) → IsBoundTo self.old joined.now.modules.items policy → AreApart policy
             → AreMarked set kept.now self.old.rows.items policy → IsBoundTo self.new joined.now.modules.items (restricted set policy)) }
     {
-        let places = places_of(alloc, self.rows.as_slice(), kept)?;
-        self.move_kept(alloc, joined, kept, places.as_slice())
-    }
-
-    /// The same with the new places of the statements that are kept.
-    fn move_kept(
-        &mut self,
-        alloc: A,
-        joined: &Joined<'m, A>,
-        kept: &[bool],
-        places: &[Lead],
-    ) -> Result<(), AllocError>
-        requires bound { (policy : List Placed) × IsBoundTo self.old joined.now.modules.items policy }
-        requires places { places.now ≡ places_from (λ row. slice_index_or kept.now row.optional false) 0 self.old.rows.items }
-        ensures { OnOk result ((policy : List Placed) (set : Optionals) → IsBoundTo self.old joined.now.modules.items policy → AreApart policy
-            → AreMarked set kept.now self.old.rows.items policy → IsBoundTo self.new joined.now.modules.items (restricted set policy)) }
-    {
         retain_kept(&mut self.rows, kept);
         let declarations = Declarations::of_once(alloc, self.rows.as_slice())?;
         self.lookup.declared = declarations.first;
-        self.bound = rebind(
+        let bound = bind(
             alloc,
             &self.lookup,
             joined,
             self.words.as_slice(),
             self.rows.as_slice(),
-            &self.bound,
-            places,
         )?;
-        self.kinds = kept_kinds(alloc, self.kinds.as_slice(), places)?;
+        self.bound = bound.references;
+        self.kinds = bound.kinds;
         Ok(())
     }
 

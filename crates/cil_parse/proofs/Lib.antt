@@ -10,5 +10,7 @@ pub mod PlaceLemmas
 pub mod TreeLemmas
 pub mod ParsedLemmas
 pub mod ViewLemmas
+pub mod RowLemmas
 pub mod PermissionListLemmas
+pub mod CitationLemmas
 pub mod AroundLemmas

@@ -3,6 +3,7 @@ use Rattle.cil_parse.proofs.Common.{◌≡◌, ℕ, zero, suc, ◌+◌, ◌<◌,
 use Rattle.cil_parse.specs.Parsed.{texts_of, permission_lists_of, statement_count, Spells}
 use Rattle.cil_parse.specs.declared.parsed.ParsedModule.{ParsedModule}
 use Rattle.cil_parse.proofs.ParsedLemmas.{same-length, same-at, shown}
+use Rattle.cil_parse.proofs.RowLemmas.{made-length, made-at}
 use Rattle.cil_parse.specs.declared.row.StatementKind.TheVariants as kinds
 
 -- the text of a word that is read
@@ -24,35 +25,6 @@ texts-read all (w ∷ ws) (x ∷ words) is =
     let more = texts-read all ws words rest in
     (λ i. first i ∷ more i)
 
--- the texts of one statement more
-listed-suc : (rows : List Row) (lists : List (List NumberedWord)) (i : ℕ) (row : Row) → length lists ≡ length rows → i < length rows
-    → permission_texts (take (suc i) rows) (take (suc i) lists)
-    ≡ permission_texts (take i rows) (take i lists) ++ map (λ w. w.text) (permission_words (get_or rows i row).kind (get_or lists i [])) ∷ []
-listed-suc [] lists i row same within = absurd (omega arith)
-listed-suc (r ∷ rows) [] i row same within = absurd (omega arith)
-listed-suc (r ∷ rows) (l ∷ lists) zero row same within = refl
-listed-suc (r ∷ rows) (l ∷ lists) (suc i) row same within = ap (λ more. map (λ w. w.text) (permission_words r.kind l) ∷ more) (listed-suc rows lists i row (omega arith) (omega arith))
-
-pub listed-next : (rows : List Row) (lists : List (List NumberedWord)) (i : ℕ) (row : Row) → length lists ≡ length rows → i < length rows
-    → permission_texts (take (i + 1) rows) (take (i + 1) lists)
-    ≡ permission_texts (take i rows) (take i lists) ++ map (λ w. w.text) (permission_words (get_or rows i row).kind (get_or lists i [])) ∷ []
-listed-next rows lists i row same within =
-    let next : i + 1 ≡ suc i = omega arith in
-    ap (λ n. permission_texts (take n rows) (take n lists)) next ∙ listed-suc rows lists i row same within
-
-pub listed-length : (rows : List Row) (lists : List (List NumberedWord)) → length lists ≡ length rows → length (permission_texts rows lists) ≡ length rows
-listed-length [] lists same = refl
-listed-length (r ∷ rows) [] same = absurd (omega arith)
-listed-length (r ∷ rows) (l ∷ lists) same = ap suc (listed-length rows lists (omega arith))
-
--- the texts of the statement of an index
-pub listed-at : (rows : List Row) (lists : List (List NumberedWord)) (i : ℕ) (row : Row) → length lists ≡ length rows → i < length rows
-    → slice_get (permission_texts rows lists) i ≡ Some (map (λ w. w.text) (permission_words (get_or rows i row).kind (get_or lists i [])))
-listed-at [] lists i row same within = absurd (omega arith)
-listed-at (r ∷ rows) [] i row same within = absurd (omega arith)
-listed-at (r ∷ rows) (l ∷ lists) zero row same within = refl
-listed-at (r ∷ rows) (l ∷ lists) (suc i) row same within = listed-at rows lists i row (omega arith) (omega arith)
-
 module _ {W X : Type 0} (f : W → X) (g : Word → X) where
   behind-words : (n : ℕ) (ws : List W) (all : List Word) → map f ws ≡ map g all → map f (drop n ws) ≡ map g (drop n all)
   behind-words n ws all is = sym (drop-map f n ws) ∙ ap (drop n) is ∙ drop-map g n all
@@ -70,7 +42,7 @@ pub shown-permissions : (all : List (List ℕ)) (v : StatementView) (f : FlatSta
 shown-permissions all v f shown = ap (λ kind. map (read all) (permission_words kind v.words.now)) shown.kind ∙ among-words (read all) Some f.form v.words.now shown.words
 
 -- what is read behind the end of the rows
-no_row : Row
+pub no_row : Row
 no_row = record { at = record { offset = 0; line = 0; column = 0 }; kind = kinds.Block; around = record { block = 0; optional = 0 } }
 
 module _ {A : Type 0} (p : ParsedModule A) where
@@ -78,7 +50,7 @@ module _ {A : Type 0} (p : ParsedModule A) where
   pub numbers-long : length p.permission_lists.numbers.items ≡ statement_count p
   numbers-long =
       same-length (slice_get p.permission_lists.lists.0) Some p.permission_lists.numbers.items (permission_texts p.rows.items p.words.0) p.listed
-      ∙ listed-length p.rows.items p.words.0 p.each_words
+      ∙ made-length (λ kind words. map (λ w. w.text) (permission_words kind words)) p.rows.items p.words.0 p.each_words
 
   -- and its list is that of the number
   list-there : (i n d : ℕ) → i < statement_count p → n ≡ get_or p.permission_lists.numbers.items i d
@@ -87,7 +59,7 @@ module _ {A : Type 0} (p : ParsedModule A) where
       let long = numbers-long in
       let there : i < length p.permission_lists.numbers.items = omega (arith, long, within) in
       ap (slice_get p.permission_lists.lists.0) is
-      ∙ same-at (slice_get p.permission_lists.lists.0) Some p.permission_lists.numbers.items (permission_texts p.rows.items p.words.0) i d _ p.listed there (listed-at p.rows.items p.words.0 i no_row p.each_words within)
+      ∙ same-at (slice_get p.permission_lists.lists.0) Some p.permission_lists.numbers.items (permission_texts p.rows.items p.words.0) i d _ p.listed there (made-at (λ kind words. map (λ w. w.text) (permission_words kind words)) p.rows.items p.words.0 i no_row p.each_words within)
 
   pub list-within : (i n d : ℕ) → i < statement_count p → n ≡ get_or p.permission_lists.numbers.items i d → n < length (permission_lists_of p)
   list-within i n d within is =

@@ -8,5 +8,6 @@ pub mod Builder
 pub mod Kinds
 pub mod View
 pub mod PermissionLists
+pub mod Citations
 pub mod Parsed
 pub mod FromTrees

@@ -2,6 +2,7 @@
 #![tactic(auto)]
 
 mod builder;
+mod citations;
 mod copied;
 mod from_text;
 mod laws;
@@ -13,6 +14,7 @@ mod row;
 mod table;
 mod view;
 
+pub use citations::Citation;
 pub use from_text::parse;
 pub use laws::statements_are_placed;
 pub use lists::Lists;

@@ -1,18 +1,20 @@
 //! Modules that borrow nothing.
 
 ghost use Rattle.std.specs.Prelude.{◌≡◌, ◌<◌, [], List, length, slice_get, slice_index_or, Some, IfOk, IfErr};
-ghost use Rattle.cil_specs.specs.Lookup.{texts};
+ghost use Rattle.cil_specs.specs.Lookup.{references, texts};
 ghost use Rattle.cil_specs.specs.Names.{components as components_of};
 ghost use Rattle.cil_specs.specs.Shape.{IsFirstShapeFault};
 ghost use Rattle.cil_specs.specs.Statements.{Statements};
 ghost use Rattle.cil_text.specs.Image.{FaultIs};
 ghost use Rattle.cil_reader.specs.Forest.{forest_of};
+ghost use Rattle.cil_parse.specs.Citations.{AreCited, citation_lists};
 ghost use Rattle.cil_parse.specs.Lexicon.{texts_in, names_in, AreNumbersOf, AreSplit};
 ghost use Rattle.cil_parse.specs.Flat.{FlatStatement, flat, count};
 ghost use Rattle.cil_parse.specs.Forms.{kind_of, permissions_in};
 ghost use Rattle.cil_parse.specs.PermissionLists.{AreListed};
 
 use crate::builder::Builder;
+use crate::citations::{Citation, citations};
 use crate::copied::copied_names;
 use crate::lists::Lists;
 use crate::permission_lists::PermissionLists;
@@ -35,10 +37,12 @@ pub struct ParsedModule<A: Allocator = Global> {
     nodes: Lists<SetNode, A>,
     rows: Vec<Row, A>,
     permission_lists: PermissionLists<A>,
+    citations: Lists<Citation, A>,
     ghost split: { AreSplit names.0 components.0 texts.0 },
     ghost each_words: { length words.0 ≡ length rows.items },
     ghost each_nodes: { length nodes.0 ≡ length rows.items },
     ghost listed: { AreListed permission_lists rows.items words.0 },
+    ghost cited: { citations.0 ≡ citation_lists rows.items words.0 },
 }
 
 impl<A: Allocator + Copy> ParsedModule<A> {
@@ -70,6 +74,7 @@ impl<A: Allocator + Copy> ParsedModule<A> {
         requires texts { copies.texts.0 ≡ texts_in builder.lexicon }
         requires names { copies.names.0 ≡ names_in builder.lexicon }
         requires listed { AreListed copies.permission_lists builder.rows.items builder.words.0 }
+        requires cited { copies.citations.0 ≡ citation_lists builder.rows.items builder.words.0 }
         ensures { IsOwned builder.entry result }
     {
         let Builder {
@@ -91,16 +96,19 @@ impl<A: Allocator + Copy> ParsedModule<A> {
             nodes,
             rows,
             permission_lists: copies.permission_lists,
+            citations: copies.citations,
         }
     }
 }
 
-/// The texts and the names of a builder, which it borrows from the text, copied; and the distinct lists of permissions that its statements name.
+/// The texts and the names of a builder, which it borrows from the text, copied; the distinct lists of permissions that its statements
+/// name; and what their references look up.
 #[derive(Drop)]
 struct Copies<A: Allocator = Global> {
     texts: Lists<u8, A>,
     names: Lists<u8, A>,
     permission_lists: PermissionLists<A>,
+    citations: Lists<Citation, A>,
 }
 
 impl<A: Allocator + Copy> Copies<A> {
@@ -110,11 +118,14 @@ impl<A: Allocator + Copy> Copies<A> {
         ensures texts { IfOk result (λ copies. copies.texts.0 ≡ texts_in builder.now.lexicon) }
         ensures names { IfOk result (λ copies. copies.names.0 ≡ names_in builder.now.lexicon) }
         ensures listed { IfOk result (λ copies. AreListed copies.permission_lists builder.now.rows.items builder.now.words.0) }
+        ensures cited { IfOk result (λ copies. copies.citations.0
+            ≡ citation_lists builder.now.rows.items builder.now.words.0) }
     {
         Ok(Copies {
             texts: copied_names(alloc, builder.lexicon.texts.as_slice())?,
             names: copied_names(alloc, builder.lexicon.names.as_slice())?,
             permission_lists: PermissionLists::of(alloc, seed, &builder.rows, &builder.words)?,
+            citations: citations(alloc, &builder.rows, &builder.words)?,
         })
     }
 }
@@ -153,6 +164,16 @@ impl<A: Allocator> ParsedModule<A> {
         ensures { (statements : Statements) (f : FlatStatement) → Spells self.now statements → slice_get (flat 0 0 0 statements) i ≡ Some f → result ≡ kind_of f.form }
     {
         self.rows[i].kind
+    }
+
+    /// What the references of the statement of an index look up, in the order of the text.
+    pub fn citations(&self, i: usize) -> &[Citation]
+        requires { i < statement_count self.now }
+        ensures { (statements : Statements) (f : FlatStatement) → Spells self.now statements
+            → slice_get (flat 0 0 0 statements) i ≡ Some f
+            → AreCited (texts_of self.now) (references f.form) result.now }
+    {
+        self.citations.get(i)
     }
 
     /// The number of the permissions that the statement of an index names. Those of another statement have the same number only if they

@@ -42,7 +42,7 @@ impl StatementKind {
     }
 
     /// The table in which a statement of the kind looks up the word of an index.
-    fn referring(self, k: usize) -> Option<Table>
+    pub(crate) fn referring(self, k: usize) -> Option<Table>
         ensures { result ≡ reference_table self k }
     {
         match (self, k) {

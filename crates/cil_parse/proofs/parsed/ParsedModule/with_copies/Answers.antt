@@ -24,6 +24,10 @@ pub invariant_of-result-clause-listed : goal.invariant_of-result-clause-listed
 invariant_of-result-clause-listed g c =
     rw (c.shrink_to_fit-2.ensures, c.shrink_to_fit-4.ensures.items) c.requires.listed
 
+pub invariant_of-result-clause-cited : goal.invariant_of-result-clause-cited
+invariant_of-result-clause-cited g c =
+    rw (c.shrink_to_fit-2.ensures, c.shrink_to_fit-4.ensures.items) c.requires.cited
+
 pub returns : goal.returns
 returns g c = record {
   texts = c.requires.texts;
