@@ -1,6 +1,5 @@
 //! A set expression: its nodes, and the types and attributes that its names lead to.
 
-use crate::evaluation::{Rest, next_value};
 use crate::expression::{Element, Expression};
 use crate::same::are_same_names;
 use cil_parse::SetNode;
@@ -86,10 +85,10 @@ impl<A: Allocator> SetExpression<A> {
             → Answers (F.post known) (λ e. Contains (leaves (set_expr_in self.now)) e) value
             → result ≡ holds_by value (set_expr_in self.now) }
     {
-        let nodes = self.nodes();
-        let names = self.names();
-        let (holds, _) = next_value(Rest { nodes, names }, &known);
-        holds
+        match &self.form {
+            Form::Named(element) | Form::Listed(element) => known(*element),
+            Form::Tree(tree) => tree.holds(known),
+        }
     }
 
     /// Whether it holds what none of its names does. Where it does not, it holds only what one of them holds.
@@ -100,7 +99,27 @@ impl<A: Allocator> SetExpression<A> {
     }
 
     /// Whether another expression has the same nodes, and names that are the same as its own in pairs, as same answers.
+    #[inline(always)]
     pub fn is_same<F: Fn(Element, Element) -> bool>(
+        &self,
+        other: &SetExpression<A>,
+        same: F,
+    ) -> bool
+        requires callable { F.IsAlwaysCallable same }
+        ensures { (pairs : Element → Element → Bool)
+            → AnswersPairs (F.post same) (leaves (set_expr_in self.now)) (leaves (set_expr_in other.now)) pairs
+            → result ≡ are_same pairs (set_expr_in self.now) (set_expr_in other.now) }
+    {
+        match (&self.form, &other.form) {
+            (Form::Named(a), Form::Named(b)) => same(*a, *b),
+            (Form::Listed(a), Form::Listed(b)) => same(*a, *b),
+            _ => self.is_same_tree(other, same),
+        }
+    }
+
+    /// The same, by its nodes. Few expressions are more than one name.
+    #[inline(never)]
+    fn is_same_tree<F: Fn(Element, Element) -> bool>(
         &self,
         other: &SetExpression<A>,
         same: F,

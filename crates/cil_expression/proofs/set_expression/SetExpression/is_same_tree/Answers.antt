@@ -1,8 +1,8 @@
 use Rattle.cil_expression.proofs.Common.{◌≡◌, ◌&&◌, Contains, ap, sym, subst, ◌∙◌, leaves, all_same, same_node, nodes_of}
 use Rattle.cil_expression.specs.Expression.{set_expr_in}
 use Rattle.cil_expression.proofs.SameLemmas.{pointwise-nodes}
-use Rattle.cil_expression.proofs.set_expression.SetExpression.is_same.Goals as goal
-use Rattle.cil_expression.proofs.set_expression.SetExpression.is_same.Goals.{then-nodes, else-nodes}
+use Rattle.cil_expression.proofs.set_expression.SetExpression.is_same_tree.Goals as goal
+use Rattle.cil_expression.proofs.set_expression.SetExpression.is_same_tree.Goals.{then-nodes, else-nodes}
 
 pub returns : goal.returns
 returns g c pairs answers =
