@@ -1,10 +1,11 @@
 -- Statements whose references are bound, and not to aliases without an actual type.
-use Rattle.cil_check.proofs.Common.{◌≡◌, ℕ, ◌<◌, arith, length, length-map, not, ◌&&◌, ◌||◌, Bool, true, false, List, [], ◌∷◌, ◌++◌, map, filter, cond, Option, Some, None, is_some, refl, sym, ap, ◌∙◌, subst, true≢false, append-nil, list_all, option_and_then, option_map, slice_get-map, slice_get_within, same_Some, first_true, second_true, AllByRecursion, Word, Form, attribute_set, class_permission_set, rule, anonymous, by_name, itself, the_named, leaves, Placed, Table, types, classes, leads, references, permission_reference, is_alias, is_unfound, is_unset, element_words, kind_of, IsLead, HasFirsts, Actual, names_permissions, named_class, class_lead, first_at}
-use Rattle.std.proofs.Common.{◌-◌, ◌^◌, slice_get}
+use Rattle.cil_check.proofs.Common.{◌≡◌, ℕ, ◌+◌, ◌<◌, arith, get_or, take, length, length-map, not, ◌&&◌, ◌||◌, Bool, true, false, List, [], ◌∷◌, ◌++◌, map, filter, cond, Option, Some, None, is_some, refl, sym, ap, ◌∙◌, subst, true≢false, append-nil, option_and_then, option_map, slice_get-map, slice_get_within, same_Some, first_true, second_true, AllByRecursion, Word, Form, attribute_set, class_permission_set, rule, anonymous, by_name, itself, the_named, leaves, Placed, Table, types, classes, leads, references, permission_reference, is_alias, is_unfound, is_unset, element_words, kind_of, IsLead, HasFirsts, Actual, names_permissions, named_class, class_lead, first_at}
+use Rattle.std.proofs.Common.{◌-◌, ◌^◌, slice_get, unwrap_or}
+use Rattle.std.proofs.lemmas.List.Folds.{list_all_more}
 use Rattle.cil_specs.specs.Statements.{target_words}
 use Rattle.cil_parse.specs.declared.row.StatementKind.{StatementKind}
 use Rattle.cil_bind.specs.Binding.{AreLeads, kinds_of}
-use Rattle.cil_check.specs.Clean.{are_sound, is_other, is_plainly_sound, is_sound, is_sound_at}
+use Rattle.cil_check.specs.Clean.{are_sound, is_other, is_sound, is_sound_at}
 use Rattle.cil_check.specs.declared.kinds.Kind.TheVariants.{Alias}
 use Rattle.cil_check.proofs.SeenLemmas.{kind-form}
 use Rattle.cil_check.proofs.WordLemmas.{Led, led-at, unset-noted}
@@ -35,47 +36,43 @@ sound-lead policy actuals namespace r (Some place) has led is = record {
         (ap (λ a. not a || is_some (first_at actuals place)) (sym (kind-form Alias lead.s.form))
         ∙ ap (is_sound_at actuals place) (sym (slice_get-map (λ s. kind_of s.form) policy place ∙ ap (option_map (λ s. kind_of s.form)) lead.at)) ∙ is)
 
--- one that is bound to no alias is sound
-plainly : (policy : List Placed) (actuals : List (ℕ × ℕ)) (found : Option ℕ) → length policy < 2 ^ 32 → is_plainly_sound (kinds_of policy) found ≡ true → is_sound (kinds_of policy) actuals found ≡ true
-plainly policy actuals None few is = absurd (past (slice_get (kinds_of policy) 4294967295) refl is)
+-- one that is bound to no alias is sound: no statement has the place that stands for nowhere in code
+pub plainly-sound : (policy : List Placed) (kinds : List StatementKind) (actuals : List (ℕ × ℕ)) (found : Option ℕ) → kinds ≡ kinds_of policy → length policy < 2 ^ 32
+    → is_other (slice_get kinds (unwrap_or found 4294967295)) ≡ true → is_sound kinds actuals found ≡ true
+plainly-sound policy kinds actuals None same few is = absurd (past (slice_get kinds 4294967295) refl is)
   where
-    past : (o : Option StatementKind) → slice_get (kinds_of policy) 4294967295 ≡ o → is_other o ≡ true → ⊥
+    past : (o : Option StatementKind) → slice_get kinds 4294967295 ≡ o → is_other o ≡ true → ⊥
     past None at other = true≢false (sym other)
     past (Some kind) at other =
-        let within = slice_get_within (kinds_of policy) 4294967295 kind at in
-        let long : length (kinds_of policy) ≡ length policy = length-map policy (λ s. kind_of s.form) in
+        let within = slice_get_within kinds 4294967295 kind at in
+        let long : length kinds ≡ length policy = ap length same ∙ length-map policy (λ s. kind_of s.form) in
         omega (arith, within, long, few)
-plainly policy actuals (Some place) few is = there (slice_get (kinds_of policy) place) is
+plainly-sound policy kinds actuals (Some place) same few is = there (slice_get kinds place) is
   where
     there : (o : Option StatementKind) → is_other o ≡ true → is_sound_at actuals place o ≡ true
     there None other = other
     there (Some kind) other = ap (λ b. b || is_some (first_at actuals place)) other
 
--- so are all references of a statement, whether they are told by this or one by one
+-- so are all references of a statement
 sound-each : (policy : List Placed) (actuals : List (ℕ × ℕ)) (namespace : List (List ℕ)) (refs : List (Table × Word)) (bound : List (Option ℕ)) → HasFirsts Actual policy actuals
-    → AreLeads policy namespace refs bound → list_all (is_sound (kinds_of policy) actuals) bound ≡ true → AllByRecursion (IsSound policy namespace) refs
+    → AreLeads policy namespace refs bound → are_sound (kinds_of policy) actuals bound ≡ true → AllByRecursion (IsSound policy namespace) refs
 sound-each policy actuals namespace [] [] has are all = tt
 sound-each policy actuals namespace [] (b ∷ bound) has are all = absurd are
 sound-each policy actuals namespace (r ∷ refs) [] has are all = absurd are
 sound-each policy actuals namespace (r ∷ refs) (b ∷ bound) has are all = (
-  sound-lead policy actuals namespace r b has are.0 (first_true (is_sound (kinds_of policy) actuals b) (list_all (is_sound (kinds_of policy) actuals) bound) all),
-  sound-each policy actuals namespace refs bound has are.1 (second_true (is_sound (kinds_of policy) actuals b) (list_all (is_sound (kinds_of policy) actuals) bound) all),
+  sound-lead policy actuals namespace r b has are.0 (first_true (is_sound (kinds_of policy) actuals b) (are_sound (kinds_of policy) actuals bound) all),
+  sound-each policy actuals namespace refs bound has are.1 (second_true (is_sound (kinds_of policy) actuals b) (are_sound (kinds_of policy) actuals bound) all),
 )
 
-plainly-all : (policy : List Placed) (actuals : List (ℕ × ℕ)) (bound : List (Option ℕ)) → length policy < 2 ^ 32 → list_all (is_plainly_sound (kinds_of policy)) bound ≡ true → list_all (is_sound (kinds_of policy) actuals) bound ≡ true
-plainly-all policy actuals [] few all = refl
-plainly-all policy actuals (b ∷ bound) few all =
-    ap (λ c. c && list_all (is_sound (kinds_of policy) actuals) bound) (plainly policy actuals b few (first_true (is_plainly_sound (kinds_of policy) b) (list_all (is_plainly_sound (kinds_of policy)) bound) all))
-    ∙ plainly-all policy actuals bound few (second_true (is_plainly_sound (kinds_of policy) b) (list_all (is_plainly_sound (kinds_of policy)) bound) all)
-
-pub sound-all : (policy : List Placed) (kinds : List StatementKind) (actuals : List (ℕ × ℕ)) (namespace : List (List ℕ)) (refs : List (Table × Word)) (bound : List (Option ℕ)) → kinds ≡ kinds_of policy → length policy < 2 ^ 32 → HasFirsts Actual policy actuals
+pub sound-all : (policy : List Placed) (kinds : List StatementKind) (actuals : List (ℕ × ℕ)) (namespace : List (List ℕ)) (refs : List (Table × Word)) (bound : List (Option ℕ)) → kinds ≡ kinds_of policy → HasFirsts Actual policy actuals
     → AreLeads policy namespace refs bound → are_sound kinds actuals bound ≡ true → AllByRecursion (IsSound policy namespace) refs
-sound-all policy kinds actuals namespace refs bound same few has are all =
-    sound-each policy actuals namespace refs bound has are (by (list_all (is_plainly_sound (kinds_of policy)) bound) refl (ap (λ l. are_sound l actuals bound) (sym same) ∙ all))
-  where
-    by : (b : Bool) → list_all (is_plainly_sound (kinds_of policy)) bound ≡ b → (b || list_all (is_sound (kinds_of policy) actuals) bound) ≡ true → list_all (is_sound (kinds_of policy) actuals) bound ≡ true
-    by true plain is = plainly-all policy actuals bound few plain
-    by false plain is = is
+sound-all policy kinds actuals namespace refs bound same has are all =
+    sound-each policy actuals namespace refs bound has are (ap (λ l. are_sound l actuals bound) (sym same) ∙ all)
+
+-- one reference more
+pub sound-more : (kinds : List StatementKind) (actuals : List (ℕ × ℕ)) (bound : List (Option ℕ)) (i : ℕ) (d : Option ℕ) → i < length bound → are_sound kinds actuals (take i bound) ≡ true → is_sound kinds actuals (get_or bound i d) ≡ true
+    → are_sound kinds actuals (take (i + 1) bound) ≡ true
+sound-more kinds actuals bound i d less before is = list_all_more (is_sound kinds actuals) bound i d less ∙ ap (λ b. b && is_sound kinds actuals (get_or bound i d)) before ∙ is
 
 -- none of them is unfound
 pub none-unfound : (policy : List Placed) (namespace : List (List ℕ)) (refs : List (Table × Word)) → AllByRecursion (IsSound policy namespace) refs → map (λ r. r.1) (filter (is_unfound policy namespace) refs) ≡ []

@@ -1,5 +1,5 @@
 -- What the references of statements without faults are bound to.
-use Rattle.std.specs.Prelude.{ℕ, Bool, false, not, ◌||◌, List, Option, Some, None, is_some, slice_get, unwrap_or}
+use Rattle.std.specs.Prelude.{ℕ, Bool, false, not, ◌||◌, List, Option, Some, None, is_some, slice_get}
 use Rattle.std.specs.List.{list_all}
 use Rattle.cil_parse.specs.declared.row.StatementKind.{StatementKind}
 use Rattle.cil_check.specs.declared.kinds.Kind.TheVariants.{Alias}
@@ -21,10 +21,6 @@ abbrev pub is_other : Option StatementKind → Bool
 is_other None = false
 is_other (Some kind) = not (is_kind Alias kind)
 
--- whether a reference is bound, and to no alias; the place that stands for nowhere is that of no statement
-abbrev pub is_plainly_sound : List StatementKind → Option ℕ → Bool
-is_plainly_sound kinds found = is_other (slice_get kinds (unwrap_or found 4294967295))
-
--- whether all references are bound, and to no alias; or else, whether all are sound
+-- whether all of some references are
 abbrev pub are_sound : List StatementKind → List (ℕ × ℕ) → List (Option ℕ) → Bool
-are_sound kinds actuals bound = list_all (is_plainly_sound kinds) bound || list_all (is_sound kinds actuals) bound
+are_sound kinds actuals bound = list_all (is_sound kinds actuals) bound

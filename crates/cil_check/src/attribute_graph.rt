@@ -22,6 +22,7 @@ pub struct AttributeNumbers<A: Allocator = Global> {
 
 impl<A: Allocator + Copy> AttributeNumbers<A> {
     /// The attributes of a policy.
+    #[inline(never)]
     pub fn of(alloc: A, bound: &BoundPolicy<'_, '_, A>) -> Result<Self, AllocError>
         requires { (policy : List Placed) × IsOf bound.now policy }
         ensures { IfOk result (λ attributes. (policy : List Placed) → IsOf bound.now policy
@@ -113,6 +114,7 @@ impl<A: Allocator> AttributeNumbers<A> {
 
 impl<A: Allocator + Copy> AttributeNumbers<A> {
     /// The graph of the attributes: an edge leads from each to those that its set statements mention.
+    #[inline(never)]
     pub fn graph(
         &self,
         alloc: A,

@@ -1,7 +1,9 @@
 //! The first fault of a policy whose references are bound, but for names that are declared twice.
 
-ghost use Rattle.std.specs.Prelude.{◌≡◌, ◌≢◌, ◌<◌, ◌^◌, [], List, length, Some, None, slice_get, take, filter, IfOk, IfErr, OnOk};
-ghost use Rattle.cil_check.specs.Common.{Word, Placed, types, references, is_of_another_kind, wrong_kind_words, is_unset, alias_unset_words, IsFaultOf, circular, words_in, AreNumbersOf, names_of, IsOf, IsSeen, Reads, IsNoted, HasFirsts, policy_kind_of, IsFoundFault, PolicyFaultIs, IsLeast, IsFaultIn, IsFaultless, HasNoneBelow, HasInherited, HaveListed, HaveWords, test_of, word_if, again_words};
+ghost use Rattle.std.specs.Prelude.{◌≡◌, ◌≢◌, ◌<◌, ◌^◌, ◌+◌, ◌||◌, [], List, length, Some, None, slice_get, take, filter, IfOk, IfErr, OnOk};
+ghost use Rattle.cil_check.specs.Common.{Word, Placed, types, references, is_of_another_kind, wrong_kind_words, is_unset, alias_unset_words, IsFaultOf, circular, words_in, AreNumbersOf, names_of, IsOf, IsSeen, Reads, IsNoted, HasFirsts, policy_kind_of, IsFoundFault, PolicyFaultIs, IsLeast, IsFaultIn, IsFaultless, HasNoneBelow, HasInherited, HaveListed, HaveWords, test_of, word_if, again_words, given_kind};
+ghost use Rattle.cil_check.specs.Associations.{HasFirstsOf};
+ghost use Rattle.cil_check.specs.Inherited.{HasInheritedOf};
 ghost use Rattle.cil_specs.specs.Expr.{WordExpr, leaves};
 ghost use Rattle.cil_specs.specs.Statements.{attribute_set};
 ghost use Rattle.cil_specs.proofs.FirstLemmas.{faulty_words};
@@ -13,7 +15,7 @@ use crate::bound::{BoundPolicy, Seen};
 use crate::fault::{PolicyFault, PolicyFaultKind};
 use crate::firsts::{Association, Firsts};
 use crate::groups::Groups;
-use crate::inherited::add_commons;
+use crate::inherited::add_common;
 use crate::kinds::Kind;
 use crate::permissions::Permissions;
 use crate::witnesses::Witnesses;
@@ -30,6 +32,13 @@ pub(crate) const CHECKED: [PolicyFaultKind; 6] = [
     PolicyFaultKind::SecondCommon,
     PolicyFaultKind::TooManyPermissions,
 ];
+
+/// Whether statements of a kind give an actual type or a common.
+fn gives_any(kind: StatementKind) -> bool
+    ensures { result ≡ (given_kind Actual kind || given_kind Common kind) }
+{
+    Association::Actual.is_given_by(kind) || Association::Common.is_given_by(kind)
+}
 
 /// A bound policy, the first statements that give an actual type or a common, the permissions that classes and commons list, all commons
 /// that classes are given, and where among these a permission is to be looked for first.
@@ -89,11 +98,66 @@ impl<'p, 'm, A: Allocator + Copy> Checker<'p, 'm, A> {
         ensures inherited { OnOk result ((policy : List Placed) → IsOf self.old.bound policy → HasInherited policy self.new.inherited) }
         ensures few { OnOk result ((policy : List Placed) → IsOf self.old.bound policy → length policy < 2 ^ 32) }
     {
-        counted_in_32_bits(self.bound.len())?;
-        self.actuals.fill(&self.bound, Association::Actual)?;
-        self.commons.fill(&self.bound, Association::Common)?;
-        add_commons(&mut self.inherited, alloc, &self.bound)?;
+        self.note_all(alloc)?;
         self.witnesses = Witnesses::of(alloc, &self.bound, &self.permissions, &self.inherited)?;
+        Ok(())
+    }
+
+    /// Notes what statements give to aliases and classes, in one pass over their kinds.
+    #[inline(never)]
+    fn note_all(&mut self, alloc: A) -> Result<(), AllocError>
+        requires is { (policy : List Placed) × IsOf self.old.bound policy }
+        requires actuals { self.old.actuals ≡ [] }
+        requires commons { self.old.commons ≡ [] }
+        requires inherited { self.old.inherited ≡ ([], []) }
+        ensures bound { OnOk result (self.new.bound ≡ self.old.bound) }
+        ensures permissions { OnOk result (self.new.permissions ≡ self.old.permissions) }
+        ensures actuals { OnOk result ((policy : List Placed) → IsOf self.old.bound policy
+            → HasFirsts Actual policy self.new.actuals) }
+        ensures commons { OnOk result ((policy : List Placed) → IsOf self.old.bound policy
+            → HasFirsts Common policy self.new.commons) }
+        ensures inherited { OnOk result ((policy : List Placed) → IsOf self.old.bound policy
+            → HasInherited policy self.new.inherited) }
+        ensures few { OnOk result ((policy : List Placed) → IsOf self.old.bound policy
+            → length policy < 2 ^ 32) }
+    {
+        let count = self.bound.len();
+        counted_in_32_bits(count)?;
+        for i in 0..count {
+            if !gives_any(self.bound.kind(i)) {
+                continue;
+            }
+            self.note(alloc, i as u32)?;
+        }
+        Ok(())
+    }
+
+    /// Notes what the statement of a place gives to an alias or a class.
+    #[inline(never)]
+    fn note(&mut self, alloc: A, place: u32) -> Result<(), AllocError>
+        requires is { (policy : List Placed) × IsOf self.old.bound policy
+            × (place < length policy) }
+        requires same { length self.old.inherited.0 ≡ length self.old.inherited.1 }
+        ensures bound { OnOk result (self.new.bound ≡ self.old.bound) }
+        ensures permissions { OnOk result (self.new.permissions ≡ self.old.permissions) }
+        ensures same { OnOk result (length self.new.inherited.0 ≡ length self.new.inherited.1) }
+        ensures actuals { OnOk result ((policy : List Placed) (s : Placed)
+            → IsOf self.old.bound policy → slice_get policy place ≡ Some s
+            → HasFirstsOf Actual policy (take place policy) self.old.actuals
+            → HasFirstsOf Actual policy (take (place + 1) policy) self.new.actuals) }
+        ensures commons { OnOk result ((policy : List Placed) (s : Placed)
+            → IsOf self.old.bound policy → slice_get policy place ≡ Some s
+            → HasFirstsOf Common policy (take place policy) self.old.commons
+            → HasFirstsOf Common policy (take (place + 1) policy) self.new.commons) }
+        ensures inherited { OnOk result ((policy : List Placed) (s : Placed)
+            → IsOf self.old.bound policy → slice_get policy place ≡ Some s
+            → HasInheritedOf policy (take place policy) self.old.inherited
+            → HasInheritedOf policy (take (place + 1) policy) self.new.inherited) }
+    {
+        let seen = self.bound.seen(place as usize);
+        self.actuals.note(Association::Actual, &seen, place)?;
+        self.commons.note(Association::Common, &seen, place)?;
+        add_common(&mut self.inherited, alloc, &seen)?;
         Ok(())
     }
 }

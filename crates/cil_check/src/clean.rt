@@ -2,8 +2,7 @@
 
 ghost use Rattle.std.specs.Prelude.{◌≡◌, ◌<◌, [], List, Some, true, length, slice_get, Contains, IsTrue};
 ghost use Rattle.cil_check.specs.Common.{Placed, AreNumbersOf, classes, has_name, kind_of, names_of, permissions_of, word_at, IsFirstOf, IsLead, IsSeen, IsNoted, class_lead, lacking_words, HasNoneBelow, IsCleanAt};
-ghost use Rattle.std.specs.List.{list_all};
-ghost use Rattle.cil_check.specs.Clean.{is_sound as is_sound_lead, is_plainly_sound as is_plainly_sound_lead, are_sound as are_sound_leads};
+ghost use Rattle.cil_check.specs.Clean.{is_other, is_sound as is_sound_lead, are_sound as are_sound_leads};
 ghost use Rattle.cil_check.specs.Recent.{IsKnown};
 ghost use Rattle.cil_check.specs.Kinds.{names_permissions as is_naming_kind, is_rule_of_set as is_rule_of_set_kind, is_plain as is_plain_kind};
 ghost use Rattle.cil_parse.specs.declared.row.StatementKind.TheVariants.{TypeAttributeSet};
@@ -73,6 +72,8 @@ impl<'p, 'm, A: Allocator + Copy> Checker<'p, 'm, A> {
     }
 
     /// Whether the statement of a place has no fault of those kinds, by its words.
+    #[cold]
+    #[inline(never)]
     fn is_clean_whole(&self, place: usize) -> bool
         requires { (policy : List Placed) × IsNoted self.now policy × (place < length policy) }
         ensures { IsTrue result → (policy : List Placed) (s : Placed) → IsNoted self.now policy
@@ -95,38 +96,57 @@ impl<'p, 'm, A: Allocator + Copy> Checker<'p, 'm, A> {
         }
     }
 
-    /// Whether a reference is bound, and to no alias. No statement has the place that stands for
-    /// nowhere here, since there are fewer than 2^32.
-    fn is_plainly_sound(&self, found: Lead) -> bool
-        ensures { result ≡ is_plainly_sound_lead self.now.bound.policy.now.kinds.items found }
+    /// Whether a place is that of a statement, and not of an alias.
+    #[inline(always)]
+    fn is_other(&self, place: u32) -> bool
+        ensures { result ≡ is_other (slice_get self.now.bound.policy.now.kinds.items place) }
     {
-        let place = found.place().unwrap_or(u32::MAX);
         match self.bound.policy.kinds.get(place as usize) {
             Some(kind) => !Kind::Alias.is(*kind),
             None => false,
         }
     }
 
-    /// Whether all of some references are bound, and none to an alias.
-    fn are_plainly_sound(&self, bound: &[Lead]) -> bool
-        ensures { result ≡ list_all
-            (is_plainly_sound_lead self.now.bound.policy.now.kinds.items) bound.now }
+    /// Whether a reference is bound, and to no alias. No statement has the place that stands for
+    /// nowhere here, since there are fewer than 2^32.
+    #[inline(always)]
+    fn is_plainly_sound(&self, found: Lead) -> bool
+        ensures { IsTrue result → (policy : List Placed) → IsNoted self.now policy
+            → is_sound_lead self.now.bound.policy.now.kinds.items self.now.actuals found ≡ true }
     {
-        bound.iter().all(|found| self.is_plainly_sound(*found))
+        self.is_other(found.place().unwrap_or(u32::MAX))
     }
 
-    /// Whether all of some references are bound, and none to an alias without an actual type.
+    /// Whether all of some references are bound, and none to an alias.
+    #[inline(always)]
+    fn are_plainly_sound(&self, bound: &[Lead]) -> bool
+        ensures { IsTrue result → (policy : List Placed) → IsNoted self.now policy
+            → are_sound_leads self.now.bound.policy.now.kinds.items self.now.actuals bound.now ≡ true }
+    {
+        for found in bound {
+            if !self.is_plainly_sound(*found) {
+                return false;
+            }
+        }
+        true
+    }
+
+    /// Whether all of some references are bound, and none to an alias without an actual type, by
+    /// going over them one by one.
+    #[cold]
+    #[inline(never)]
     fn are_each_sound(&self, bound: &[Lead]) -> bool
         ensures { result
-            ≡ list_all (is_sound_lead self.now.bound.policy.now.kinds.items self.now.actuals) bound.now }
+            ≡ are_sound_leads self.now.bound.policy.now.kinds.items self.now.actuals bound.now }
     {
         bound.iter().all(|found| self.is_sound(found.place()))
     }
 
     /// Whether all of some references are bound, and none to an alias without an actual type. Most
     /// lead to no alias.
+    #[inline(always)]
     fn are_sound(&self, bound: &[Lead]) -> bool
-        ensures { result
+        ensures { (policy : List Placed) → IsNoted self.now policy → result
             ≡ are_sound_leads self.now.bound.policy.now.kinds.items self.now.actuals bound.now }
     {
         self.are_plainly_sound(bound) || self.are_each_sound(bound)
@@ -173,6 +193,7 @@ impl<'p, 'm, A: Allocator + Copy> Checker<'p, 'm, A> {
     }
 
     /// Whether a class has all permissions that a statement names of it.
+    #[inline(never)]
     fn has_named(&self, class: u32, seen: &Seen<'p, 'm, A>, known: &mut Known<A>) -> bool
         requires { (policy : List Placed) × (s : Placed) × IsNoted self.now policy
             × IsSeen seen.now policy s }
@@ -199,6 +220,7 @@ impl<'p, 'm, A: Allocator + Copy> Checker<'p, 'm, A> {
 
     /// Whether a class lacks none of the permissions that the statement of a place names of it.
     /// Those of a list that the class is known to have are not gone over.
+    #[inline(always)]
     fn has_listed(&self, place: usize, class: u32, known: &mut Known<A>) -> bool
         requires { (policy : List Placed) × (s : Placed) × IsNoted self.now policy
             × (slice_get policy place ≡ Some s)
@@ -225,6 +247,7 @@ impl<'p, 'm, A: Allocator + Copy> Checker<'p, 'm, A> {
 
     /// Whether a statement that names permissions of a class has no missing word and no alias
     /// without an actual type. Other faults it can't have.
+    #[inline(always)]
     fn is_clean_naming(&self, place: usize, known: &mut Known<A>) -> bool
         requires { (policy : List Placed) × (s : Placed) × IsNoted self.now policy
             × (slice_get policy place ≡ Some s) × (is_naming_kind (kind_of s.form) ≡ true) }
@@ -263,6 +286,7 @@ impl<'p, 'm, A: Allocator + Copy> Checker<'p, 'm, A> {
     /// Whether the statement of a place has no fault of the kinds that are seen at one statement.
     /// Its kind tells which it can have: those of most are told by what its references are bound
     /// to, and only others are looked at whole.
+    #[inline(always)]
     fn is_clean_by(&self, place: usize, known: &mut Known<A>) -> bool
         requires { (policy : List Placed) × IsNoted self.now policy × (place < length policy) }
         ensures clean { IsTrue result → (policy : List Placed) (s : Placed)
@@ -289,6 +313,7 @@ impl<'p, 'm, A: Allocator + Copy> Checker<'p, 'm, A> {
 
     /// Whether no statement has a fault of the kinds 42 to 47: one pass over the policy for all of
     /// them.
+    #[inline(never)]
     pub(crate) fn is_clean(&self, alloc: A) -> bool
         requires { (policy : List Placed) × IsNoted self.now policy }
         ensures { IsTrue result → (policy : List Placed) → IsNoted self.now policy

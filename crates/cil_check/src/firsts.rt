@@ -1,10 +1,10 @@
 //! Which statement is the first that gives something to a declaration.
 
-ghost use Rattle.std.specs.Prelude.{◌<◌, [], length, slice_get, ◌≡◌, List, is_some, OnOk, OnErr};
-ghost use Rattle.cil_check.specs.Common.{Placed, IsLead, IsOf, IsSeen, association_table, given_kind, given_lead, first_at, with_first, HasFirsts};
+ghost use Rattle.std.specs.Prelude.{◌+◌, [], take, slice_get, ◌≡◌, List, Some, OnOk, OnErr};
+ghost use Rattle.cil_check.specs.Common.{Placed, IsLead, IsSeen, association_table, given_kind, given_lead, first_at, with_first};
+ghost use Rattle.cil_check.specs.Associations.{HasFirstsOf};
 
-use crate::bound::{BoundPolicy, Seen};
-use cil_names::counted_in_32_bits;
+use crate::bound::Seen;
 use cil_parse::StatementKind;
 use indexmap::IndexMap;
 use std::alloc::{AllocError, Allocator, Global};
@@ -54,17 +54,6 @@ impl Association {
             None
         }
     }
-
-    /// The same of the statement of a place of a policy. Only a statement that gives this is looked at whole.
-    pub fn lead_at<A: Allocator>(self, bound: &BoundPolicy<'_, '_, A>, i: usize) -> Option<u32>
-        requires { (policy : List Placed) × IsOf bound.now policy × (i < length policy) }
-        ensures { (policy : List Placed) (s : Placed) → IsOf bound.now policy → slice_get policy i ≡ Some s → IsLead (association_table self) policy result (given_lead self policy s) }
-    {
-        if !self.is_given_by(bound.kind(i)) {
-            return None;
-        }
-        self.lead(&bound.seen(i))
-    }
 }
 
 impl<A: Allocator + Copy> Firsts<A> {
@@ -77,25 +66,22 @@ impl<A: Allocator + Copy> Firsts<A> {
         }
     }
 
-    /// Takes up the first statements of a policy that give this, where none is taken up yet. A policy of more than 4294967295 statements
-    /// is answered as out of memory.
-    pub(crate) fn fill(
+    /// Takes up the statement of a place, if it gives this, and none came before.
+    pub(crate) fn note(
         &mut self,
-        bound: &BoundPolicy<'_, '_, A>,
         association: Association,
+        seen: &Seen<'_, '_, A>,
+        place: u32,
     ) -> Result<(), AllocError>
-        requires is { (policy : List Placed) × IsOf bound.now policy }
-        requires empty { self.old ≡ [] }
-        ensures { OnOk result ((policy : List Placed) → IsOf bound.now policy → HasFirsts association policy self.new) }
+        ensures { OnOk result ((policy : List Placed) (s : Placed) → IsSeen seen.now policy s
+            → slice_get policy place ≡ Some s
+            → HasFirstsOf association policy (take place policy) self.old
+            → HasFirstsOf association policy (take (place + 1) policy) self.new) }
     {
-        let count = bound.len();
-        counted_in_32_bits(count)?;
-        for i in 0..count {
-            let Some(to) = association.lead_at(bound, i) else {
-                continue;
-            };
-            self.insert(to, i as u32)?;
-        }
+        let Some(to) = association.lead(seen) else {
+            return Ok(());
+        };
+        self.insert(to, place)?;
         Ok(())
     }
 

@@ -60,6 +60,7 @@ impl<A: Allocator + Copy> HeldLists<A> {
     }
 
     /// Whether a class is known to have a list.
+    #[inline(always)]
     pub fn knows(&self, list: PermissionList, class: u32) -> bool
         ensures { IsTrue result → (holds : ℕ → ℕ → ℕ → Bool) → AreHeld holds self.now.slots.items
             → holds list.«module» list.list class ≡ true }

@@ -59,6 +59,7 @@ impl<A: Allocator + Copy> Permissions<A> {
     }
 
     /// Takes up the permissions that a statement lists.
+    #[inline(never)]
     fn add_words(
         &mut self,
         owner: u32,
@@ -82,6 +83,7 @@ impl<A: Allocator + Copy> Permissions<A> {
 
     /// The permissions that the classes and the commons of a policy list. A policy of more than 4294967295 statements is answered as out
     /// of memory.
+    #[inline(never)]
     pub fn of(alloc: A, bound: &BoundPolicy<'_, '_, A>) -> Result<Self, AllocError>
         requires { (policy : List Placed) × IsOf bound.now policy }
         ensures listed { IfOk result (λ permissions. (policy : List Placed) → IsOf bound.now policy → HaveListed bound.now.policy.now.names policy permissions.listed.keys) }

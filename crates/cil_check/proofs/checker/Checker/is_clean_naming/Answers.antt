@@ -23,7 +23,7 @@ returns-clause-clean g c = λ yes policy s noted at is known.
     let b = c.args.self.now.bound.policy.now in
     let are = subst (AreLeads policy s.namespace (references s.form)) (sym c.get-bound.ensures) (bound-at policy policy b.bound.0 c.args.place s noted.is.bound.bound at) in
     let led = class-last policy s c.get-bound.result.now c.in-Some-place.class is are (sym c.in-Some.ensures.value ∙ ap Some (sym c.place.ensures ∙ c.in-Some-place.is)) in
-    let all = sound-all policy b.kinds.items c.args.self.now.actuals s.namespace (references s.form) c.get-bound.result.now noted.is.bound.kinds noted.few noted.has_actuals are (sym c.are_sound.ensures ∙ c.if-not-are_sound.false) in
+    let all = sound-all policy b.kinds.items c.args.self.now.actuals s.namespace (references s.form) c.get-bound.result.now noted.is.bound.kinds noted.has_actuals are (sym (c.are_sound.ensures policy noted) ∙ c.if-not-are_sound.false) in
     naming-clean policy c.args.place s is noted.is.inside at
     (missing-neither policy s (none-unfound policy s.namespace (references s.form) all) (c.has_listed.ensures.none yes policy s noted at led known))
     (none-unset-of policy s.namespace s.form all)

@@ -16,5 +16,5 @@ pub returns : goal.returns
 returns g c = λ yes policy s noted at is.
     let b = c.args.self.now.bound.policy.now in
     let are = subst (AreLeads policy s.namespace (references s.form)) (sym c.get.ensures) (bound-at policy policy b.bound.0 c.args.place s noted.is.bound.bound at) in
-    let all = sound-all policy b.kinds.items c.args.self.now.actuals s.namespace (references s.form) c.get.result.now noted.is.bound.kinds noted.few noted.has_actuals are (sym c.are_sound.ensures ∙ yes) in
+    let all = sound-all policy b.kinds.items c.args.self.now.actuals s.namespace (references s.form) c.get.result.now noted.is.bound.kinds noted.has_actuals are (sym (c.are_sound.ensures policy noted) ∙ yes) in
     of-set-clean policy c.args.place s is noted.is.inside at (none-unfound policy s.namespace (references s.form) all) (none-unset-of policy s.namespace s.form all)

@@ -21,7 +21,7 @@ returns-then-is g c = λ yes policy s noted at kind.
     let bound = c.get-bound.result.now in
     let (attribute, expr, form) = form-set s.form kind in
     let are = subst (AreLeads policy s.namespace (references s.form)) (sym c.get-bound.ensures) (bound-at policy policy b.bound.0 c.args.place s noted.is.bound.bound at) in
-    let all = sound-all policy b.kinds.items c.args.self.now.actuals s.namespace (references s.form) bound noted.is.bound.kinds noted.few noted.has_actuals are (sym c.are_sound.ensures ∙ yes) in
+    let all = sound-all policy b.kinds.items c.args.self.now.actuals s.namespace (references s.form) bound noted.is.bound.kinds noted.has_actuals are (sym (c.are_sound.ensures policy noted) ∙ yes) in
     let led = subst (λ o. IsLead types policy o (leads policy types s.namespace attribute.text))
     (get_or_from_slice_get bound 0 (Some c.in-Some-place.first) None (sym c.in-Some.ensures.value ∙ ap Some (sym c.place.ensures ∙ c.in-Some-place.is))) (lead-of policy s.namespace (references s.form) bound 0 (types, attribute) are (ap (λ f. slice_get (references f) 0) form)) in
     let other = there-kind policy s.namespace Attribute attribute c.in-Some-place.first c.is.result led (λ t there. c.is.ensures policy t noted.is there) ∙ ap not c.if-is.true in
