@@ -1,5 +1,5 @@
--- Rules say the same by their numbers where they do by their names.
-use Rattle.cil_matching.proofs.Common.{◌≡◌, ◌∙◌, ◌==◌, ◌↔◌, ℕ, ◌<◌, Bool, true, false, true≢false, ◌&&◌, nat_lt, List, [], ◌∷◌, length, map, slice_get, slice_index_or, Option, None, Some, refl, sym, ap, arith, bytes_eq, list_all, and_parts, eqb-true, eq-eqb, ltb-true, slice_get-get_or, slice_get_within, get_or_from_slice_get, a_type, an_attribute, ResolvedTarget, at_itself, at_element, RuleContent, content_of, kind_index, same-kind, is_that, is_number_of, is_element_by, is_target_by, is_written_by, are_permissions_by, SayTheSame, AreNumbers}
+-- Rules and set statements say the same by their numbers where they do by their names.
+use Rattle.cil_matching.proofs.Common.{◌≡◌, ◌∙◌, ◌==◌, ◌↔◌, ℕ, ◌<◌, Bool, true, false, true≢false, ◌&&◌, nat_lt, List, [], ◌∷◌, length, map, slice_get, slice_index_or, Option, None, Some, refl, sym, ap, arith, bytes_eq, list_all, and_parts, eqb-true, eq-eqb, ltb-true, slice_get-get_or, slice_get_within, get_or_from_slice_get, a_type, an_attribute, ResolvedTarget, at_itself, at_element, RuleContent, SetContent, content_of, set_content_of, kind_index, same-kind, is_that, is_number_of, is_element_by, is_set_by, is_target_by, is_written_by, are_permissions_by, SayTheSame, AreNumbers}
 use Rattle.std.proofs.Common.{Box, not}
 use Rattle.std.proofs.Math.Bool.{and-false}
 use Rattle.std.proofs.lemmas.Slice.Eq.{bytes_eq-Decides}
@@ -11,16 +11,17 @@ use Rattle.cil_parse.specs.Forms.{is_plain}
 use Rattle.cil_text.specs.Image.{rule_kind_of}
 use Rattle.cil_expression.specs.declared.expression.Element.{Element}
 use Rattle.cil_expression.specs.declared.expression.Element.TheVariants.{«Type», Attribute}
-use Rattle.cil_expression.specs.Expression.{expr_in}
+use Rattle.cil_expression.specs.Expression.{expr_in, set_expr_in}
 use Rattle.cil_expression.specs.Same.{all_same, are_same, same_node}
 use Rattle.cil_expression.specs.Spelling.{nodes_of}
 use Rattle.cil_expression.specs.declared.expression.Expression.{Expression}
 use Rattle.cil_expression.proofs.ListedLemmas.{leaves-listed, plain-mapped}
 use Rattle.cil_expression.proofs.SameExprLemmas.{mapped-same, same-mapped}
-use Rattle.cil_resolve.specs.Below.{are_permissions_below, are_written_below, is_element_below, is_target_below, is_rule_below, is_written_below}
-use Rattle.cil_resolve.specs.Numbers.{element_of, is_no_list, named_permissions, resolved_permissions_of, resolved_target_of, rule_of, written_in, written_or}
+use Rattle.cil_resolve.specs.Below.{are_permissions_below, are_written_below, is_element_below, is_target_below, is_rule_below, is_set_below, is_written_below}
+use Rattle.cil_resolve.specs.Numbers.{element_of, is_no_list, named_permissions, resolved_permissions_of, resolved_target_of, rule_of, set_of, written_in, written_or}
 use Rattle.cil_resolve.specs.declared.numbered.NumberedPermissions.{NumberedPermissions}
 use Rattle.cil_resolve.specs.declared.numbered.NumberedRule.{NumberedRule}
+use Rattle.cil_resolve.specs.declared.numbered.NumberedSet.{NumberedSet}
 use Rattle.cil_resolve.specs.declared.numbered.ResolvedPermissions.{ResolvedPermissions}
 use Rattle.cil_resolve.specs.declared.numbered.ResolvedPermissions.TheVariants as permits
 use Rattle.cil_resolve.specs.declared.numbered.ResolvedTarget as numbered
@@ -71,6 +72,31 @@ is-below n r e written =
     let one = and_parts (is_element_below n r.source) (is_target_below n r.target && are_permissions_below n r.permissions) e in
     let two = and_parts (is_target_below n r.target) (are_permissions_below n r.permissions) one.1 in
     record { source = one.0; target = two.0; permissions = two.1; written = written }
+
+-- items that lead to one thing are the same in pairs, where that is so of two that pass their tests
+leaves-told : {first second other : Type 0} (same : first → second → Bool) (f : first → other) (g : second → other) (p : first → Bool) (q : second → Bool)
+    → ((x : first) (y : second) → p x ≡ true → q y ≡ true → f x ≡ g y → same x y ≡ true)
+    → (xs : List first) (ys : List second) → list_all p xs ≡ true → list_all q ys ≡ true → map f xs ≡ map g ys → all_same same xs ys ≡ true
+leaves-told same f g p q tell [] [] low below is = refl
+leaves-told same f g p q tell [] (y ∷ ys) low below is = absurd (omega (arith, ap length is))
+leaves-told same f g p q tell (x ∷ xs) [] low below is = absurd (omega (arith, ap length is))
+leaves-told same f g p q tell (x ∷ xs) (y ∷ ys) low below is =
+    let head : f x ≡ g y = cc is in
+    let tail : map f xs ≡ map g ys = cc is in
+    both_true (same x y) (all_same same xs ys)
+    (tell x y (first_true (p x) (list_all p xs) low) (first_true (q y) (list_all q ys) below) head)
+    (leaves-told same f g p q tell xs ys (second_true (p x) (list_all p xs) low) (second_true (q y) (list_all q ys) below) tail)
+
+-- so are expressions that come to one
+expr-told : {first second other : Type 0} (same : first → second → Bool) (f : first → other) (g : second → other) (p : first → Bool) (q : second → Bool)
+    → ((x : first) (y : second) → p x ≡ true → q y ≡ true → f x ≡ g y → same x y ≡ true)
+    → (d : Expr first) (e : Expr second) → list_all p (leaves d) ≡ true → list_all q (leaves e) ≡ true → map_leaves f d ≡ map_leaves g e → are_same same d e ≡ true
+expr-told same f g p q tell d e low below is =
+    let shape = mapped-same (λ x y. true) f g (λ x y led. refl) d e is in
+    let named : map f (leaves d) ≡ map g (leaves e) = sym (leaves-mapped f d) ∙ ap leaves is ∙ leaves-mapped g e in
+    both_true (all_same same_node (nodes_of d) (nodes_of e)) (all_same same (leaves d) (leaves e))
+    (first_true (all_same same_node (nodes_of d) (nodes_of e)) (all_same (λ x y. true) (leaves d) (leaves e)) shape)
+    (leaves-told same f g p q tell (leaves d) (leaves e) low below named)
 
 module _ (names others : List (List ℕ)) (numbers : List (Option ℕ)) (are : AreNumbers names others numbers) where
   number-is : (a b : ℕ) → is_number_of numbers a b ≡ true → slice_index_or names a [] ≡ slice_index_or others b []
@@ -126,28 +152,11 @@ module _ (names others : List (List ℕ)) (numbers : List (Option ℕ)) (are : A
   expr-is : (e f : Expr ℕ) → are_same (is_number_of numbers) e f ≡ true → map_leaves old_name e ≡ map_leaves new_name f
   expr-is e f same = same-mapped (is_number_of numbers) old_name new_name number-is e f same
 
-  leaves-from : (ps qs : List ℕ) → list_all (λ p. nat_lt p (length names)) ps ≡ true → list_all (λ q. nat_lt q (length others)) qs ≡ true → map old_name ps ≡ map new_name qs
-      → all_same (is_number_of numbers) ps qs ≡ true
-  leaves-from [] [] low below same = refl
-  leaves-from [] (q ∷ qs) low below same = absurd (cc same)
-  leaves-from (p ∷ ps) [] low below same = absurd (cc same)
-  leaves-from (p ∷ ps) (q ∷ qs) low below same =
-      let p_low = first_true (nat_lt p (length names)) (list_all (λ p. nat_lt p (length names)) ps) low in
-      let q_low = first_true (nat_lt q (length others)) (list_all (λ q. nat_lt q (length others)) qs) below in
-      let head : old_name p ≡ new_name q = cc same in
-      let tail : map old_name ps ≡ map new_name qs = cc same in
-      both_true (is_number_of numbers p q) (all_same (is_number_of numbers) ps qs) ((number-tells p q p_low q_low).1 head)
-      (leaves-from ps qs (second_true (nat_lt p (length names)) (list_all (λ p. nat_lt p (length names)) ps) low)
-      (second_true (nat_lt q (length others)) (list_all (λ q. nat_lt q (length others)) qs) below) tail)
-
   expr-from : (e f : Expr ℕ) → list_all (λ p. nat_lt p (length names)) (leaves e) ≡ true → list_all (λ q. nat_lt q (length others)) (leaves f) ≡ true → map_leaves old_name e ≡ map_leaves new_name f
       → are_same (is_number_of numbers) e f ≡ true
   expr-from e f low below same =
-      let one_name = λ (p q : ℕ). bytes_eq (old_name p) (new_name q) in
-      let by_name = mapped-same one_name old_name new_name (λ p q is. (bytes_eq-Decides (old_name p) (new_name q)).1 is) e f same in
-      let named : map old_name (leaves e) ≡ map new_name (leaves f) = sym (leaves-mapped old_name e) ∙ ap leaves same ∙ leaves-mapped new_name f in
-      both_true (all_same same_node (nodes_of e) (nodes_of f)) (all_same (is_number_of numbers) (leaves e) (leaves f))
-      (first_true (all_same same_node (nodes_of e) (nodes_of f)) (all_same one_name (leaves e) (leaves f)) by_name) (leaves-from (leaves e) (leaves f) low below named)
+      expr-told (is_number_of numbers) old_name new_name (λ p. nat_lt p (length names)) (λ q. nat_lt q (length others))
+      (λ p q p_low q_low. (number-tells p q p_low q_low).1) e f low below same
 
   -- those of a class: it is the same, and what is written
   class-tells : {A : Type 0} (p q : NumberedPermissions A) → are_permissions_below (length names) (permits.OfClass p) ≡ true → are_permissions_below (length others) (permits.OfClass q) ≡ true
@@ -180,6 +189,32 @@ module _ (names others : List (List ℕ)) (numbers : List (Option ℕ)) (are : A
       let t_low = first_true (nat_lt t.set (length others)) _ below in
       let (to, from) = number-tells s.set t.set s_low t_low in
       (λ e. ap spec.of_set (to e), λ e. from (ap class_or_set e))
+
+  element-is : (x y : Element) → is_element_by numbers x y ≡ true → element_of names x ≡ element_of others y
+  element-is («Type» a) («Type» b) e = ap a_type (number-is a b e)
+  element-is («Type» a) (Attribute b) e = absurd (true≢false (sym e))
+  element-is (Attribute a) («Type» b) e = absurd (true≢false (sym e))
+  element-is (Attribute a) (Attribute b) e = ap an_attribute (number-is a b e)
+
+  -- set statements say the same by their numbers where they do by their names
+  pub set-says : {A : Type 0} (modules newer : List (List ℕ)) (s t : NumberedSet A) → is_set_below (length names) s ≡ true → is_set_below (length others) t ≡ true
+      → (is_set_by numbers s t ≡ true) ↔ (set_content_of (set_of modules names s) ≡ set_content_of (set_of newer others t))
+  set-says modules newer s t low below =
+      let e = set_expr_in s.expression in
+      let f = set_expr_in t.expression in
+      let one = and_parts (nat_lt s.attribute (length names)) (list_all (is_element_below (length names)) (leaves e)) low in
+      let two = and_parts (nat_lt t.attribute (length others)) (list_all (is_element_below (length others)) (leaves f)) below in
+      let (to, from) = number-tells s.attribute t.attribute one.0 two.0 in (
+        λ is.
+            let parts = and_parts (is_number_of numbers s.attribute t.attribute) (are_same (is_element_by numbers) e f) is in
+            let attribute = to parts.0 in
+            let expr = same-mapped (is_element_by numbers) (element_of names) (element_of others) element-is e f parts.1 in
+            λ i. record { attribute = attribute i; expr = expr i },
+        λ same.
+            both_true (is_number_of numbers s.attribute t.attribute) (are_same (is_element_by numbers) e f) (from (ap (λ (c : SetContent). c.attribute) same))
+            (expr-told (is_element_by numbers) (element_of names) (element_of others) (is_element_below (length names)) (is_element_below (length others))
+            (λ x y x_low y_low. (element-tells x y x_low y_low).1) e f one.1 two.1 (ap (λ (c : SetContent). c.expr) same)),
+      )
 
   module _ {A : Type 0} (modules newer : List (List ℕ)) (r s : NumberedRule A) (low : IsBelow (length names) r) (below : IsBelow (length others) s) where
     kinds : Bool

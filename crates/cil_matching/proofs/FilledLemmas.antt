@@ -1,7 +1,11 @@
 -- Places that a walk found, and those that are filled in behind it.
-use Rattle.cil_matching.proofs.Common.{◌≡◌, ◌∙◌, ℕ, ◌+◌, ◌<◌, ◌≤◌, inl, inr, List, length, map, set, slice_get, Option, None, Some, sym, ap, subst, arith, cases_eq, length-set, none-some, same_Some, AreSameAt, ArePlaces, AreRight, Spot, AreApart}
+use Rattle.cil_matching.proofs.Common.{◌≡◌, ◌∙◌, true, true≢false, is_some, refl, ℕ, ◌+◌, ◌<◌, ◌≤◌, inl, inr, List, length, map, set, slice_get, Option, None, Some, sym, ap, subst, arith, cases_eq, length-set, none-some, same_Some, AreSameAt, ArePlaces, AreRight, Spot, AreApart}
 use Rattle.cil_needs.proofs.ListLemmas.{get-set_same, get-set_other}
 use Rattle.cil_matching.proofs.MatchedLemmas.{spot-here, spot-there, to-mapped}
+
+pub some-from : (o : Option ℕ) → is_some o ≡ true → (k : ℕ) × (o ≡ Some k)
+some-from None is = absurd (true≢false (sym is))
+some-from (Some k) is = (k, refl)
 
 -- So many places are filled in where the first ones had none.
 pub record AreFilled {S : Type 0} (IsSame : S → S → Type 0) (old new : List S) (count : ℕ) (first places : List (Option ℕ)) : Type 0 where
@@ -42,6 +46,23 @@ module _ {S : Type 0} (IsSame : S → S → Type 0) (old new : List S) where
       stands = get-set_same places n None place lacks
 
   module _ (spot : S → Spot) (agree : (s t : S) → IsSame s t → spot s ≡ spot t) where
+    -- a statement is the same as one at most
+    one-place : AreApart (map spot new) → (i k j : ℕ) → AreSameAt IsSame old new i k → AreSameAt IsSame old new i j → k ≡ j
+    one-place apart i k j one two =
+        let at = to-mapped spot old i one.statement one.here in
+        apart k j (spot one.statement) (spot-there IsSame old new spot agree i k (spot one.statement) at one) (spot-there IsSame old new spot agree i j (spot one.statement) at two)
+
+    -- where the first so many have one
+    pub filled-first : (count : ℕ) (first : List (Option ℕ)) → AreApart (map spot new) → AreRight IsSame old new (length old) first
+        → ((i : ℕ) → i < count → (k : ℕ) × (slice_get first i ≡ Some (Some k))) → AreFilled IsSame old new count first first
+    filled-first count first apart are has = record {
+      are = are;
+      kept = λ i j at. at;
+      filled = λ i j low same.
+          let (k, at) = has i low in
+          at ∙ ap (λ m. Some (Some m)) (one-place apart i k j (are.right i k at) same);
+    }
+
     -- one that has one
     pub filled-kept : (n k : ℕ) (first places : List (Option ℕ)) → AreApart (map spot new) → slice_get places n ≡ Some (Some k)
         → AreFilled IsSame old new n first places → AreFilled IsSame old new (n + 1) first places
@@ -50,11 +71,8 @@ module _ {S : Type 0} (IsSame : S → S → Type 0) (old new : List S) where
       kept = before.kept;
       filled = λ i j low same. elim (cases_eq i n) [
         | inl here ↦
-            let one = before.are.right n k has in
             let two = subst (λ m. AreSameAt IsSame old new m j) here same in
-            let at = to-mapped spot old n one.statement one.here in
-            let place = apart k j (spot one.statement) (spot-there IsSame old new spot agree n k (spot one.statement) at one) (spot-there IsSame old new spot agree n j (spot one.statement) at two) in
-            ap (slice_get places) here ∙ has ∙ ap (λ m. Some (Some m)) place
+            ap (slice_get places) here ∙ has ∙ ap (λ m. Some (Some m)) (one-place apart n k j (before.are.right n k has) two)
         | inr other ↦ before.filled i j (omega (arith, low, other)) same
       ];
     }

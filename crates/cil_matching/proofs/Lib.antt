@@ -8,4 +8,5 @@ pub mod ApartLemmas
 pub mod MergedLemmas
 pub mod NumberLemmas
 pub mod ContentLemmas
+pub mod SetLemmas
 pub mod PlaceLemmas

@@ -69,19 +69,17 @@ module _ {S : Type 0} (IsSame : S → S → Type 0) (old new : List S) where
   })
 
   -- what a test at two places tells
-  tested-same : (i k : ℕ) (test : Bool) → i < length old → ((s t : S) → slice_get old i ≡ Some s → slice_get new k ≡ Some t → IsTrue test ↔ IsSame s t)
-      → (slice_get new k ≡ None → test ≡ false) → test ≡ true → AreSameAt IsSame old new i k
-  tested-same i k test low tells none passes = by (slice_get old i) (slice_get new k) refl refl
-    where
-      by : (o p : Option S) → slice_get old i ≡ o → slice_get new k ≡ p → AreSameAt IsSame old new i k
-      by None p here there = let (s, at) = mapped-there (λ x. x) old i low in absurd (none-some s (ap (option_map (λ x. x)) (sym here) ∙ sym (slice_get-map (λ x. x) old i) ∙ at))
-      by (Some s) None here there = absurd (true≢false (sym passes ∙ none there))
-      by (Some s) (Some t) here there = record { statement = s; other = t; here = here; there = there; same = (tells s t here there).0 passes }
+  tested-same : (i k : ℕ) (test : Bool) → i < length old → k < length new → ((s t : S) → slice_get old i ≡ Some s → slice_get new k ≡ Some t → IsTrue test ↔ IsSame s t)
+      → test ≡ true → AreSameAt IsSame old new i k
+  tested-same i k test low below tells passes =
+      let (s, here) = there-is old i low in
+      let (t, there) = there-is new k below in
+      record { statement = s; other = t; here = here; there = there; same = (tells s t here there).0 passes }
 
-  pub tested-right : (i k j : ℕ) (test : Bool) → i < length old → ((s t : S) → slice_get old i ≡ Some s → slice_get new k ≡ Some t → IsTrue test ↔ IsSame s t)
-      → (slice_get new k ≡ None → test ≡ false) → then_some test k ≡ Some j → AreSameAt IsSame old new i j
-  tested-right i k j true low tells none is = subst (AreSameAt IsSame old new i) (same_Some k j is) (tested-same i k true low tells none refl)
-  tested-right i k j false low tells none is = absurd (none-some j is)
+  pub tested-right : (i k j : ℕ) (test : Bool) → i < length old → k < length new → ((s t : S) → slice_get old i ≡ Some s → slice_get new k ≡ Some t → IsTrue test ↔ IsSame s t)
+      → then_some test k ≡ Some j → AreSameAt IsSame old new i j
+  tested-right i k j true low below tells is = subst (AreSameAt IsSame old new i) (same_Some k j is) (tested-same i k true low below tells refl)
+  tested-right i k j false low below tells is = absurd (none-some j is)
 
   -- of all places
   pub places-all : (count : ℕ) (ahead : List (Option ℕ)) → length old ≤ count → ArePlaces IsSame old new count ahead → (i j : ℕ) → (slice_get ahead i ≡ Some (Some j)) ↔ AreSameAt IsSame old new i j

@@ -1,7 +1,6 @@
 -- The places of one policy's rules in another one.
-use Rattle.cil_matching.proofs.Common.{◌≡◌, ◌∙◌, ◌↔◌, ℕ, ◌<◌, Bool, true, false, true≢false, List, [], ◌∷◌, length, map, get_or, slice_get, Option, None, Some, IsTrue, refl, sym, ap, subst, arith, IsStrictlySortedBy, Ordering, Equal, tied_itself, length-map, none-some, same_Some, slice_get-get_or, slice_index_or, Rule, IsSameRule, content_of, name_cmp, rule_cmp, rule_total, meaning_in, SayTheSame, AreNumbers, AreSameAt, IsFoundAt, IsMissedAt, Spot, spot_cmp, rule_spot}
+use Rattle.cil_matching.proofs.Common.{◌≡◌, ◌∙◌, ◌↔◌, ℕ, ◌<◌, Bool, true, false, true≢false, List, [], ◌∷◌, length, map, get_or, slice_get, Option, None, Some, IsTrue, refl, sym, ap, subst, arith, IsStrictlySortedBy, Equal, tied_itself, length-map, none-some, same_Some, slice_get-get_or, Rule, IsSameRule, content_of, rule_cmp, rule_total, meaning_in, SayTheSame, AreNumbers, AreSameAt, IsFoundAt, IsMissedAt, Spot, spot_cmp, rule_spot}
 use Rattle.std.specs.Bool.{then_some}
-use Rattle.std.specs.Ordering.{nat_cmp, ordering_then}
 use Rattle.cil_needs.proofs.GreatestLemmas.{all-got}
 use Rattle.cil_resolve.specs.Below.{is_rule_below, is_written_below}
 use Rattle.cil_resolve.specs.Numbers.{keeps_no_list, rule_of}
@@ -9,7 +8,7 @@ use Rattle.cil_resolve.specs.declared.numbered.NumberedRule.{NumberedRule}
 use Rattle.cil_resolve.specs.declared.resolved.Resolved.{Resolved}
 use Rattle.cil_matching.proofs.ApartLemmas.{rules-agree}
 use Rattle.cil_matching.proofs.ContentLemmas.{content-tells, is-below}
-use Rattle.cil_matching.proofs.MatchedLemmas.{from-mapped, there-is, to-mapped}
+use Rattle.cil_matching.proofs.MatchedLemmas.{there-is, to-mapped}
 use Rattle.cil_matching.proofs.MergedLemmas.{found-place}
 use Rattle.cil_matching.proofs.SpotLemmas.{tied-spots}
 
@@ -92,20 +91,7 @@ read-no-list p i x is = all-got keeps_no_list p.rules.items i x p.no_lists is
 
 -- and is the rule there
 pub read-is : {A : Type 0} (p : Resolved A) (i : ℕ) (x : NumberedRule A) (rules : List (NumberedRule A)) (r : Rule) → i < length (meaning_in p).rules → rules ≡ p.rules.items → x ≡ get_or rules i x
-    → slice_get (meaning_in p).rules i ≡ Some r → rule_of p.modules.items p.names.items (get_or rules i x) ≡ r
+    → slice_get (meaning_in p).rules i ≡ Some r → rule_of p.modules.items p.names.items x ≡ r
 read-is p i x rules r low are is at =
     let image = rule_of p.modules.items p.names.items in
-    ap image (sym is) ∙ same_Some (image x) r (sym (to-mapped image p.rules.items i x (read-rule p i x rules low are is)) ∙ at)
-
--- the name of its module is that at the module's place
-pub read-module : {A : Type 0} (p : Resolved A) (i : ℕ) (x : NumberedRule A) (rules : List (NumberedRule A)) (name : List ℕ) → i < length (meaning_in p).rules → rules ≡ p.rules.items → x ≡ get_or rules i x
-    → slice_get (map (λ (r : Rule). r.module_name) (meaning_in p).rules) i ≡ Some name → name ≡ slice_index_or p.modules.items (get_or rules i x).module []
-read-module p i x rules name low are is at =
-    let (r, here, named) = from-mapped (λ (r : Rule). r.module_name) (meaning_in p).rules i name at in
-    sym named ∙ sym (ap (λ (r : Rule). r.module_name) (read-is p i x rules r low are is here))
-
--- rules are in the order of their modules, and then their offsets
-pub rules-ordered : (r s : Rule) (modules offsets both : Ordering) (n m : ℕ) → modules ≡ name_cmp s.module_name r.module_name → offsets ≡ nat_cmp m n → n ≡ r.at.offset → m ≡ s.at.offset
-    → both ≡ ordering_then modules offsets → both ≡ rule_cmp s r
-rules-ordered r s modules offsets both n m named placed mine its is =
-    is ∙ (λ k. ordering_then (named k) (placed k)) ∙ (λ k. ordering_then (name_cmp s.module_name r.module_name) (nat_cmp (its k) (mine k)))
+    same_Some (image x) r (sym (to-mapped image p.rules.items i x (read-rule p i x rules low are is)) ∙ at)

@@ -1,13 +1,15 @@
--- Rules of two policies that say the same, by the numbers of their names.
+-- Rules and set statements of two policies that say the same, by the numbers of their names.
 use Rattle.std.specs.Prelude.{◌≡◌, ◌==◌, ◌&&◌, ℕ, Bool, true, false, List, Option, None, Some, slice_get}
 use Rattle.cil_specs.specs.Rule.{kind_index}
 use Rattle.cil_text.specs.Image.{rule_kind_of}
 use Rattle.cil_expression.specs.declared.expression.Element.{Element}
 use Rattle.cil_expression.specs.declared.expression.Element.TheVariants.{«Type», Attribute}
+use Rattle.cil_expression.specs.Expression.{set_expr_in}
 use Rattle.cil_expression.specs.Same.{are_same}
 use Rattle.cil_resolve.specs.Numbers.{written_in}
 use Rattle.cil_resolve.specs.declared.numbered.NumberedPermissions.{NumberedPermissions}
 use Rattle.cil_resolve.specs.declared.numbered.NumberedRule.{NumberedRule}
+use Rattle.cil_resolve.specs.declared.numbered.NumberedSet.{NumberedSet}
 use Rattle.cil_resolve.specs.declared.numbered.ResolvedPermissions.{ResolvedPermissions}
 use Rattle.cil_resolve.specs.declared.numbered.ResolvedPermissions.TheVariants as permits
 use Rattle.cil_resolve.specs.declared.numbered.ResolvedTarget.{ResolvedTarget}
@@ -50,6 +52,11 @@ are_permissions_by numbers (permits.OfClass p) (permits.OfClass q) = is_number_o
 are_permissions_by numbers (permits.OfClass p) (permits.OfSet t) = false
 are_permissions_by numbers (permits.OfSet s) (permits.OfClass q) = false
 are_permissions_by numbers (permits.OfSet s) (permits.OfSet t) = is_number_of numbers s.set t.set
+
+-- whether two set statements say the same: are of one attribute, with expressions of one shape, of the same names
+abbrev pub is_set_by : {A : Type 0} → List (Option ℕ) → NumberedSet A → NumberedSet A → Bool
+is_set_by numbers s t =
+    is_number_of numbers s.attribute t.attribute && are_same (is_element_by numbers) (set_expr_in s.expression) (set_expr_in t.expression)
 
 -- Two rules say the same.
 pub record SayTheSame {A : Type 0} (numbers : List (Option ℕ)) (r s : NumberedRule A) : Type 0 where

@@ -6,3 +6,4 @@ pub mod Merged
 pub mod Content
 pub mod Passed
 pub mod Compared
+pub mod Walk

@@ -1,6 +1,7 @@
 //! Which set statements and which rules of one policy stand in another one.
 #![tactic(auto)]
 
+mod compared;
 mod inverse;
 mod name_numbers;
 mod numbers;
@@ -9,6 +10,7 @@ mod positions;
 mod rule_matching;
 mod rule_places;
 mod same_content;
+mod same_set;
 mod set_matching;
 mod set_walk;
 

@@ -1,8 +1,9 @@
 //! The numbers of one policy's names in another one, with how many of the first are alike in both.
 
-ghost use Rattle.std.specs.Prelude.{◌≡◌, ◌<◌, ℕ, slice_get, Some};
+ghost use Rattle.std.specs.Prelude.{◌≡◌, ◌↔◌, ◌<◌, ℕ, slice_get, Some};
 ghost use Rattle.cil_matching.specs.Content.{is_number_of};
 
+use crate::inverse::place_at;
 use std::marker::Model;
 
 /// For each name of an old policy its number in a new one, if that has the name. The first names have their old numbers, as long as no
@@ -46,6 +47,13 @@ impl<'n> Numbers<'n> {
             list,
             steady: steady(list),
         }
+    }
+
+    /// The number in the new policy of a name of the old one.
+    pub fn number(&self, a: usize) -> Option<usize>
+        ensures { (b : ℕ) → (result ≡ Some b) ↔ (slice_get self.now a ≡ Some (Some b)) }
+    {
+        place_at(self.list, a)
     }
 }
 

@@ -1,68 +1,19 @@
 //! The places of one policy's rules in another one.
 
-ghost use Rattle.std.specs.Prelude.{◌≡◌, ◌↔◌, ◌<◌, ℕ, length, map, slice_get, Some, IfOk, IfErr, IfSome};
+ghost use Rattle.std.specs.Prelude.{◌≡◌, ◌↔◌, ◌<◌, ℕ, length, slice_get, Some, IfOk, IfErr, IfSome};
 ghost use Rattle.cil_matching.specs.Common.{IsSameRule, meaning_in, AreNumbers, ArePlaces, AreSameAt, AreBefore, IsFoundAt, IsMissedAt};
 ghost use Rattle.cil_matching.specs.Compared.{AreCompared};
 ghost use Rattle.cil_specs.specs.Report.{name_cmp};
 ghost use Rattle.cil_specs.specs.Rule.{Rule};
 ghost use Rattle.cil_specs.specs.Violations.{rule_cmp};
 
+use crate::compared::{Compared, order_of_modules};
 use crate::name_numbers::name_numbers;
 use crate::numbers::Numbers;
 use crate::same_content::is_same_content;
 use cil_resolve::Resolved;
 use std::alloc::{AllocError, Allocator};
 use std::cmp::Ordering;
-
-/// The modules of two rules, by their places in the old and the new policy, and how the name of the second
-/// stands to that of the first.
-#[derive(Clone, Copy)]
-struct Compared {
-    first: u32,
-    second: u32,
-    order: Ordering,
-}
-
-/// The name of the module of the rule at a place.
-fn module_name<A: Allocator>(resolved: &Resolved<A>, i: usize) -> &[u8]
-    requires { i < length (meaning_in resolved.now).rules }
-    ensures { slice_get (map (λ r. r.module_name) (meaning_in resolved.now).rules) i
-        ≡ Some result.now }
-{
-    resolved.rule_at(i).unwrap().module
-}
-
-/// The modules of two rules, compared. Where they are those that were compared last, their names aren't
-/// read again.
-fn compare_modules<A: Allocator>(
-    last: Option<Compared>,
-    old: &Resolved<A>,
-    i: usize,
-    new: &Resolved<A>,
-    j: usize,
-) -> Compared
-    requires i { i < length (meaning_in old.now).rules }
-    requires j { j < length (meaning_in new.now).rules }
-    requires last { IfSome last (AreCompared old.now new.now) }
-    ensures compared { AreCompared old.now new.now result }
-    ensures order { (r s : Rule) → slice_get (meaning_in old.now).rules i ≡ Some r
-        → slice_get (meaning_in new.now).rules j ≡ Some s
-        → result.order ≡ name_cmp s.module_name r.module_name }
-{
-    let first = old.rules()[i].module;
-    let second = new.rules()[j].module;
-    if let Some(known) = last {
-        if known.first == first && known.second == second {
-            return known;
-        }
-    }
-    let order = module_name(new, j).cmp(module_name(old, i));
-    Compared {
-        first,
-        second,
-        order,
-    }
-}
 
 /// How the new policy's rule at a place stands to the old one's at a place, by their modules and offsets.
 fn order_of<A: Allocator>(
@@ -79,10 +30,11 @@ fn order_of<A: Allocator>(
     ensures order { (r s : Rule) → slice_get (meaning_in old.now).rules i ≡ Some r
         → slice_get (meaning_in new.now).rules j ≡ Some s → result ≡ rule_cmp s r }
 {
-    let compared = compare_modules(*known, old, i, new, j);
-    *known = Some(compared);
-    let offset = new.rules()[j].at.offset;
-    compared.order.then(offset.cmp(&old.rules()[i].at.offset))
+    let rule = &old.rules()[i];
+    let other = &new.rules()[j];
+    order_of_modules(known, old, rule.module, new, other.module).then(
+        other.at.offset.cmp(&rule.at.offset),
+    )
 }
 
 /// Where the new policy has a rule at the position of the old one's rule at a place, or how many of its rules stand before that, as a

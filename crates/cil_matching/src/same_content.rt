@@ -12,7 +12,7 @@ use cil_resolve::{NumberedPermissions, NumberedRule, ResolvedPermissions, Resolv
 use std::alloc::Allocator;
 
 /// Whether two numbers lead to types of one name, or to attributes of one name.
-fn is_element(numbers: &Numbers<'_>, x: Element, y: Element) -> bool
+pub fn is_element(numbers: &Numbers<'_>, x: Element, y: Element) -> bool
     ensures { result ≡ is_element_by numbers.now x y }
 {
     match (x, y) {

@@ -1,9 +1,11 @@
 //! The set statements of one policy that stand in another one.
 
-ghost use Rattle.std.specs.Prelude.{◌≡◌, ◌↔◌, ℕ, length, slice_get, Some, IfOk};
+ghost use Rattle.std.specs.Prelude.{◌≡◌, ◌↔◌, ◌<◌, ℕ, length, slice_get, Some, IfOk};
 ghost use Rattle.cil_matching.specs.Common.{IsSameSet, sets_in, AreMatched, ArePlaces};
 
 use crate::inverse::{inverse, place_at};
+use crate::name_numbers::name_numbers;
+use crate::numbers::Numbers;
 use crate::passed_over::passed_over;
 use crate::set_walk::{position, same, walk};
 use cil_names::Seed;
@@ -27,8 +29,21 @@ impl<A: Allocator> Model for SetMatching<A> {
     ghost view = { λ m. record { ahead = m.ahead.items; back = m.back.items } };
 }
 
+/// How many of the first numbers have a place.
+fn first_open(places: &[Option<usize>]) -> usize
+    ensures { (i : ℕ) → i < result → (k : ℕ) × (slice_get places.now i ≡ Some (Some k)) }
+{
+    for (i, place) in places.iter().enumerate() {
+        if place.is_none() {
+            return i;
+        }
+    }
+    places.len()
+}
+
 /// For each set statement of the old policy the place of the same one in the new one, if that has it.
-/// Those that a walk along both doesn't find are looked up among what it passed over.
+/// Those that a walk along both doesn't find are looked up among what it passed over. Mostly there are
+/// none, and nothing is looked up.
 fn set_places<A: Allocator + Copy>(
     alloc: A,
     seed: Seed,
@@ -40,11 +55,17 @@ fn set_places<A: Allocator + Copy>(
 {
     resolved_sets_are_apart(old);
     resolved_sets_are_apart(new);
-    let mut places = walk(alloc, old, new)?;
+    let list = name_numbers(alloc, old, new)?;
+    let numbers = Numbers::of(&list);
+    let mut places = walk(alloc, &numbers, old, new)?;
+    let open = first_open(&places);
+    if open == places.len() {
+        return Ok(places);
+    }
     let passed = passed_over(alloc, seed, new, &places)?;
-    for i in 0..old.sets_len() {
+    for i in open..old.sets_len() {
         if places[i].is_none() {
-            places[i] = same(old, i, new, passed.find(position(old, i)));
+            places[i] = same(&numbers, old, i, new, passed.find(position(old, i)));
         }
     }
     Ok(places)

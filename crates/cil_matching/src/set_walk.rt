@@ -1,12 +1,17 @@
 //! A walk along the set statements of two policies, side by side.
 
-ghost use Rattle.std.specs.Prelude.{◌≡◌, ◌↔◌, ◌<◌, ◌≤◌, ℕ, length, map, option_map, position as place_of, slice_get, Some, IfOk, IsTrue};
-ghost use Rattle.cil_matching.specs.Common.{IsSameSet, sets_in, AreRight, AreSameAt, Spot, same_spot, set_spot, spot_of};
+ghost use Rattle.std.specs.Prelude.{◌≡◌, ◌<◌, ℕ, length, map, position as place_of, slice_get, Some, IfOk, IfSome, IsTrue};
+ghost use Rattle.cil_matching.specs.Common.{IsSameSet, sets_in, numbered_in, AreNumbers, AreRight, AreSameAt, Spot, StandAlike, same_spot, set_spot, spot_of};
+ghost use Rattle.cil_resolve.specs.Below.{is_set_below};
+ghost use Rattle.cil_matching.specs.Compared.{AreCompared};
+ghost use Rattle.cil_matching.specs.Spot.{spot_cmp};
 
+use crate::compared::{Compared, order_of_modules};
 use crate::inverse::place_at;
-use crate::name_numbers::name_numbers;
+use crate::numbers::{Numbers, is_number};
 use crate::positions::Position;
-use cil_resolve::{Resolved, resolved_sets_are_apart};
+use crate::same_set::is_same_set;
+use cil_resolve::{NumberedSet, Resolved, resolved_sets_are_apart};
 use std::alloc::{AllocError, Allocator};
 use std::cmp::Ordering;
 
@@ -20,6 +25,15 @@ pub fn position<A: Allocator>(resolved: &Resolved<A>, i: usize) -> Position<'_>
         module: set.module,
         offset: set.at.offset,
     }
+}
+
+/// The set statement at a place, by the numbers of its names.
+fn numbered_at<A: Allocator>(resolved: &Resolved<A>, i: usize) -> &NumberedSet<A>
+    requires { i < length (sets_in resolved.now) }
+    ensures stands { slice_get (numbered_in resolved.now) i ≡ Some result.now }
+    ensures within { IsTrue (is_set_below (length resolved.now.names.items) result.now) }
+{
+    resolved.numbered_set(i).unwrap()
 }
 
 /// For each name of a policy the first place of its set statements, if it has any.
@@ -36,55 +50,98 @@ fn beginnings<A: Allocator + Copy>(
     Ok(begins)
 }
 
-/// The place of the set statement at a position, or where to look for those behind it. It looks from
-/// a place on, and passes over what stands before the position and is of the attribute of a number.
-fn find_from<A: Allocator>(
-    resolved: &Resolved<A>,
-    next: usize,
-    attribute: Option<usize>,
-    wanted: Position<'_>,
-) -> Result<usize, usize>
-    ensures { IfOk result (λ j.
-        slice_get (map set_spot (sets_in resolved.now)) j ≡ Some (spot_of wanted.entry)) }
+/// How the new policy's set statement at a place stands to the old one's at a place, by their modules
+/// and offsets.
+fn order_of<A: Allocator>(
+    known: &mut Option<Compared>,
+    old: &Resolved<A>,
+    i: usize,
+    new: &Resolved<A>,
+    j: usize,
+) -> Ordering
+    requires i { i < length (sets_in old.now) }
+    requires j { j < length (sets_in new.now) }
+    requires known { IfSome known.old (AreCompared old.now new.now) }
+    ensures known { IfSome known.new (AreCompared old.now new.now) }
+    ensures order { (p q : Spot) → slice_get (map set_spot (sets_in old.now)) i ≡ Some p
+        → slice_get (map set_spot (sets_in new.now)) j ≡ Some q
+        → result ≡ spot_cmp q p }
 {
-    for j in next..resolved.sets_len() {
-        match position(resolved, j).order(wanted) {
+    let set = numbered_at(old, i);
+    let other = numbered_at(new, j);
+    order_of_modules(known, old, set.module, new, other.module).then(
+        other.at.offset.cmp(&set.at.offset),
+    )
+}
+
+/// The place in the new policy of the set statement that stands where the old one's at a place does, or
+/// where to look for those behind it. It looks from a place on, and passes over what stands before that
+/// position and is of the same attribute.
+fn find_from<A: Allocator>(
+    known: &mut Option<Compared>,
+    numbers: &Numbers<'_>,
+    old: &Resolved<A>,
+    i: usize,
+    new: &Resolved<A>,
+    next: usize,
+) -> Result<usize, usize>
+    requires within { i < length (sets_in old.now) }
+    requires known { IfSome known.old (AreCompared old.now new.now) }
+    ensures known { IfSome known.new (AreCompared old.now new.now) }
+    ensures ok { IfOk result (StandAlike old.now new.now i) }
+{
+    for j in next..new.sets_len() {
+        match order_of(known, old, i, new, j) {
             Ordering::Equal => return Ok(j),
             Ordering::Greater => return Err(j),
             Ordering::Less => {
-                if resolved.set_attribute(j) != attribute {
+                let attribute = numbered_at(old, i).attribute;
+                let other = numbered_at(new, j).attribute;
+                if !is_number(numbers, attribute, other) {
                     return Err(j);
                 }
             }
         }
     }
-    Err(resolved.sets_len())
+    Err(new.sets_len())
 }
 
-/// The place in the new policy of the same set statement, if it is the place that is given. Given the
-/// place of the one at its position, it finds it wherever the new policy has it.
+/// The place in the new policy of the same set statement, if it is the place that is given, where one
+/// stands at its position. Given the place of the one at its position, it finds it wherever the new
+/// policy has it.
 pub fn same<A: Allocator>(
+    numbers: &Numbers<'_>,
     old: &Resolved<A>,
     i: usize,
     new: &Resolved<A>,
     place: Option<usize>,
 ) -> Option<usize>
-    requires { i < length (sets_in old.now) }
-    ensures right { (j : ℕ) → result ≡ Some j
-        → AreSameAt IsSameSet (sets_in old.now) (sets_in new.now) i j }
-    ensures certain { (j : ℕ) → AreSameAt IsSameSet (sets_in old.now) (sets_in new.now) i j
+    requires within { i < length (sets_in old.now) }
+    requires alike { IfSome place (StandAlike old.now new.now i) }
+    requires numbers { AreNumbers old.now.names.items new.now.names.items numbers.now }
+    ensures right { (j : ℕ) → result ≡ Some j → AreSameAt IsSameSet
+        (sets_in old.now) (sets_in new.now) i j }
+    ensures certain { (j : ℕ)
+        → AreSameAt IsSameSet (sets_in old.now) (sets_in new.now) i j
         → ((spot : Spot) → slice_get (map set_spot (sets_in old.now)) i ≡ Some spot
         → place ≡ place_of (same_spot spot) (map set_spot (sets_in new.now)))
         → result ≡ Some j }
 {
     resolved_sets_are_apart(new);
     let j = place?;
-    old.is_same_set(i, new, j).then_some(j)
+    let set = numbered_at(old, i);
+    is_same_set(numbers, set, numbered_at(new, j)).then_some(j)
 }
 
-/// What a list has at a number, if there is a number.
-fn at_number(list: &[Option<usize>], number: Option<usize>) -> Option<usize> {
-    place_at(list, number?)
+/// The first place that the new policy has of the set statements of an attribute of the old one, if it
+/// has any, by a list of the first places for the new one's names.
+fn beginning(
+    numbers: &Numbers<'_>,
+    begins: &[Option<usize>],
+    attribute: Option<usize>,
+) -> Option<usize> {
+    let number = numbers.number(attribute?)?;
+    place_at(begins, number)
 }
 
 /// For each set statement of the old policy the place of the same one in the new one, where a walk
@@ -93,26 +150,27 @@ fn at_number(list: &[Option<usize>], number: Option<usize>) -> Option<usize> {
 /// of that in the new one, if it has any.
 pub fn walk<A: Allocator + Copy>(
     alloc: A,
+    numbers: &Numbers<'_>,
     old: &Resolved<A>,
     new: &Resolved<A>,
 ) -> Result<Vec<Option<usize>, A>, AllocError>
-    ensures { IfOk result (λ places. AreRight IsSameSet (sets_in old.now) (sets_in new.now)
-        (length (sets_in old.now)) places.items) }
+    requires { AreNumbers old.now.names.items new.now.names.items numbers.now }
+    ensures { IfOk result (λ places. AreRight IsSameSet (sets_in old.now)
+        (sets_in new.now) (length (sets_in old.now)) places.items) }
 {
     let mut places = Vec::with_capacity(alloc, old.sets_len())?;
-    let numbers = name_numbers(alloc, old, new)?;
     let begins = beginnings(alloc, new)?;
+    let mut known = None;
     let mut attribute = None;
-    let mut number = None;
     let mut next = 0;
     for i in 0..old.sets_len() {
-        if i == 0 || old.set_attribute(i) != attribute {
-            attribute = old.set_attribute(i);
-            number = at_number(&numbers, attribute);
-            next = at_number(&begins, number).unwrap_or(next);
+        let current = old.set_attribute(i);
+        if current != attribute {
+            attribute = current;
+            next = beginning(numbers, &begins, attribute).unwrap_or(next);
         }
-        let found = find_from(new, next, number, position(old, i));
-        places.push(same(old, i, new, found.ok()))?;
+        let found = find_from(&mut known, numbers, old, i, new, next);
+        places.push(same(numbers, old, i, new, found.ok()))?;
         next = match found {
             Ok(j) => j.saturating_add(1),
             Err(j) => j,

@@ -122,7 +122,7 @@ fn has_sets(policy: &Resolved) -> bool {
         && policy.set_names(0).first().copied() == Some(Element::Type(0))
 }
 
-// Names, some of which are there, by their numbers, and the set statements told apart.
+// Names, some of which are there, by their numbers, and whether set statements may hold any type.
 fn has_numbers(policy: &Resolved) -> bool {
     policy.names_len() > 4
         && policy.name(4) == b"s".as_slice()
@@ -132,8 +132,6 @@ fn has_numbers(policy: &Resolved) -> bool {
         && policy.number(b"z") == None
         && !policy.may_hold_any(0)
         && policy.may_hold_any(1)
-        && policy.is_same_set(0, policy, 0)
-        && !policy.is_same_set(0, policy, 1)
 }
 
 // Whether a set statement holds a type that no attribute has.

@@ -33,7 +33,6 @@ pub use Rattle.cil_resolve.specs.Numbering.{AreNamesOf, AreNumbersIn, HavePermis
 pub use Rattle.cil_resolve.specs.GivenSets.{AreGathered, ArePutInOrder, AreSetNumbers, GivesSets, given_to, set_gives}
 pub use Rattle.cil_resolve.specs.Numbers.{GivesNumbered, class_of, declared_of, dropped_with, element_of, given_in, given_with, has_named, keeps_no_list, permission_set_of, resolved_permissions_of, resolved_target_of, set_of, written_in}
 pub use Rattle.cil_resolve.specs.Resolved.{meaning_in}
-pub use Rattle.cil_resolve.specs.Same.{same_element, same_set}
 pub use Rattle.cil_resolve.specs.SetPermissions.{AreInOrder, IsOrdered, permission_cmp}
 pub use Rattle.cil_resolve.specs.SetOrder.{AreNamed, AreStraight, DependsThrough, IsNext, IsSetOrder, Mentions, StandTogether, attributes_in, names_in, sets_at}
 pub use Rattle.cil_resolve.specs.declared.numbered.NumberedSet.{NumberedSet}

@@ -1,6 +1,6 @@
 -- The evaluation of set statements by the numbers of names.
 use Rattle.cil_resolve.proofs.Common.{◌≡◌, ◌==◌, ℕ, ◌<◌, Bool, true, false, ◌&&◌, nat_lt, List, map, length, Contains, Option, Some, None, option_map, bytes_eq, refl, sym, ap, ◌∙◌, list_all, list_any, ltb-true, bytes_eq-Decides, Expr, leaves, map_leaves, SetStatement, element_holds, holds_with, mentions, is_the_attribute, Meaning, keeps_type, is_in, holds, is_member, none-some, same_Some, slice_get-map, first_true, second_true, any-contained, leaves-mapped, in-known, contains-map, set_expr_in, Element, «Type», Attribute, is_element_below, is_set_below, element_of, set_of, meaning_in, sets_at, NumberedSet}
-use Rattle.std.proofs.Common.{slice_get}
+use Rattle.std.proofs.Common.{Bor, IfSome, slice_get}
 use Rattle.cil_specs.specs.Rule as spec
 use Rattle.cil_specs.proofs.ExistsLemmas.{of-all}
 use Rattle.cil_expression.specs.Holds.{holds_by, Answers}
@@ -53,6 +53,12 @@ module _ {A : Type 0} (r : Resolved A) where
   at-below i x there =
       of-all (is_set_below (length r.names.items)) r.sets.sets.items x r.sets_within
       (from-order r.sets.sets.items r.sets.order.items x (contained (sets_at r.sets.sets.items r.sets.order.items) i x there))
+
+  -- so is what is seen there
+  pub seen-below : (i : ℕ) (o : Option (Bor (NumberedSet A))) → option_map (λ set. set.now) o ≡ slice_get (sets_at r.sets.sets.items r.sets.order.items) i
+      → IfSome o (λ set. is_set_below (length r.names.items) set.now ≡ true)
+  seen-below i None is = tt
+  seen-below i (Some x) is = at-below i x.now (sym is)
 
   pub attribute-low : (i : ℕ) (x : NumberedSet A) → slice_get (sets_at r.sets.sets.items r.sets.order.items) i ≡ Some x → x.attribute < length r.names.items
   attribute-low i x there =

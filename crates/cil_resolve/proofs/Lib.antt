@@ -35,5 +35,4 @@ pub mod SetOrderLemmas
 pub mod SetNameLemmas
 pub mod ApartLemmas
 pub mod EvaluateLemmas
-pub mod SameLemmas
 pub mod NumberOf

@@ -17,4 +17,3 @@ pub mod Judged
 pub mod SetOrder
 pub mod Apart
 pub mod Sets
-pub mod Same

@@ -25,7 +25,6 @@ mod permits;
 mod resolved;
 mod resolver;
 mod rules;
-mod same;
 mod set_order;
 mod set_permissions;
 mod set_statements;

@@ -3,10 +3,12 @@
 ghost use Rattle.std.specs.Prelude.{◌≡◌, ◌<◌, ◌↔◌, false, Some, IfNone, IfSome, IsTrue, [], length, slice_get, slice_index_or, option_map};
 ghost use Rattle.cil_resolve.specs.Common.{list_all, prefix_len, option_and_then, has_name, name_cmp, names_rise, is_rule_below, is_written_below, keeps_no_list, leaves, element_of, resolved_target_of, meaning_in, name_in, sets_in};
 ghost use Rattle.std.specs.Ordering.{is_lt};
+ghost use Rattle.cil_resolve.specs.Below.{is_set_below};
 ghost use Rattle.cil_resolve.specs.Numbers.{resolved_permissions_of};
+ghost use Rattle.cil_resolve.specs.SetOrder.{sets_at};
 ghost use Rattle.cil_resolve.specs.Views.{declared_seen, class_seen, class_head, element_seen, named_in, permission_set_head, permission_set_seen, permissions_head, permissions_seen, resolved_target_seen, rule_seen, rule_head, set_seen, set_head};
 
-use crate::numbered::{NumberedRule, ResolvedPermissions, ResolvedTarget};
+use crate::numbered::{NumberedRule, NumberedSet, ResolvedPermissions, ResolvedTarget};
 use crate::resolved::Resolved;
 use crate::text::Text;
 use cil_expression::Element;
@@ -308,6 +310,16 @@ impl<A: Allocator> Resolved<A> {
             attribute: self.name(set.attribute),
             names: set.expression.names().len(),
         })
+    }
+
+    /// The set statement at a place, in the order of dependence, by the numbers of its names.
+    pub fn numbered_set(&self, i: usize) -> Option<&NumberedSet<A>>
+        ensures set { option_map (λ set. set.now) result
+            ≡ slice_get (sets_at self.now.sets.sets.items self.now.sets.order.items) i }
+        ensures within { IfSome result (λ set.
+            IsTrue (is_set_below (length self.now.names.items) set.now)) }
+    {
+        self.sets.at(i)
     }
 
     /// How many rules there are.

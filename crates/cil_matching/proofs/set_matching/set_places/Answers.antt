@@ -1,30 +1,34 @@
 use Rattle.cil_matching.proofs.Common.{◌≡◌, ◌∙◌, true, false, true≢false, Option, is_some, refl, ℕ, ◌+◌, length, map, position, slice_get, None, Some, sym, ap, subst, arith, length-map, same_Some, slice_get-get_or, IsSameSet, sets_in, ArePassed, Spot, set_spot, same_spot, spot_of}
 use Rattle.cil_matching.proofs.ApartLemmas.{sets-agree, apart-sets}
-use Rattle.cil_matching.proofs.FilledLemmas.{AreFilled, filled-set, filled-kept, filled-all, open-apart}
+use Rattle.cil_matching.proofs.FilledLemmas.{AreFilled, filled-first, filled-set, filled-kept, filled-all, open-apart, some-from}
 use Rattle.cil_matching.proofs.MatchedLemmas.{right-below, right-apart}
 use Rattle.cil_matching.proofs.PassedLemmas.{passed-place}
+use Rattle.cil_matching.proofs.SetLemmas.{found-alike}
 use Rattle.cil_matching.proofs.set_matching.set_places.Goals.{then-is_none, else-is_none}
 use Rattle.cil_matching.proofs.set_matching.set_places.Goals as goal
 
 pub passed_over-requires-clause-below : goal.passed_over-requires-clause-below
 passed_over-requires-clause-below g c i j at =
     right-below IsSameSet (sets_in c.args.old.now) (sets_in c.args.new.now) (length (sets_in c.args.old.now)) c.in_ok-places.places.items c.in_ok-places.ensures i j
-    (ap (λ l. slice_get l i) (sym c.deref.ensures.value) ∙ at)
+    (ap (λ l. slice_get l i) (sym c.deref-3.ensures.value) ∙ at)
 
 pub passed_over-requires-clause-apart : goal.passed_over-requires-clause-apart
 passed_over-requires-clause-apart g c i k j first second =
     let olds = sets_in c.args.old.now in
     let news = sets_in c.args.new.now in
     right-apart IsSameSet olds news set_spot sets-agree (length olds) c.in_ok-places.places.items (apart-sets olds c.resolved_sets_are_apart.ensures.apart) c.in_ok-places.ensures i k j
-    (ap (λ l. slice_get l i) (sym c.deref.ensures.value) ∙ first) (ap (λ l. slice_get l k) (sym c.deref.ensures.value) ∙ second)
+    (ap (λ l. slice_get l i) (sym c.deref-3.ensures.value) ∙ first) (ap (λ l. slice_get l k) (sym c.deref-3.ensures.value) ∙ second)
 
 none-from : (o : Option ℕ) → is_some o ≡ false → o ≡ None
 none-from None is = refl
 none-from (Some k) is = absurd (true≢false is)
 
-some-from : (o : Option ℕ) → is_some o ≡ true → (k : ℕ) × (o ≡ Some k)
-some-from None is = absurd (true≢false (sym is))
-some-from (Some k) is = (k, refl)
+pub loop-i-init : goal.loop-i-init
+loop-i-init g c =
+    let news = sets_in c.args.new.now in
+    filled-first IsSameSet (sets_in c.args.old.now) news set_spot sets-agree c.first_open-open.result c.in_ok-places.places.items (apart-sets news c.resolved_sets_are_apart-2.ensures.apart)
+    c.in_ok-places.ensures
+    (λ i low. let (k, at) = c.first_open-open.ensures i low in (k, ap (λ l. slice_get l i) (sym c.deref-2.ensures.value) ∙ at))
 
 pub loop-i-preserved : goal.loop-i-preserved
 loop-i-preserved g c =
@@ -44,7 +48,7 @@ loop-i-preserved g c =
       | then-is_none w ↦
           let p = spot_of w.position.result in
           let lacks : slice_get places i ≡ Some None = at ∙ ap Some (none-from x w.if-is_none.ensures) in
-          let passed = subst (λ l. ArePassed (map set_spot news) l (length news) c.in_ok-passed.passed.places.items c.in_ok-passed.passed.positions) c.deref.ensures.value c.in_ok-passed.ensures in
+          let passed = subst (λ l. ArePassed (map set_spot news) l (length news) c.in_ok-passed.passed.places.items c.in_ok-passed.passed.positions) c.deref-3.ensures.value c.in_ok-passed.ensures in
           let never = open-apart IsSameSet olds news set_spot sets-agree i first places (length olds) p old_apart c.in_ok-places.ensures lacks c.loop-i.invariant.kept w.position.ensures in
           let place =
           w.find.ensures
@@ -58,6 +62,41 @@ loop-i-preserved g c =
           subst (AreFilled IsSameSet olds news (i + 1) first) (λ m. (sym w.places-is m).items)
           (filled-kept IsSameSet olds news set_spot sets-agree i k first places new_apart (at ∙ ap Some is) c.loop-i.invariant)
     ]
+
+pub same-requires-clause-alike : goal.same-requires-clause-alike
+same-requires-clause-alike g c =
+    let olds = sets_in c.args.old.now in
+    let news = sets_in c.args.new.now in
+    let first = c.in_ok-places.places.items in
+    let places = c.loop-i.places.items in
+    let i = c.loop-i.i in
+    let x = c.index.result.now in
+    let p = spot_of c.position.result in
+    let old_apart = apart-sets olds c.resolved_sets_are_apart.ensures.apart in
+    let new_apart = apart-sets news c.resolved_sets_are_apart-2.ensures.apart in
+    let many = c.sets_len-i-end.ensures in
+    let test = c.loop-i-test.true in
+    let long = c.loop-i.invariant.are.long in
+    let at : slice_get places i ≡ Some x = slice_get-get_or places i x (omega (arith, many, test, long)) ∙ ap Some (sym c.index.ensures) in
+    let lacks : slice_get places i ≡ Some None = at ∙ ap Some (none-from x c.if-is_none.ensures) in
+    let passed = subst (λ l. ArePassed (map set_spot news) l (length news) c.in_ok-passed.passed.places.items c.in_ok-passed.passed.positions) c.deref-3.ensures.value c.in_ok-passed.ensures in
+    let never = open-apart IsSameSet olds news set_spot sets-agree i first places (length olds) p old_apart c.in_ok-places.ensures lacks c.loop-i.invariant.kept c.position.ensures in
+    found-alike c.args.old.now c.args.new.now i p c.find.result c.position.ensures
+    (c.find.ensures
+    ∙ passed-place (map set_spot news) first new_apart (length news) c.in_ok-passed.passed.places.items c.in_ok-passed.passed.positions passed p (length-map news set_spot) never)
+
+-- all were found by the walk
+pub returns-then-open-len : goal.returns-then-open-len
+returns-then-open-len g c =
+    let olds = sets_in c.args.old.now in
+    let news = sets_in c.args.new.now in
+    let first = c.in_ok-places.places.items in
+    let long = c.in_ok-places.ensures.long in
+    let all = c.len.ensures in
+    let is = c.if-open-len.true in
+    filled-all IsSameSet olds news c.first_open-open.result first first (omega (arith, long, all, is))
+    (filled-first IsSameSet olds news set_spot sets-agree c.first_open-open.result first (apart-sets news c.resolved_sets_are_apart-2.ensures.apart) c.in_ok-places.ensures
+    (λ i low. let (k, at) = c.first_open-open.ensures i low in (k, ap (λ l. slice_get l i) (sym c.deref-2.ensures.value) ∙ at)))
 
 pub returns : goal.returns
 returns g c =
