@@ -1,6 +1,6 @@
 //! Lines of counters that keys share.
 
-ghost use Rattle.std.specs.Prelude.{◌≡◌, ◌↔◌, ℕ, ◌+◌, ◌-◌, ◌*◌, ◌<◌, ◌≤◌, ◌^◌, false, length, min, position, slice_get, Some, IfOk, IsTrue, MatchOption, OnErr, OnOk};
+ghost use Rattle.std.specs.Prelude.{◌≡◌, ◌↔◌, ℕ, ◌+◌, ◌-◌, ◌*◌, ◌<◌, ◌≤◌, ◌^◌, false, length, min, position, slice_get, true, Some, IfOk, IsTrue, MatchOption, OnErr, OnOk};
 ghost use Rattle.std.specs.List.{list_any, IsDistinct};
 ghost use Rattle.std.specs.Option.{is_some};
 ghost use Rattle.indexmap.specs.IndexSet.{spare};
@@ -126,8 +126,9 @@ impl<A: Allocator + Copy> KeyedLines<A> {
         }
     }
 
-    /// The place of a key, which is put in where it has none. No counter changes.
-    fn reach_key(&mut self, key: SymbolKey) -> Result<usize, AllocError>
+    /// The place of a key, which is put in where it has none. It is looked for first at the place at
+    /// which it is likely. No counter changes.
+    fn reach_key(&mut self, likely: usize, key: SymbolKey) -> Result<usize, AllocError>
         ensures place { IfOk result (λ i. position (is_key key) self.new.keys ≡ Some i) }
         ensures within { IfOk result (λ i. (i < length self.new.keys)
             × (i < length self.new.names.named)) }
@@ -141,7 +142,7 @@ impl<A: Allocator + Copy> KeyedLines<A> {
         ensures now { Stays self.old self.new }
         ensures before { StaysBefore self.old self.new }
     {
-        if let Some(place) = self.place_of(key) {
+        if let Some(place) = self.place_by(likely, key) {
             return Ok(place);
         }
         let place = self.keys.len();
@@ -150,6 +151,7 @@ impl<A: Allocator + Copy> KeyedLines<A> {
     }
 
     /// The places of keys, each with the line that it names. Keys that have none are put in. No counter changes.
+    /// A key often stands behind the one in front of it in the list, so it is looked for there first.
     fn places_of(&mut self, alloc: A, keys: &[SymbolKey]) -> Result<Vec<Named, A>, AllocError>
         requires { IsDistinct is_key keys.now }
         ensures named { IfOk result (λ v. AreNamed v.items self.new.names) }
@@ -161,10 +163,12 @@ impl<A: Allocator + Copy> KeyedLines<A> {
         ensures before { StaysBefore self.old self.new }
     {
         let mut places = Vec::with_capacity(alloc, keys.len())?;
+        let mut likely = 0;
         for key in keys {
-            let place = self.reach_key(*key)?;
+            let place = self.reach_key(likely, *key)?;
             let line = self.line_of(place);
             places.push(Named { line, place })?;
+            likely = place.wrapping_add(1);
         }
         Ok(places)
     }
@@ -265,6 +269,28 @@ impl<A: Allocator> KeyedLines<A> {
         ensures found { is_some result ≡ list_any (is_key key) self.now.keys }
     {
         self.keys.get_index_of(&key)
+    }
+
+    /// Whether a key is that of a place.
+    fn is_at(&self, place: usize, key: SymbolKey) -> bool
+        ensures place { result ≡ true → position (is_key key) self.now.keys ≡ Some place }
+        ensures found { result ≡ true → list_any (is_key key) self.now.keys ≡ true }
+    {
+        match self.keys.get_index(place) {
+            Some(at) => *at == key,
+            None => false,
+        }
+    }
+
+    /// The place of a key, which is looked for first at the place at which it is likely.
+    fn place_by(&self, likely: usize, key: SymbolKey) -> Option<usize>
+        ensures place { result ≡ position (is_key key) self.now.keys }
+        ensures found { is_some result ≡ list_any (is_key key) self.now.keys }
+    {
+        if self.is_at(likely, key) {
+            return Some(likely);
+        }
+        self.place_of(key)
     }
 
     /// The place of a key.

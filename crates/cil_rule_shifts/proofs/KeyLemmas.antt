@@ -270,29 +270,31 @@ unshifted among group lines result none settled = record {
   moved = IfOk-from_err result _ none;
 }
 
--- ---- targets that are the same
+-- ---- what stays
 
-module _ {A : Type 0} (among : ℕ → Bool) (head : RuleHead) (was is : Targets A) (same : (s t : ℕ) → takes was s t ≡ takes is s t) where
-  pub same-gives : (k : SymbolKey) (t : ℕ) → gives_to among head was (k, t) ≡ gives_to among head is (k, t)
-  same-gives k t = ap (λ b. (among k.source && b) && has_head head k) (same k.source t)
-
+-- where some sources have what they had nothing moves
+module _ {A : Type 0} (among : ℕ → Bool) (head : RuleHead) (was is : Targets A) (same : (k : SymbolKey) (t : ℕ) → gives_to among head was (k, t) ≡ gives_to among head is (k, t)) where
   pub none-moves : RisesBy (moves_to among head was is) 0 0
-  none-moves = rises-none (moves_to among head was is) 0 (λ p. ap (λ b. differs b (gives_to among head is p)) (same-gives p.0 p.1) ∙ itself (gives_to among head is p))
+  none-moves = rises-none (moves_to among head was is) 0 (λ p. ap (λ b. differs b (gives_to among head is p)) (same p.0 p.1) ∙ itself (gives_to among head is p))
     where
       itself : (b : Bool) → differs b b ≡ false
       itself true = refl
       itself false = refl
 
--- where the targets are the same nothing moves
-pub same-shifted : {A E : Type 0} (among : ℕ → Bool) (group : Group A) (lines : Keyed) → (group.for_good ≡ true → steps_in lines ≡ 0) → ((s t : ℕ) → takes group.was.now s t ≡ takes group.is.now s t)
-    → AreShifted {E = E} among group lines lines (Ok 0)
-same-shifted among group lines settled same = record {
+still-shifted : {A E : Type 0} (among : ℕ → Bool) (group : Group A) (lines : Keyed) → (group.for_good ≡ true → steps_in lines ≡ 0)
+    → ((k : SymbolKey) (t : ℕ) → gives_to among group.head group.was.now (k, t) ≡ gives_to among group.head group.is.now (k, t)) → AreShifted {E = E} among group lines lines (Ok 0)
+still-shifted among group lines settled same = record {
   settled = settled;
-  now = λ k t. ap (λ b. count_now lines k t + one_if b) (same-gives among group.head group.was.now group.is.now same k t);
+  now = λ k t. ap (λ b. count_now lines k t + one_if b) (same k t);
   bounded = λ k t. omega arith;
   before = λ _ k t. refl;
   moved = none-moves among group.head group.was.now group.is.now same;
 }
+
+-- so where the targets are the same
+pub same-shifted : {A E : Type 0} (among : ℕ → Bool) (group : Group A) (lines : Keyed) → (group.for_good ≡ true → steps_in lines ≡ 0) → ((s t : ℕ) → takes group.was.now s t ≡ takes group.is.now s t)
+    → AreShifted {E = E} among group lines lines (Ok 0)
+same-shifted among group lines settled same = still-shifted among group lines settled (λ k t. ap (λ b. (among k.source && b) && has_head group.head k) (same k.source t))
 
 -- ---- source by source
 
@@ -342,3 +344,9 @@ module _ {A : Type 0} (among : ℕ → Bool) (head : RuleHead) where
     below-done from count none =
         rises-same (moves_below from) turns 0 count
         (λ p. same-from_counts (moves_below from p) (turns p) (source-all from p.0.source (turns p) (λ past. still p (none p.0.source past))))
+
+-- ---- no source
+
+-- where there is no source nothing moves
+pub idle-shifted : {A E : Type 0} (among : ℕ → Bool) (group : Group A) (lines : Keyed) → (group.for_good ≡ true → steps_in lines ≡ 0) → ((s : ℕ) → among s ≡ false) → AreShifted {E = E} among group lines lines (Ok 0)
+idle-shifted among group lines settled none = still-shifted among group lines settled (λ k t. same-given among group.head group.was.now group.is.now k t (none k.source))

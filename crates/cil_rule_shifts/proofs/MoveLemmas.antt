@@ -1,5 +1,5 @@
 -- What moves word by word where the targets of a source change.
-use Rattle.cil_rule_shifts.proofs.Common.{◌≡◌, ◌⊎◌, ℕ, ◌+◌, ◌*◌, ◌/◌, ◌%◌, ◌^◌, ◌<◌, ◌≤◌, ◌==◌, ◌&&◌, ◌||◌, ◌++◌, ◌-◌, Bool, true, false, not, nat_lt, List, [], ◌∷◌, length, min, w64, bit_and, bit_not, count_ones, refl, sym, ap, ◌∙◌, subst, inl, inr, arith, true≢false, bit_at, cases_eq, cases_lt, eq-eqb, le-ltb, ne_eqb, eqb-true, bit_at_above, bit_at_and, bit_at_not, hit, hit-here, hit-there, differs, one_if, takes, AreMoves, AreMovesOf, AreShort, IsNextWord, Moved, NoneFromWord, Targets, came, move_at, ones_of, went, RisesBy, rises-added, rises-bits, rises-both, rises-map, rises-none, rises-same, same-from_counts}
+use Rattle.cil_rule_shifts.proofs.Common.{◌≡◌, ◌⊎◌, ℕ, ◌+◌, ◌*◌, ◌/◌, ◌%◌, ◌^◌, ◌<◌, ◌≤◌, ◌==◌, ◌&&◌, ◌||◌, ◌++◌, ◌-◌, Bool, true, false, not, nat_lt, List, [], ◌∷◌, length, min, w64, bit_and, bit_not, count_ones, refl, sym, ap, ◌∙◌, subst, inl, inr, arith, true≢false, bit_at, cases_eq, cases_lt, eq-eqb, le-ltb, ne_eqb, eqb-true, bit_at_above, bit_at_and, bit_at_not, hit, hit-here, hit-there, differs, one_if, takes, AreMoves, AreMovesOf, AreShort, Moved, NoneFromWord, Targets, came, move_at, ones_of, went, RisesBy, rises-added, rises-bits, rises-both, rises-map, rises-none, rises-same, same-from_counts}
 use Rattle.std.proofs.lemmas.Bool.{and_parts}
 use Rattle.std.proofs.lemmas.List.{get_or_append_left, get_or_push, length-append}
 use Rattle.std.proofs.lemmas.List.Sums.{sum_by_push}
@@ -99,29 +99,24 @@ module _ (was is : ℕ → Bool) where
   same-still true false same = absurd (true≢false same)
   same-still false b same = sym same
 
-  module _ (from word : ℕ) (moved : List Moved) (before : AreMovesBelow from moved) (next : IsNextWord (λ t. was t || is t) from word) where
-    quiet : (t : ℕ) → from ≤ t / 64 → t / 64 < word → was t ≡ is t
-    quiet t low high = let none = next.first t low high in no-first (was t) (is t) none ∙ sym (no-second (was t) (is t) none)
+  -- words behind in which nothing moves
+  pub moves-skip : (from to : ℕ) (moved : List Moved) → AreMovesBelow from moved → from ≤ to → ((t : ℕ) → from ≤ t / 64 → t / 64 < to → was t ≡ is t) → AreMovesBelow to moved
+  moves-skip from to moved before far still = record {
+    words = before.words;
+    below = λ i within. let less = before.below i within in omega (arith, less, far);
+    gone = λ t. before.gone t ∙ ap one_if (wider from to (t / 64) (goes t) far (λ low high. same-none (was t) (is t) (still t low high)));
+    come = λ t. before.come t ∙ ap one_if (wider from to (t / 64) (comes t) far (λ low high. same-none (is t) (was t) (sym (still t low high))));
+    ones = rises-same (λ t. nat_lt (t / 64) from && turns t) (λ t. nat_lt (t / 64) to && turns t) 0 (ones_of moved)
+        (λ t. wider from to (t / 64) (turns t) far (λ low high. same-still (was t) (is t) (still t low high))) before.ones;
+  }
 
-    -- a word in which nothing moves
-    pub moves-skip : ((t : ℕ) → t / 64 ≡ word → was t ≡ is t) → AreMovesBelow (word + 1) moved
-    moves-skip here =
-        let still : (t : ℕ) → from ≤ t / 64 → t / 64 < word + 1 → was t ≡ is t = λ t low high. by t low high in
-        let far : from ≤ word + 1 = (let on = next.from_on in omega (arith, on)) in
-        record {
-          words = before.words;
-          below = λ i within. let less = before.below i within in omega (arith, less, far);
-          gone = λ t. before.gone t ∙ ap one_if (wider from (word + 1) (t / 64) (goes t) far (λ low high. same-none (was t) (is t) (still t low high)));
-          come = λ t. before.come t ∙ ap one_if (wider from (word + 1) (t / 64) (comes t) far (λ low high. same-none (is t) (was t) (sym (still t low high))));
-          ones = rises-same (λ t. nat_lt (t / 64) from && turns t) (λ t. nat_lt (t / 64) (word + 1) && turns t) 0 (ones_of moved)
-              (λ t. wider from (word + 1) (t / 64) (turns t) far (λ low high. same-still (was t) (is t) (still t low high))) before.ones;
-        }
-      where
-        by : (t : ℕ) → from ≤ t / 64 → t / 64 < word + 1 → was t ≡ is t
-        by t low high = elim (cases_lt (t / 64) word) [
-          | inl earlier ↦ quiet t low earlier
-          | inr last ↦ here t (omega (arith, last, high))
-        ]
+  -- what neither takes doesn't move
+  pub neither-moves : (t : ℕ) → (was t || is t) ≡ false → was t ≡ is t
+  neither-moves t none = no-first (was t) (is t) none ∙ sym (no-second (was t) (is t) none)
+
+  module _ (word : ℕ) (moved : List Moved) (before : AreMovesBelow word moved) where
+    nothing : (t : ℕ) → word ≤ t / 64 → t / 64 < word → was t ≡ is t
+    nothing t low high = absurd (omega (arith, low, high))
 
     module _ (gone come : ℕ) (low : word < 2 ^ 58) (gone_fits : gone < 2 ^ 64) (come_fits : come < 2 ^ 64) (gone_hits : (t : ℕ) → hit word gone t ≡ one_if ((t / 64 == word) && goes t))
         (come_hits : (t : ℕ) → hit word come t ≡ one_if ((t / 64 == word) && comes t)) where
@@ -131,17 +126,17 @@ module _ (was is : ℕ → Bool) where
       abbrev pushed : List Moved
       pushed = moved ++ m ∷ []
 
-      -- the next word that is no number of another's
+      -- one word more
       pub moves-more : AreMovesBelow (word + 1) pushed
       moves-more = record {
         words = record { short = λ i within. short i (at i within); rising = λ i j less within. rising i j less (at i (omega (arith, less, within))) (at j within) };
         below = λ i within. (let less = front i (at i within) in omega (arith, less));
         gone = λ t. sum_by_push (λ (x : Moved). hit x.word x.gone t) moved m ∙ (λ k. before.gone t k + gone_hits t k)
-            ∙ step (goes t) t (λ low high. same-none (was t) (is t) (quiet t low high));
+            ∙ step (goes t) t (λ low high. same-none (was t) (is t) (nothing t low high));
         come = λ t. sum_by_push (λ (x : Moved). hit x.word x.come t) moved m ∙ (λ k. before.come t k + come_hits t k)
-            ∙ step (comes t) t (λ low high. same-none (is t) (was t) (sym (quiet t low high)));
-        ones = rises-both (λ t. nat_lt (t / 64) from && turns t) (λ t. (t / 64 == word) && turns t) (λ t. nat_lt (t / 64) (word + 1) && turns t)
-            (λ t. step (turns t) t (λ low high. same-still (was t) (is t) (quiet t low high))) 0 (ones_of moved) (ones_of pushed) before.ones
+            ∙ step (comes t) t (λ low high. same-none (is t) (was t) (sym (nothing t low high)));
+        ones = rises-both (λ t. nat_lt (t / 64) word && turns t) (λ t. (t / 64 == word) && turns t) (λ t. nat_lt (t / 64) (word + 1) && turns t)
+            (λ t. step (turns t) t (λ low high. same-still (was t) (is t) (nothing t low high))) 0 (ones_of moved) (ones_of pushed) before.ones
             (rises-added (λ t. (t / 64 == word) && turns t) (ones_of moved) (count_ones gone + count_ones come) (ones_of pushed) here (omega (arith, sum)) (omega (arith, sum)));
       }
         where
@@ -158,19 +153,19 @@ module _ (was is : ℕ → Bool) where
           short i (inr (last, is)) = subst (λ x. x.word < 2 ^ 58) (sym is) low
 
           front : (i : ℕ) → ((i < length moved) × (move_at pushed i ≡ move_at moved i)) ⊎ ((i ≡ length moved) × (move_at pushed i ≡ m)) → (move_at pushed i).word ≤ word
-          front i (inl (first, is)) = let less = before.below i first in let on = next.from_on in subst (λ x. x.word ≤ word) (sym is) (omega (arith, less, on))
+          front i (inl (first, is)) = let less = before.below i first in subst (λ x. x.word ≤ word) (sym is) (omega (arith, less))
           front i (inr (last, is)) = subst (λ x. x.word ≤ word) (sym is) (omega arith)
 
           rising : (i j : ℕ) → i < j → ((i < length moved) × (move_at pushed i ≡ move_at moved i)) ⊎ ((i ≡ length moved) × (move_at pushed i ≡ m))
               → ((j < length moved) × (move_at pushed j ≡ move_at moved j)) ⊎ ((j ≡ length moved) × (move_at pushed j ≡ m)) → (move_at pushed i).word < (move_at pushed j).word
           rising i j less (inl (first, is)) (inl (second, also)) = let step = before.words.rising i j less second in omega (arith, step, ap (λ x. x.word) is, ap (λ x. x.word) also)
-          rising i j less (inl (first, is)) (inr (last, also)) = let step = before.below i first in let on = next.from_on in omega (arith, step, on, ap (λ x. x.word) is, ap (λ x. x.word) also)
+          rising i j less (inl (first, is)) (inr (last, also)) = let step = before.below i first in omega (arith, step, ap (λ x. x.word) is, ap (λ x. x.word) also)
           rising i j less (inr (first, is)) (inl (second, also)) = absurd (omega (arith, first, second, less))
           rising i j less (inr (first, is)) (inr (last, also)) = absurd (omega (arith, first, last, less))
 
-          step : (g : Bool) (t : ℕ) → (from ≤ t / 64 → t / 64 < word → g ≡ false) → one_if (nat_lt (t / 64) from && g) + one_if ((t / 64 == word) && g) ≡ one_if (nat_lt (t / 64) (word + 1) && g)
+          step : (g : Bool) (t : ℕ) → (word ≤ t / 64 → t / 64 < word → g ≡ false) → one_if (nat_lt (t / 64) word && g) + one_if ((t / 64 == word) && g) ≡ one_if (nat_lt (t / 64) (word + 1) && g)
           step g t none =
-              ap (λ b. one_if (nat_lt (t / 64) from && g) + one_if (b && g)) (same-either-way (t / 64) word) ∙ source-more from word (t / 64) g next.from_on none
+              ap (λ b. one_if (nat_lt (t / 64) word && g) + one_if (b && g)) (same-either-way (t / 64) word) ∙ source-more word word (t / 64) g (omega arith) none
 
           sum : ones_of pushed ≡ ones_of moved + (count_ones gone + count_ones come)
           sum = sum_by_push (λ (x : Moved). count_ones x.gone + count_ones x.come) moved m
@@ -191,14 +186,14 @@ module _ (was is : ℕ → Bool) where
   pub moves-done : (from : ℕ) (moved : List Moved) → AreMovesBelow from moved → NoneFromWord (λ t. was t || is t) from → AreMovesOf was is moved
   moves-done from moved before none = record {
     words = before.words;
-    gone = λ t. before.gone t ∙ source-all from (t / 64) (goes t) (λ past. same-none (was t) (is t) (quiet t past));
-    come = λ t. before.come t ∙ source-all from (t / 64) (comes t) (λ past. same-none (is t) (was t) (sym (quiet t past)));
+    gone = λ t. before.gone t ∙ source-all from (t / 64) (goes t) (λ past. same-none (was t) (is t) (still t past));
+    come = λ t. before.come t ∙ source-all from (t / 64) (comes t) (λ past. same-none (is t) (was t) (sym (still t past)));
     ones = rises-same (λ t. nat_lt (t / 64) from && turns t) turns 0 (ones_of moved)
-        (λ t. same-from_counts (nat_lt (t / 64) from && turns t) (turns t) (source-all from (t / 64) (turns t) (λ past. same-still (was t) (is t) (quiet t past)))) before.ones;
+        (λ t. same-from_counts (nat_lt (t / 64) from && turns t) (turns t) (source-all from (t / 64) (turns t) (λ past. same-still (was t) (is t) (still t past)))) before.ones;
   }
     where
-      quiet : (t : ℕ) → from ≤ t / 64 → was t ≡ is t
-      quiet t past = let no = none t past in no-first (was t) (is t) no ∙ sym (no-second (was t) (is t) no)
+      still : (t : ℕ) → from ≤ t / 64 → was t ≡ is t
+      still t past = neither-moves t (none t past)
 
 -- where nothing moves, the targets are the same
 pub same-moved : (was is : ℕ → Bool) (moved : List Moved) → AreMovesOf was is moved → length moved ≡ 0 → (t : ℕ) → was t ≡ is t
@@ -211,15 +206,11 @@ same-moved was is [] moves none t = by (was t) (is t) (moves.gone t) (moves.come
     by false false gone come = refl
 same-moved was is (m ∷ moved) moves none t = absurd (omega (arith, none))
 
--- the words of targets that are numbers of the code
-pub short-word : {A : Type 0} (was is : Targets A) (source from word : ℕ) → AreShort was → AreShort is → source < 2 ^ 64 → IsNextWord (λ t. takes was source t || takes is source t) from word
-    → word < 2 ^ 58
-short-word was is source from word was_short is_short fits next =
-    let (t, at, some) = next.present in
-    elim (cases_lt t (2 ^ 64)) [
-      | inl low ↦ omega (arith, low, at)
-      | inr high ↦ absurd (true≢false (sym some ∙ ap (λ b. b || takes is source t) (was_short source t fits high) ∙ is_short source t fits high))
-    ]
+-- the words behind the last have no targets where these are numbers of the code
+pub short-words : {A : Type 0} (was is : Targets A) (source : ℕ) → AreShort was → AreShort is → source < 2 ^ 64 → (t : ℕ) → 2 ^ 58 ≤ t / 64 → (takes was source t || takes is source t) ≡ false
+short-words was is source was_short is_short fits t past =
+    let high : 2 ^ 64 ≤ t = omega (arith, past) in
+    ap (λ b. b || takes is source t) (was_short source t fits high) ∙ is_short source t fits high
 
 -- masks of a word that are the same have the same targets
 pub same-word : (word a b t : ℕ) (f g : Bool) → a ≡ b → hit word a t ≡ one_if ((t / 64 == word) && f) → hit word b t ≡ one_if ((t / 64 == word) && g) → t / 64 ≡ word → f ≡ g

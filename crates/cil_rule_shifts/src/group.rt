@@ -104,13 +104,16 @@ impl<A: Allocator + Copy> Group<'_, A> {
         Ok(moved)
     }
 
-    /// Moves the counters of the keys of the sources, and answers how many moved. They move source
-    /// by source where the target of each source was or is itself; where it was and is, nothing
-    /// moves.
+    /// Moves the counters of the keys of the sources, and answers how many moved. Where there is no
+    /// source nothing moves, whatever the targets. They move source by source where the target of
+    /// each source was or is itself; where it was and is, nothing moves.
     pub fn shift(self, lines: &mut KeyedLines<A>, alloc: A) -> Result<u128, AllocError>
         requires { CanShift (is_among self.sources) self lines.old }
         ensures { AreShifted (is_among self.entry.sources) self.entry lines.old lines.new result }
     {
+        let Some(_) = next_source(self.sources, 0) else {
+            return Ok(0);
+        };
         match (self.was.is_itself(), self.is.is_itself()) {
             (true, true) => Ok(0),
             (false, false) => self.shift_alike(lines, alloc),

@@ -5,7 +5,7 @@ ghost use Rattle.cil_rule_shifts.specs.Groups.{AreMovesOf};
 ghost use Rattle.cil_rule_shifts.specs.Reach.{takes, AreShort};
 
 use crate::targets::Targets;
-use crate::words::next_word;
+use crate::words::{WORDS, word_behind};
 use cil_keyed_lines::Moved;
 use std::alloc::{AllocError, Allocator};
 
@@ -23,8 +23,8 @@ pub fn moved_of<A: Allocator + Copy>(
         (λ moved. AreMovesOf (takes was.now source) (takes is.now source) moved.items) }
 {
     let mut moved = Vec::new(alloc);
-    let mut from = 0;
-    while let Some(word) = next_word(was, is, source, from) {
+    let mut word = 0;
+    while word < WORDS {
         let before = was.word(source, word);
         let now = is.word(source, word);
         if before != now {
@@ -34,7 +34,7 @@ pub fn moved_of<A: Allocator + Copy>(
                 come: now & !before,
             })?;
         }
-        from = word + 1;
+        word = word_behind(was, is, source, word, before | now != 0);
     }
     Ok(moved)
 }

@@ -1,10 +1,13 @@
 //! The words of the targets that a source had or has.
 
-ghost use Rattle.std.specs.Prelude.{◌||◌, ℕ, Bool};
+ghost use Rattle.std.specs.Prelude.{◌≡◌, ◌||◌, ◌+◌, ◌/◌, ◌<◌, ◌≤◌, ◌^◌, ℕ, false, Bool};
 ghost use Rattle.cil_rule_shifts.specs.Reach.{takes, IsFirstWord};
 
 use crate::targets::Targets;
 use std::alloc::Allocator;
+
+/// A word of targets is below this number: so many words have all.
+pub const WORDS: usize = 1 << 58;
 
 /// The earlier of two words, each the first from one on at which a test holds.
 pub fn earlier(first: Option<usize>, second: Option<usize>) -> Option<usize>
@@ -28,4 +31,28 @@ pub fn next_word<A: Allocator>(
     ensures { IsFirstWord (λ t. takes was.now source t || takes is.now source t) from result }
 {
     earlier(was.next_word(source, from), is.next_word(source, from))
+}
+
+/// The word to look at behind one. Behind a word with targets this is the next; behind one without,
+/// it is the first with a target of either, or the end of all words.
+#[inline(always)]
+pub fn word_behind<A: Allocator>(
+    was: &Targets<A>,
+    is: &Targets<A>,
+    source: usize,
+    word: usize,
+    has_targets: bool,
+) -> usize
+    requires { word < 2 ^ 58 }
+    ensures behind { word < result }
+    ensures between { (t : ℕ) → word < t / 64 → t / 64 < result
+        → (takes was.now source t || takes is.now source t) ≡ false }
+{
+    if has_targets {
+        return word + 1;
+    }
+    match next_word(was, is, source, word + 1) {
+        Some(next) => next,
+        None => WORDS,
+    }
 }

@@ -1,6 +1,9 @@
-use Rattle.cil_rule_shifts.proofs.Common.{◌∙◌, is_among, refl, sym}
-use Rattle.cil_rule_shifts.proofs.KeyLemmas.{same-shifted}
+use Rattle.cil_rule_shifts.proofs.Common.{◌∙◌, arith, is_among, refl, sym}
+use Rattle.cil_rule_shifts.proofs.KeyLemmas.{idle-shifted, same-shifted}
 use Rattle.cil_rule_shifts.proofs.group.Group.shift.Goals as goal
+
+pub returns-in_default : goal.returns-in_default
+returns-in_default g c = idle-shifted (is_among c.args.self.sources) c.args.self c.args.lines.now c.requires.settled (λ s. c.in_default.ensures s (omega arith))
 
 pub returns-in-true-true : goal.returns-in-true-true
 returns-in-true-true g c =
