@@ -155,6 +155,7 @@ impl<'m, A: Allocator + Copy> Listed<'m, A> {
     }
 
     /// Takes up permissions that the statement at a place lists.
+    #[inline(never)]
     fn list(
         &mut self,
         alloc: A,
@@ -208,6 +209,7 @@ impl<'m, A: Allocator + Copy> Listed<'m, A> {
     }
 
     /// Takes up a common that is given to a class, if one is, by their places.
+    #[inline(never)]
     fn give(&mut self, alloc: A, gift: Option<(u32, u32)>) -> Result<(), AllocError>
         requires inverse { IsInverse self.old }
         ensures given { OnOk result ((i : ℕ) → commons_at self.new.given.items i ≡ commons_at self.old.given.items i ++ given_at gift i) }

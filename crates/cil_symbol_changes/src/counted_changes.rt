@@ -52,6 +52,7 @@ impl ChangeCounts {
 
 /// How many targets of a place appeared and how many went since the last settling. The greatest `usize` as a word, which no line has,
 /// would be answered as out of memory.
+#[inline(never)]
 fn place_counts<A: Allocator>(
     lines: &KeyedLines<A>,
     past: &Past<A>,
@@ -72,6 +73,7 @@ fn place_counts<A: Allocator>(
 }
 
 /// The same, where the numbers of the place before are told: a place that is alike has these too.
+#[inline(always)]
 fn next_counts<A: Allocator>(
     lines: &KeyedLines<A>,
     past: &Past<A>,
