@@ -5,7 +5,7 @@ use Rattle.cil_bind.proofs.PositionLemmas.{take-next, take-length, around-at}
 use Rattle.cil_bind.proofs.PlaceLemmas.{flat-there, placed-there, placed-long, get-behind, joined-next, spelt-at, spelt-long}
 use Rattle.cil_bind.proofs.FromLemmas.{all-get, placed-named}
 
-get-front : {X : Type 0} (xs ys : List X) (i : ℕ) (x : X) → slice_get xs i ≡ Some x → slice_get (xs ++ ys) i ≡ Some x
+pub get-front : {X : Type 0} (xs ys : List X) (i : ℕ) (x : X) → slice_get xs i ≡ Some x → slice_get (xs ++ ys) i ≡ Some x
 get-front [] ys i x e = absurd (none-some x e)
 get-front (z ∷ xs) ys zero x e = e
 get-front (z ∷ xs) ys (suc i) x e = get-front xs ys i x e
@@ -88,7 +88,7 @@ around-long policy place [] (t ∷ statements) are = absurd are
 around-long policy place (r ∷ rows) [] are = absurd are
 around-long policy place (r ∷ rows) (t ∷ statements) are = ap suc (around-long policy (place + 1) rows statements are.1)
 
-joined-around : (modules : List Module) (i : ℕ) (m : Module) → slice_get modules i ≡ Some m → joined modules ≡ joined (take i modules) ++ (placed m.name [] [] m.statements ++ joined (drop (i + 1) modules))
+pub joined-around : (modules : List Module) (i : ℕ) (m : Module) → slice_get modules i ≡ Some m → joined modules ≡ joined (take i modules) ++ (placed m.name [] [] m.statements ++ joined (drop (i + 1) modules))
 joined-around modules i m at = ap joined (around-at modules i m at) ∙ several (take i modules)
   where
     several : (ms : List Module) → joined (ms ++ m ∷ drop (i + 1) modules) ≡ joined ms ++ (placed m.name [] [] m.statements ++ joined (drop (i + 1) modules))

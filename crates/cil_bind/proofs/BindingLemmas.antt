@@ -1,93 +1,51 @@
 -- References that are bound.
-use Rattle.cil_bind.proofs.Common.{◌≡◌, ℕ, zero, suc, ◌+◌, ◌<◌, ◌≤◌, List, [], ◌∷◌, ◌++◌, length, get_or, take, Option, Some, None, refl, sym, ap, ◌∙◌, subst, add-one, arith, map-append, take_all, none-some, same_Some, Word, Form, Placed, Table, leads, references, AreRows, Row, IsLead, kind_of, StatementKind, AreLeads, AreBound, Binds, kinds_of, table_of, AreCited, IsCited, AreFrom, NamedModule}
+use Rattle.cil_bind.proofs.Common.{◌≡◌, ℕ, zero, suc, ◌+◌, ◌<◌, ◌≤◌, List, [], ◌∷◌, ◌++◌, map, length, get_or, take, Option, Some, None, refl, sym, ap, ◌∙◌, subst, arith, length-map, map-append, take_all, none-some, same_Some, Word, Placed, Table, leads, references, texts_of, citations_of, cited_by, IsBlockOf, AreCited, Citation, Row, IsLead, kind_of, StatementKind, AreLeads, AreBound, AreAllLed, AreLed, AreSpaced, IsSpaced, Spells, Statements, bound_rows, kinds_of, leads_at, table_of, namespace_at, AreFrom, IsFrom, NamedModule, ParsedModule, bound_in, placed}
 use Rattle.std.proofs.Common.{slice_get}
+use Rattle.std.proofs.lemmas.List.{get_or-map}
 use Rattle.std.proofs.lemmas.Option.{get_or_from_slice_get, slice_get-get_or, slice_get_within}
-use Rattle.cil_parse.specs.declared.citations.Citation.{Citation}
-use Rattle.cil_parse.specs.declared.table.Table.TheVariants.{Types}
-use Rattle.cil_bind.proofs.DeclareLemmas.{rows-length}
-use Rattle.cil_bind.proofs.PositionLemmas.{take-next, take-last}
+use Rattle.cil_parse.proofs.CitationLemmas.{cited-are}
+use Rattle.cil_bind.proofs.PositionLemmas.{take-last}
 
-leads-push : (policy : List Placed) (namespace : List (List ℕ)) (refs : List (Table × Word)) (bound : List (Option ℕ)) (r : Table × Word) (found : Option ℕ) → AreLeads policy namespace refs bound
-    → IsLead r.0 policy found (leads policy r.0 namespace r.1.text) → AreLeads policy namespace (refs ++ r ∷ []) (bound ++ found ∷ [])
-leads-push policy namespace [] [] r found are is = (is, tt)
-leads-push policy namespace [] (b ∷ bound) r found are is = absurd are
-leads-push policy namespace (q ∷ refs) [] r found are is = absurd are
-leads-push policy namespace (q ∷ refs) (b ∷ bound) r found are is = (are.0, leads-push policy namespace refs bound r found are.1 is)
+-- the references of a statement lead where what they look up leads
+module _ {A : Type 0} (names spaces : List (List ℕ)) (policy : List Placed) (p : ParsedModule A) (from : List ℕ) (leads_of : List (Option ℕ)) where
+  refs-lead : (name : List ℕ) (statements : Statements) (index block : ℕ) (namespace : List (List ℕ)) (refs : List (Table × Word)) (numbers : List ℕ) → Spells p statements
+      → IsBlockOf (placed name [] [] statements) index block namespace → IsSpaced names spaces p from → AreLed names spaces (texts_of p) policy (citations_of p) from leads_of
+      → AreCited (texts_of p) (citations_of p) block refs numbers → AreLeads policy namespace refs (leads_at leads_of numbers)
+  refs-lead name statements index block namespace [] [] spells inside spaced led cited = tt
+  refs-lead name statements index block namespace [] (n ∷ numbers) spells inside spaced led cited = absurd cited
+  refs-lead name statements index block namespace (r ∷ refs) [] spells inside spaced led cited = absurd cited
+  refs-lead name statements index block namespace (r ∷ refs) (n ∷ numbers) spells inside spaced led ((c, at, cited), others) =
+      let table = cited.0 in
+      let within = cited.1 in
+      let text = cited.2 in
+      let space = spaced n c at in
+      let here : namespace_at names spaces (get_or from n 0) ≡ namespace =
+      space.1 name statements index namespace spells (subst (λ b. IsBlockOf (placed name [] [] statements) index b namespace) (sym within) inside) in
+      let lead = led n c at (slice_get_within (texts_of p) c.text r.1.text text) space.0 in
+      let found = get_or leads_of n None in
+      let is : get_or (texts_of p) c.text [] ≡ r.1.text = get_or_from_slice_get (texts_of p) c.text r.1.text [] text in (
+        subst (λ t. IsLead t policy found (leads policy t namespace r.1.text)) table
+            (subst (λ x. IsLead (table_of c.table) policy found (leads policy (table_of c.table) namespace x)) is
+            (subst (λ m. IsLead (table_of c.table) policy found (leads policy (table_of c.table) m (get_or (texts_of p) c.text []))) here lead)),
+        refs-lead name statements index block namespace refs numbers spells inside spaced led others,
+      )
 
-cited-at : (texts : List (List ℕ)) (refs : List (Table × Word)) (citations : List Citation) (k : ℕ) (c : Citation) → AreCited texts refs citations → slice_get citations k ≡ Some c → (r : Table × Word) × (slice_get refs k ≡ Some r) × IsCited texts r c
-cited-at texts [] [] k c are at = absurd (none-some c at)
-cited-at texts [] (d ∷ citations) k c are at = absurd are
-cited-at texts (r ∷ refs) [] k c are at = absurd are
-cited-at texts (r ∷ refs) (d ∷ citations) zero c are at = (r, refl, subst (IsCited texts r) (same_Some d c at) are.0)
-cited-at texts (r ∷ refs) (d ∷ citations) (suc k) c are at = cited-at texts refs citations k c are.1 at
+module _ {A : Type 0} (names spaces : List (List ℕ)) (policy : List Placed) (parsed : List (NamedModule A)) (from : List (List ℕ)) (leads_of : List (List (Option ℕ))) where
+  row-bound : (row : Row) (s : Placed) → IsFrom parsed row s → AreSpaced names spaces parsed from → AreAllLed names spaces policy parsed from leads_of
+      → AreLeads policy s.namespace (references s.form) (bound_in (slice_get parsed row.«module») (get_or leads_of row.«module» []) row.index)
+  row-bound row s is spaced led =
+      subst (λ m. AreLeads policy s.namespace (references s.form) (bound_in m (get_or leads_of row.«module» []) row.index)) (sym is.at)
+      (subst (λ f. AreLeads policy s.namespace (references f) (leads_at (get_or leads_of row.«module» []) (cited_by is.m.«module».now row.index))) is.form
+      (refs-lead names spaces policy is.m.«module».now (get_or from row.«module» []) (get_or leads_of row.«module» []) is.around.0 is.statements is.around.1 is.f.block s.namespace
+      (references is.f.form) (cited_by is.m.«module».now row.index) is.spells is.around.2 (spaced row.«module» is.m is.at) (led row.«module» is.m is.at)
+      (cited-are is.m.«module».now row.index is.statements is.f is.within is.spells is.is)))
 
--- what is read behind the end of what is looked up
-abbrev no_citation : Citation
-no_citation = record { table = Types; text = 0 }
-
--- what is looked up is a text of the module
-pub cited-within : (texts : List (List ℕ)) (refs : List (Table × Word)) (citations : List Citation) (k : ℕ) → AreCited texts refs citations → k < length citations → (get_or citations k no_citation).text < length texts
-cited-within texts refs citations k are low =
-    let c = get_or citations k no_citation in
-    let (r, there, cited) = cited-at texts refs citations k c are (slice_get-get_or citations k no_citation low) in
-    slice_get_within texts c.text r.1.text cited.1
-
--- one reference more
-pub leads-next : (policy : List Placed) (namespace texts : List (List ℕ)) (refs : List (Table × Word)) (citations : List Citation) (k : ℕ) (bound : List (Option ℕ)) (found : Option ℕ)
-    → AreCited texts refs citations → k < length citations → AreLeads policy namespace (take k refs) bound
-    → IsLead (table_of (get_or citations k no_citation).table) policy found (leads policy (table_of (get_or citations k no_citation).table) namespace (get_or texts (get_or citations k no_citation).text [])) → AreLeads policy namespace (take (k + 1) refs) (bound ++ found ∷ [])
-leads-next policy namespace texts refs citations k bound found are low so_far lead =
-    let c = get_or citations k no_citation in
-    let (r, there, cited) = cited-at texts refs citations k c are (slice_get-get_or citations k no_citation low) in
-    let next : take (k + 1) refs ≡ take k refs ++ r ∷ [] = rw add-one (take-next refs k r there) in
-    let text = get_or_from_slice_get texts c.text r.1.text [] cited.1 in
-    subst (λ l. AreLeads policy namespace l (bound ++ found ∷ [])) (sym next)
-    (leads-push policy namespace (take k refs) bound r found so_far
-    (subst (λ t. IsLead r.0 policy found (leads policy r.0 namespace t)) text (subst (λ u. IsLead u policy found (leads policy u namespace (get_or texts c.text []))) cited.0 lead)))
-
-cited-long : (texts : List (List ℕ)) (refs : List (Table × Word)) (citations : List Citation) → AreCited texts refs citations → length citations ≡ length refs
-cited-long texts [] [] are = refl
-cited-long texts [] (d ∷ citations) are = absurd are
-cited-long texts (r ∷ refs) [] are = absurd are
-cited-long texts (r ∷ refs) (d ∷ citations) are = ap suc (cited-long texts refs citations are.1)
-
--- all references
-pub leads-all : (policy : List Placed) (namespace texts : List (List ℕ)) (refs : List (Table × Word)) (citations : List Citation) (k : ℕ) (bound : List (Option ℕ)) → AreCited texts refs citations → length citations ≤ k
-    → AreLeads policy namespace (take k refs) bound → AreLeads policy namespace refs bound
-leads-all policy namespace texts refs citations k bound are past so_far =
-    let long = cited-long texts refs citations are in
-    subst (λ l. AreLeads policy namespace l bound) (take_all k refs (omega (arith, long, past))) so_far
-
-bound-push : (policy statements : List Placed) (bound : List (List (Option ℕ))) (s : Placed) (b : List (Option ℕ)) → AreBound policy statements bound → AreLeads policy s.namespace (references s.form) b
-    → AreBound policy (statements ++ s ∷ []) (bound ++ b ∷ [])
-bound-push policy [] [] s b are is = (is, tt)
-bound-push policy [] (c ∷ bound) s b are is = absurd are
-bound-push policy (t ∷ statements) [] s b are is = absurd are
-bound-push policy (t ∷ statements) (c ∷ bound) s b are is = (are.0, bound-push policy statements bound s b are.1 is)
-
--- one statement more
-pub bound-next : (policy statements : List Placed) (s : Placed) (namespace : List (List ℕ)) (form : Form) (old new : List (List (Option ℕ)) × List (Option ℕ)) → AreBound policy statements old.0 → Binds policy namespace form old new
-    → namespace ≡ s.namespace → form ≡ s.form → AreBound policy (statements ++ s ∷ []) new.0
-bound-next policy statements s namespace form old new are binds here same =
-    subst (AreBound policy (statements ++ s ∷ [])) (sym (ap (λ p. p.0) binds.added))
-    (bound-push policy statements old.0 s binds.bound are (subst (λ n. AreLeads policy n (references s.form) binds.bound) here (subst (λ f. AreLeads policy namespace (references f) binds.bound) same binds.leads_are)))
-
--- one statement of the policy more
-pub next-bound : (policy statements : List Placed) (i : ℕ) (s : Placed) (old new : List (List (Option ℕ)) × List (Option ℕ)) → slice_get statements i ≡ Some s → Binds policy s.namespace s.form old new → AreBound policy (take i statements) old.0
-    → AreBound policy (take (i + 1) statements) new.0
-next-bound policy statements i s old new here binds so_far =
-    let next : take (i + 1) statements ≡ take i statements ++ s ∷ [] = rw add-one (take-next statements i s here) in
-    subst (λ l. AreBound policy l new.0) (sym next) (bound-next policy (take i statements) s s.namespace s.form old new so_far binds refl refl)
-
--- the references of a statement from its namespace and by what it says
-pub binds-same : (policy : List Placed) (namespace other : List (List ℕ)) (form same : Form) (old new : List (List (Option ℕ)) × List (Option ℕ)) → namespace ≡ other → form ≡ same → Binds policy namespace form old new → Binds policy other same old new
-binds-same policy namespace other form same old new here e binds = subst (λ n. Binds policy n same old new) here (subst (λ f. Binds policy namespace f old new) e binds)
-
-pub rows-all : (names spaces : List (List ℕ)) (rows : List Row) (policy statements : List Placed) (i : ℕ) (bound : List (List (Option ℕ))) → AreRows names spaces rows statements → length rows ≤ i → AreBound policy (take i statements) bound
-    → AreBound policy statements bound
-rows-all names spaces rows policy statements i bound are past so_far =
-    let long = rows-length names spaces rows statements are in
-    subst (λ l. AreBound policy l bound) (take_all i statements (omega arith)) so_far
+  pub rows-bound : (rows : List Row) (statements : List Placed) → AreFrom parsed rows statements → AreSpaced names spaces parsed from → AreAllLed names spaces policy parsed from leads_of
+      → AreBound policy statements (bound_rows parsed leads_of rows)
+  rows-bound [] [] are spaced led = tt
+  rows-bound [] (s ∷ statements) are spaced led = absurd are
+  rows-bound (row ∷ rows) [] are spaced led = absurd are
+  rows-bound (row ∷ rows) (s ∷ statements) are spaced led = (row-bound row s are.0 spaced led, rows-bound rows statements are.1 spaced led)
 
 pub bound-length : (policy statements : List Placed) (bound : List (List (Option ℕ))) → AreBound policy statements bound → length bound ≡ length statements
 bound-length policy [] [] are = refl

@@ -1,10 +1,10 @@
 -- The names from elsewhere that this crate's proofs cite most, passed on from one place.
-pub use Rattle.cil_bind.specs.Binding.{AreBound, AreLeads, Binds, kinds_of}
+pub use Rattle.cil_bind.specs.Binding.{AreBound, AreLeads, bound_in, bound_rows, kinds_of, leads_at}
 pub use Rattle.cil_bind.specs.Ordered.{AreOrdered, IsBefore, IsLeast, IsRising, offsets_in, offsets_of}
-pub use Rattle.cil_bind.specs.Policy.{AreMarked, IsFirstAgain, IsTold, fault_of}
+pub use Rattle.cil_bind.specs.Policy.{AreMarked, IsFirstAgain, IsNumbered, IsTold, bound_of, fault_of}
 pub use Rattle.cil_bind.specs.Rows.{AreNumbered, AreRows, DeclareThat, IsDeclared, IsOnce, IsRow, IsTaken, is_optional_row}
-pub use Rattle.cil_bind.specs.Scope.{AreAround, AreFrom, AreSpelt, HaveModule, IsAround, IsFrom, IsOpenedIn, Stands, StandsFor, block_word, is_optional_kind, optional_number}
-pub use Rattle.cil_bind.specs.Words.{AreWorded, LeadsTo, Remembers, RemembersNothing, RemembersOf}
+pub use Rattle.cil_bind.specs.Scope.{AreAround, AreBlockSpaces, AreFrom, AreSpaced, AreSpelt, HaveModule, IsAround, IsBlockSpace, IsFrom, IsOpenedIn, IsSpaced, Stands, StandsFor, block_word, is_optional_kind, optional_number}
+pub use Rattle.cil_bind.specs.Words.{AreAllLed, AreLed, AreWorded, Comes, IsLed, LeadsTo}
 pub use Rattle.cil_bind.specs.declared.joined.NamedModule.{NamedModule}
 pub use Rattle.cil_bind.specs.declared.rows.Row.{Row}
 pub use Rattle.cil_lookup.specs.Lookup.{AreOpened, AreWithin, HaveDeclared, IsLead, Knows, is_key, named, namespace_at, path_of, table_index, table_of, word_at}
@@ -17,8 +17,9 @@ pub use Rattle.cil_parse.specs.Citations.{AreCited, IsCited}
 pub use Rattle.cil_parse.specs.Flat.{FlatStatement, flat}
 pub use Rattle.cil_parse.specs.Forms.{kind_of, permissions_in, words_in}
 pub use Rattle.cil_parse.specs.Lexicon.{AreNumbersOf}
-pub use Rattle.cil_parse.specs.Parsed.{Spells, names_of, statement_count, texts_of}
+pub use Rattle.cil_parse.specs.Parsed.{Spells, citations_of, cited_by, names_of, statement_count, texts_of}
 pub use Rattle.cil_parse.specs.View.{IsShown}
+pub use Rattle.cil_parse.specs.declared.citations.Citation.{Citation}
 pub use Rattle.cil_parse.specs.declared.parsed.ParsedModule.{ParsedModule}
 pub use Rattle.cil_parse.specs.declared.row.NumberedWord.{NumberedWord}
 pub use Rattle.cil_parse.specs.declared.row.StatementKind.{StatementKind}

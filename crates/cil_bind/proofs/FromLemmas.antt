@@ -61,6 +61,7 @@ from-next {A} parsed p statements name rows new before i row spells have index l
       is = ap (slice_get (flat 0 0 0 statements)) index ∙ f.1;
       form = sym it.2.form;
       place = sym it.2.at;
+      around = (name, 0 + i, it.2.is_block);
     }
 
 pub from-all : {A : Type 0} (parsed : List (NamedModule A)) (p : ParsedModule A) (statements : Statements) (name : List ℕ) (rows : List Row) (before : List Placed) (i : ℕ) → Spells p statements → statement_count p ≤ i

@@ -9,7 +9,9 @@ pub mod WordLemmas
 pub mod BindingLemmas
 pub mod FromLemmas
 pub mod RestrictLemmas
-pub mod MemoLemmas
+pub mod LedLemmas
+pub mod SpaceLemmas
+pub mod PolicyLemmas
 pub mod AroundLemmas
 pub mod OrderedLemmas
 pub mod NestedLemmas

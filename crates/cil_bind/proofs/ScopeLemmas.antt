@@ -123,7 +123,7 @@ all-more names more [] all = tt
 all-more names more (w ∷ space) all = (let long = length-append names more in omega (arith, all.0), all-more names more space all.1)
 
 -- the kinds of forms
-kind-block : (form : Form) → kind_of form ≡ kinds.Block → (id : Word) × (form ≡ block id)
+pub kind-block : (form : Form) → kind_of form ≡ kinds.Block → (id : Word) × (form ≡ block id)
 kind-block (block id) e = (id, refl)
 kind-block (rule kind source itself (anonymous the_class permissions)) e = cc
 kind-block (rule kind source itself (by_name set)) e = cc

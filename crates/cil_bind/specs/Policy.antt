@@ -1,5 +1,5 @@
 -- A joined policy whose references are bound.
-use Rattle.std.specs.Prelude.{◌≡◌, ◌<◌, ◌^◌, ℕ, List, [], ◌∷◌, length, take, slice_get, slice_index_or, Some, Bool, false}
+use Rattle.std.specs.Prelude.{◌≡◌, ◌<◌, ◌^◌, ℕ, List, [], ◌∷◌, length, take, slice_get, slice_index_or, Option, Some, Bool, false}
 use Rattle.cil_specs.specs.Names.{Word}
 use Rattle.cil_specs.specs.Joined.{Placed}
 use Rattle.cil_specs.specs.PolicyFault.{PolicyFault, twice, twice_words}
@@ -8,14 +8,25 @@ use Rattle.cil_specs.specs.Kept.{Optionals, is_within}
 use Rattle.cil_bind.specs.declared.rows.Row.{Row}
 use Rattle.cil_lookup.specs.Lookup.{Knows}
 use Rattle.cil_bind.specs.Rows.{IsOnce}
-use Rattle.cil_bind.specs.Scope.{Stands, AreFrom, AreAround}
+use Rattle.cil_bind.specs.Scope.{Stands, AreFrom, AreAround, AreSpaced}
 use Rattle.cil_bind.specs.Words.{AreWorded}
-use Rattle.cil_bind.specs.Binding.{AreBound, kinds_of}
+use Rattle.cil_bind.specs.Binding.{AreBound, bound_rows, kinds_of}
 use Rattle.cil_bind.specs.declared.joined.NamedModule.{NamedModule}
 use Rattle.cil_bind.specs.declared.redeclaration.Redeclaration.{Redeclaration}
 use Rattle.cil_bind.specs.declared.policy.Policy.{Policy}
+use Rattle.cil_bind.specs.declared.policy.Numbers.{Numbers}
 use Rattle.cil_bind.specs.declared.policy.Joining.{Joining}
 use Rattle.cil_bind.specs.declared.policy.Joining.TheVariants.{Once, Twice}
+
+-- for each statement where its references lead
+abbrev pub bound_of : {A : Type 0} → Policy A → List (NamedModule A) → List (List (Option ℕ))
+bound_of p parsed = bound_rows parsed p.leads.0 p.rows.items
+
+-- each module's names have these numbers, and what its statements look up is looked up from these namespaces
+pub record IsNumbered {A : Type 0} (names spaces : List (List ℕ)) (parsed : List (NamedModule A)) (numbers : Numbers A) : Type 0 where
+  pub worded : AreWorded names numbers.words.items parsed
+  pub spaced : AreSpaced names spaces parsed numbers.spaces.0
+  pub long : length numbers.spaces.0 ≡ length parsed
 
 -- The words, the namespaces and the rows are those of this policy; each name has its first declaration, and none is declared twice;
 -- each reference is bound to what it leads to; the kinds are those of the statements; and places have 32 bits.
@@ -25,7 +36,10 @@ pub record IsBoundTo {A : Type 0} (p : Policy A) (parsed : List (NamedModule A))
   pub knows : Knows p.lookup.namespaces p.lookup.declared.entries p.names policy
   pub once : IsOnce policy
   pub worded : AreWorded p.names p.words.items parsed
-  pub bound : AreBound policy policy p.bound.0
+  pub spaced : AreSpaced p.names p.lookup.namespaces parsed p.spaces.0
+  pub spaces_long : length p.spaces.0 ≡ length parsed
+  pub leads_long : length p.leads.0 ≡ length parsed
+  pub bound : AreBound policy policy (bound_of p parsed)
   pub kinds : p.kinds.items ≡ kinds_of policy
   pub few : length p.rows.items < 2 ^ 32
 

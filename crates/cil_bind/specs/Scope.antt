@@ -1,13 +1,15 @@
 -- The statements of a joined policy by numbers.
-use Rattle.std.specs.Prelude.{zero, suc, ◌≡◌, ◌⊎◌, ◌<◌, ℕ, List, [], ◌∷◌, ◌++◌, Bool, true, false, Contains, Option, Some, None, slice_index_or, slice_get, ◌+◌, ◌==◌, if◌then◌else◌, bytes_eq}
+use Rattle.std.specs.Prelude.{zero, suc, ◌≡◌, ◌⊎◌, ◌<◌, ℕ, List, [], ◌∷◌, ◌++◌, Bool, true, false, Contains, Option, Some, None, slice_index_or, slice_get, ◌+◌, ◌==◌, if◌then◌else◌, length, bytes_eq}
 use Rattle.std.specs.List.{IsDistinct}
 use Rattle.cil_specs.specs.Names.{Word}
 use Rattle.cil_specs.specs.Statements.{Statements, Form, block, optional}
-use Rattle.cil_specs.specs.Joined.{Placed, Module}
-use Rattle.cil_lookup.specs.Lookup.{named}
+use Rattle.cil_specs.specs.Joined.{Placed, Module, placed}
+use Rattle.cil_lookup.specs.Lookup.{named, namespace_at}
+use Rattle.cil_parse.specs.Around.{IsBlockOf}
+use Rattle.cil_parse.specs.declared.citations.Citation.{Citation}
 use Rattle.cil_bind.specs.Rows.{IsDeclared, AreRows, AreNumbered}
 use Rattle.cil_parse.specs.Flat.{FlatStatement, flat}
-use Rattle.cil_parse.specs.Parsed.{Spells, statement_count}
+use Rattle.cil_parse.specs.Parsed.{Spells, citations_of, statement_count}
 use Rattle.cil_parse.specs.declared.parsed.ParsedModule.{ParsedModule}
 use Rattle.cil_bind.specs.declared.rows.Row.{Row}
 use Rattle.cil_parse.specs.declared.table.Table.{Table}
@@ -71,6 +73,7 @@ pub record IsFrom {A : Type 0} (parsed : List (NamedModule A)) (row : Row) (s : 
   pub is : slice_get (flat 0 0 0 statements) row.index ≡ Some f
   pub form : f.form ≡ s.form
   pub place : f.at ≡ s.at
+  pub around : (name : List ℕ) × (index : ℕ) × IsBlockOf (placed name [] [] statements) index f.block s.namespace
 
 abbrev pub AreFrom : {A : Type 0} → List (NamedModule A) → List Row → List Placed → Type 0
 AreFrom parsed [] [] = Unit {0}
@@ -96,3 +99,25 @@ AreAround policy place [] [] = Unit {0}
 AreAround policy place [] (s ∷ statements) = ⊥
 AreAround policy place (row ∷ rows) [] = ⊥
 AreAround policy place (row ∷ rows) (s ∷ statements) = IsAround policy place row.optional s × AreAround policy (place + 1) rows statements
+
+-- The number is that of the namespace inside a block of a module whose statements begin at a place, by the rows.
+pub record IsBlockSpace (rows : List Row) (spaces start : ℕ) (number found : ℕ) : Type 0 where
+  pub within : found < spaces
+  pub global : number ≡ 0 → found ≡ 0
+  pub inside : (k : ℕ) (row : Row) → number ≡ suc k → slice_get rows (start + k) ≡ Some row → row.inside < spaces → found ≡ row.inside
+
+-- the numbers are those of the namespaces from which this is looked up
+abbrev pub AreBlockSpaces : List Row → ℕ → ℕ → List Citation → List ℕ → Type 0
+AreBlockSpaces rows spaces start citations found = (n : ℕ) (c : Citation) → slice_get citations n ≡ Some c
+    → IsBlockSpace rows spaces start c.block (slice_index_or found n 0)
+
+-- Each of what a module's statements look up is looked up from the namespace inside its block.
+abbrev pub IsSpaced : {A : Type 0} → List (List ℕ) → List (List ℕ) → ParsedModule A → List ℕ → Type 0
+IsSpaced names spaces p found = (n : ℕ) (c : Citation) → slice_get (citations_of p) n ≡ Some c
+    → (slice_index_or found n 0 < length spaces)
+    × ((name : List ℕ) (statements : Statements) (index : ℕ) (namespace : List (List ℕ)) → Spells p statements
+    → IsBlockOf (placed name [] [] statements) index c.block namespace → namespace_at names spaces (slice_index_or found n 0) ≡ namespace)
+
+abbrev pub AreSpaced : {A : Type 0} → List (List ℕ) → List (List ℕ) → List (NamedModule A) → List (List ℕ) → Type 0
+AreSpaced {A} names spaces parsed found = (k : ℕ) (m : NamedModule A) → slice_get parsed k ≡ Some m
+    → IsSpaced names spaces m.«module».now (slice_index_or found k [])

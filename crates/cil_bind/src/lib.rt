@@ -1,17 +1,19 @@
 //! What the names of a joined policy are bound to, once an edit.
 #![tactic(auto)]
 
-mod binding;
 mod declarations;
 mod joined;
+mod kinds;
 mod known_lists;
 mod laws;
 mod lead;
-mod memo;
+mod leads;
 mod policy;
 mod redeclaration;
+mod references;
 mod rows;
 mod scope;
+mod spaces;
 mod words;
 
 pub use cil_lookup::{Key, Lookup};
@@ -25,4 +27,5 @@ pub use laws::{
 pub use lead::Lead;
 pub use policy::{Joining, Policy};
 pub use redeclaration::Redeclaration;
+pub use references::References;
 pub use rows::Row;

@@ -1,14 +1,16 @@
 //! A joined policy whose references are bound.
 
-ghost use Rattle.std.specs.Prelude.{◌≡◌, ◌<◌, ◌^◌, ℕ, IfOk, OnOk, List, false, filter, bytes_eq, length, slice_index_or};
-ghost use Rattle.cil_bind.specs.Common.{IsDistinct, list_all, AreSpelt, AreFrom, AreAround, StandsFor, HaveDeclared, DeclareThat, IsOnce, Makes, IsBoundTo, AreMarked, TellsAround, AreWorded, Optionals, AreApart, restricted};
+ghost use Rattle.std.specs.Prelude.{◌≡◌, ◌<◌, ◌^◌, [], ℕ, IfOk, OnOk, List, false, filter, bytes_eq, length, slice_index_or};
+ghost use Rattle.cil_bind.specs.Common.{IsDistinct, list_all, AreSpelt, AreFrom, AreAround, StandsFor, HaveDeclared, DeclareThat, IsOnce, Makes, IsBoundTo, AreMarked, TellsAround, AreWorded, IsNumbered, Optionals, AreApart, restricted, bound_of};
 ghost use Rattle.cil_specs.specs.Joined.{Placed, Module, joined as joined_policy};
 
-use crate::binding::bind;
 use crate::declarations::{Declarations, Declared};
 use crate::joined::Joined;
+use crate::kinds::kinds;
 use crate::lead::Lead;
+use crate::leads::leads;
 use crate::redeclaration::Redeclaration;
+use crate::references::References;
 use crate::rows::{Row, is_kept};
 use crate::scope::Scope;
 use crate::words::number_modules;
@@ -18,15 +20,24 @@ use cil_parse::{Lists, StatementKind};
 use std::alloc::{AllocError, Allocator, Global};
 
 /// A joined policy: its words in one numbering, with the numbers of each module's names; its namespaces and the first declaration of each
-/// name; its statements; and for each statement what its references are bound to, by places, and its kind.
+/// name; its statements; for each of what a module's statements look up the namespace from which it is looked up, and the place where it
+/// leads; and for each statement its kind.
 #[derive(Drop)]
 pub struct Policy<'m, A: Allocator = Global> {
     pub names: Names<'m, A>,
     pub words: Vec<Vec<u32, A>, A>,
     pub lookup: Lookup<A>,
     pub rows: Vec<Row, A>,
-    pub bound: Lists<Lead, A>,
+    pub spaces: Lists<u32, A>,
+    pub leads: Lists<Lead, A>,
     pub kinds: Vec<StatementKind, A>,
+}
+
+/// For each module the numbers of its names, and the namespaces from which its statements look up.
+#[derive(Drop)]
+struct Numbers<A: Allocator = Global> {
+    words: Vec<Vec<u32, A>, A>,
+    spaces: Lists<u32, A>,
 }
 
 /// A policy in which each name is declared once, or the first name that is declared again.
@@ -63,7 +74,8 @@ impl<'m, A: Allocator + Copy> Policy<'m, A> {
     {
         let scope = Scope::of(alloc, names, joined)?;
         counted_in_32_bits(scope.rows.len())?;
-        Policy::of_statements(alloc, joined, scope, words)
+        let spaces = scope.spaces(alloc, joined)?;
+        Policy::of_statements(alloc, joined, scope, Numbers { words, spaces })
     }
 
     /// The policy of statements by numbers, or the first name that they declare again.
@@ -71,17 +83,17 @@ impl<'m, A: Allocator + Copy> Policy<'m, A> {
         alloc: A,
         joined: &Joined<'m, A>,
         scope: Scope<'m, A>,
-        words: Vec<Vec<u32, A>, A>,
+        numbers: Numbers<A>,
     ) -> Result<Joining<'m, A>, AllocError>
         requires stands { (policy : List Placed) × StandsFor scope policy × AreFrom joined.now.modules.items scope.rows.items policy }
-        requires worded { AreWorded scope.names words.items joined.now.modules.items }
+        requires numbered { IsNumbered scope.names scope.namespaces joined.now.modules.items numbers }
         requires few { length scope.rows.items < 2 ^ 32 }
         ensures made { IfOk result (λ made. (policy : List Placed) → StandsFor scope.entry policy → AreFrom joined.now.modules.items scope.entry.rows.items policy
             → Makes joined.now.modules.items policy made) }
         ensures around { IfOk result (λ made. (policy : List Placed) → AreAround policy 0 scope.entry.rows.items policy → TellsAround policy made) }
     {
         let declared = Declarations::of(alloc, scope.rows.as_slice())?;
-        Policy::of_declared(alloc, joined, scope, words, declared)
+        Policy::of_declared(alloc, joined, scope, numbers, declared)
     }
 
     /// The policy of statements by what they declare, or the first name that they declare again.
@@ -89,11 +101,11 @@ impl<'m, A: Allocator + Copy> Policy<'m, A> {
         alloc: A,
         joined: &Joined<'m, A>,
         scope: Scope<'m, A>,
-        words: Vec<Vec<u32, A>, A>,
+        numbers: Numbers<A>,
         declared: Declared<A>,
     ) -> Result<Joining<'m, A>, AllocError>
         requires stands { (policy : List Placed) × StandsFor scope policy × AreFrom joined.now.modules.items scope.rows.items policy }
-        requires worded { AreWorded scope.names words.items joined.now.modules.items }
+        requires numbered { IsNumbered scope.names scope.namespaces joined.now.modules.items numbers }
         requires declared { (policy : List Placed) → StandsFor scope policy → DeclareThat scope.names scope.namespaces policy declared }
         requires few { length scope.rows.items < 2 ^ 32 }
         ensures made { IfOk result (λ made. (policy : List Placed) → StandsFor scope.entry policy → AreFrom joined.now.modules.items scope.entry.rows.items policy
@@ -107,7 +119,7 @@ impl<'m, A: Allocator + Copy> Policy<'m, A> {
                 return Ok(Joining::Twice(again));
             }
         };
-        let policy = Policy::of_scope(alloc, joined, scope, words, declarations)?;
+        let policy = Policy::of_scope(alloc, joined, scope, numbers, declarations)?;
         Ok(Joining::Once(policy))
     }
 
@@ -140,7 +152,7 @@ impl<'m, A: Allocator + Copy> Policy<'m, A> {
         self.leave_out(alloc, joined, kept)
     }
 
-    /// Leaves out the statements whose innermost optional isn't marked, and binds the others again.
+    /// Leaves out the statements whose innermost optional isn't marked, and looks up anew where the others' references lead.
     fn leave_out(
         &mut self,
         alloc: A,
@@ -154,15 +166,16 @@ impl<'m, A: Allocator + Copy> Policy<'m, A> {
         retain_kept(&mut self.rows, kept);
         let declarations = Declarations::of_once(alloc, self.rows.as_slice())?;
         self.lookup.declared = declarations.first;
-        let bound = bind(
+        let leads = leads(
             alloc,
             &self.lookup,
             joined,
             self.words.as_slice(),
-            self.rows.as_slice(),
+            &self.spaces,
         )?;
-        self.bound = bound.references;
-        self.kinds = bound.kinds;
+        let kinds = kinds(alloc, joined, self.rows.as_slice())?;
+        self.leads = leads;
+        self.kinds = kinds;
         Ok(())
     }
 
@@ -171,14 +184,14 @@ impl<'m, A: Allocator + Copy> Policy<'m, A> {
         alloc: A,
         joined: &Joined<'m, A>,
         scope: Scope<'m, A>,
-        words: Vec<Vec<u32, A>, A>,
+        numbers: Numbers<A>,
         declarations: Declarations<A>,
     ) -> Result<Self, AllocError>
-        requires worded { (names : List (List ℕ)) × AreWorded names words.items joined.now.modules.items }
+        requires numbered { IsNumbered scope.names scope.namespaces joined.now.modules.items numbers }
         requires from { (policy : List Placed) × AreFrom joined.now.modules.items scope.rows.items policy }
         requires few { length scope.rows.items < 2 ^ 32 }
         ensures made { IfOk result (λ p. (policy : List Placed) → StandsFor scope.entry policy → AreFrom joined.now.modules.items scope.entry.rows.items policy
-            → AreWorded scope.entry.names words.items joined.now.modules.items → HaveDeclared scope.entry.names scope.entry.namespaces declarations.first.entries policy → IsOnce policy
+            → HaveDeclared scope.entry.names scope.entry.namespaces declarations.first.entries policy → IsOnce policy
             → IsBoundTo p joined.now.modules.items policy) }
         ensures rows { IfOk result (λ p. p.rows.items ≡ scope.entry.rows.items) }
     {
@@ -191,15 +204,32 @@ impl<'m, A: Allocator + Copy> Policy<'m, A> {
             namespaces,
             declared: declarations.first,
         };
-        let bound = bind(alloc, &lookup, joined, words.as_slice(), rows.as_slice())?;
+        let Numbers { words, spaces } = numbers;
+        let leads = leads(alloc, &lookup, joined, words.as_slice(), &spaces)?;
+        let kinds = kinds(alloc, joined, rows.as_slice())?;
         Ok(Policy {
             names,
             words,
             lookup,
             rows,
-            bound: bound.references,
-            kinds: bound.kinds,
+            spaces,
+            leads,
+            kinds,
         })
+    }
+}
+
+impl<'m, A: Allocator> Policy<'m, A> {
+    /// Where the references of the statement at a place lead.
+    pub fn references<'p>(&'p self, joined: &'p Joined<'m, A>, i: usize) -> References<'p>
+        requires bound { (policy : List Placed) × IsBoundTo self.now joined.now.modules.items policy }
+        requires within { i < length self.now.rows.items }
+        ensures { result ≡ slice_index_or (bound_of self.now joined.now.modules.items) i [] }
+    {
+        let row = &self.rows[i];
+        let number = row.module as usize;
+        let module = joined.modules[number].module;
+        References::of(module.cited(row.index as usize), self.leads.get(number))
     }
 }
 

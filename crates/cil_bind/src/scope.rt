@@ -152,7 +152,7 @@ impl<'m, A: Allocator + Copy> Scope<'m, A> {
     }
 
     /// The namespace around a statement of a module whose statements begin at a place, by the number of the innermost block.
-    fn around(&self, start: usize, block: u32) -> u32
+    pub(crate) fn around(&self, start: usize, block: u32) -> u32
         requires { start < 2 ^ 32 }
         ensures within { result < length self.now.namespaces }
         ensures global { block ≡ 0 → result ≡ 0 }

@@ -218,8 +218,8 @@ leads-long policy namespace [] (b ∷ bound) are = absurd are
 leads-long policy namespace (r ∷ refs) [] are = absurd are
 leads-long policy namespace (r ∷ refs) (b ∷ bound) are = ap suc (leads-long policy namespace refs bound are.1)
 
-pub bound-as-many : {A : Type 0} (seen : Seen A) (policy : List Placed) (s : Placed) → IsSeen seen policy s → length seen.bound.now ≡ length (references s.form)
-bound-as-many seen policy s is = leads-long policy s.namespace (references s.form) seen.bound.now is.leads_are
+pub bound-as-many : {A : Type 0} (seen : Seen A) (policy : List Placed) (s : Placed) → IsSeen seen policy s → length seen.bound ≡ length (references s.form)
+bound-as-many seen policy s is = leads-long policy s.namespace (references s.form) seen.bound is.leads_are
 
 -- the reference at an index, which is a word of the statement
 pub reference-there : (form : Form) (k : ℕ) → k < length (references form) → (r : Table × Word) × (slice_get (references form) k ≡ Some r) × (slice_get (words_in form) k ≡ Some r.1)
@@ -233,9 +233,9 @@ reference-there form k less =
     there (r ∷ refs) (suc k) less = there refs k (omega (arith, less))
 
 -- a reference that is bound to nothing leads nowhere
-pub bound-nowhere : {A : Type 0} (seen : Seen A) (policy : List Placed) (s : Placed) (k : ℕ) (r : Table × Word) (o : Option ℕ) → IsSeen seen policy s → slice_get (references s.form) k ≡ Some r → o ≡ get_or seen.bound.now k None
+pub bound-nowhere : {A : Type 0} (seen : Seen A) (policy : List Placed) (s : Placed) (k : ℕ) (r : Table × Word) (o : Option ℕ) → IsSeen seen policy s → slice_get (references s.form) k ≡ Some r → o ≡ get_or seen.bound k None
     → is_unfound policy s.namespace r ≡ not (is_some o)
-bound-nowhere seen policy s k r o is at same = by o (subst (λ o. IsLead r.0 policy o (leads policy r.0 s.namespace r.1.text)) (sym same) (lead-of policy s.namespace (references s.form) seen.bound.now k r is.leads_are at))
+bound-nowhere seen policy s k r o is at same = by o (subst (λ o. IsLead r.0 policy o (leads policy r.0 s.namespace r.1.text)) (sym same) (lead-of policy s.namespace (references s.form) seen.bound k r is.leads_are at))
   where
     by : (o : Option ℕ) → IsLead r.0 policy o (leads policy r.0 s.namespace r.1.text) → is_unfound policy s.namespace r ≡ not (is_some o)
     by None led = ap (λ l. not (is_some l)) (sym led.is)

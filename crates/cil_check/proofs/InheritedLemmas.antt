@@ -97,17 +97,17 @@ given-form _ word is = cc
 
 -- the second word of a statement that gives something to a class leads to its common
 pub common-led : {A : Type 0} (seen : Seen A) (policy : List Placed) (t : Placed) (owner : ℕ) → IsSeen seen policy t → IsLead classes policy (Some owner) (given_lead Common policy t)
-    → IsLead commons policy (get_or seen.bound.now 1 None) (common_lead policy t)
+    → IsLead commons policy (get_or seen.bound 1 None) (common_lead policy t)
 common-led seen policy t owner is led = by (given_word Common t.form) refl
   where
     there : Led classes policy owner (given_lead Common policy t)
     there = led-at classes policy owner (given_lead Common policy t) led
 
-    by : (o : Option Word) → given_word Common t.form ≡ o → IsLead commons policy (get_or seen.bound.now 1 None) (common_lead policy t)
+    by : (o : Option Word) → given_word Common t.form ≡ o → IsLead commons policy (get_or seen.bound 1 None) (common_lead policy t)
     by None none = absurd (none-some there.s (sym (ap (option_and_then (λ w. leads policy classes t.namespace w.text)) none) ∙ there.is))
     by (Some word) some =
         let (the_common, form) = given-form t.form word some in
-        subst (λ l. IsLead commons policy (get_or seen.bound.now 1 None) l) (sym (ap (λ f. option_and_then (λ w. leads policy commons t.namespace w.text) (common_word f)) form))
+        subst (λ l. IsLead commons policy (get_or seen.bound 1 None) l) (sym (ap (λ f. option_and_then (λ w. leads policy commons t.namespace w.text) (common_word f)) form))
         (seen-lead seen policy t 1 commons the_common is (ap (λ f. slice_get (references f) 1) form))
 
 -- what one statement more gives

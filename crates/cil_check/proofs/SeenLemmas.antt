@@ -5,12 +5,11 @@ use Rattle.std.specs.Borrow.{Bor}
 use Rattle.cil_parse.specs.Flat.{FlatStatement, flat}
 use Rattle.cil_parse.specs.View.{IsShown}
 use Rattle.cil_parse.specs.declared.view.StatementView.{StatementView}
-use Rattle.cil_bind.specs.Binding.{AreLeads, AreBound}
+use Rattle.cil_bind.specs.Binding.{AreLeads}
 use Rattle.cil_bind.specs.Scope.{IsFrom}
 use Rattle.cil_bind.specs.declared.joined.NamedModule.{NamedModule}
 use Rattle.cil_bind.specs.declared.rows.Row.{Row}
 pub use Rattle.cil_bind.proofs.BindingLemmas.{bound-at}
-use Rattle.cil_bind.proofs.BindingLemmas.{bound-length}
 use Rattle.cil_bind.proofs.DeclareLemmas.{rows-length}
 use Rattle.cil_bind.proofs.FromLemmas.{from-at, is-there, IsThere}
 use Rattle.cil_check.specs.declared.bound.BoundPolicy.{BoundPolicy}
@@ -20,9 +19,6 @@ use Rattle.cil_check.specs.declared.kinds.Kind.TheVariants.{«Type», Alias, Att
 pub is-long : {A : Type 0} (b : BoundPolicy A) (policy : List Placed) → IsOf b policy → length b.policy.now.rows.items ≡ length policy
 is-long b policy is =
     rows-length b.policy.now.names b.policy.now.lookup.namespaces b.policy.now.rows.items policy is.bound.stands.rows_are
-
-pub bound-long : {A : Type 0} (b : BoundPolicy A) (policy : List Placed) → IsOf b policy → length b.policy.now.bound.0 ≡ length policy
-bound-long b policy is = bound-length policy policy b.policy.now.bound.0 is.bound.bound
 
 pub kinds-long : {A : Type 0} (b : BoundPolicy A) (policy : List Placed) → IsOf b policy → length b.policy.now.kinds.items ≡ length policy
 kinds-long b policy is = ap length is.bound.kinds ∙ length-map policy (λ s. kind_of s.form)
@@ -48,8 +44,8 @@ seen-kind seen policy s is = is.shown.kind ∙ ap kind_of is.form
 
 -- a lead of a statement that is seen
 pub seen-lead : {A : Type 0} (seen : Seen A) (policy : List Placed) (s : Placed) (k : ℕ) (table : Table) (word : Word) → IsSeen seen policy s → slice_get (references s.form) k ≡ Some (table, word)
-    → IsLead table policy (get_or seen.bound.now k None) (leads policy table s.namespace word.text)
-seen-lead seen policy s k table word is at = lead-of policy s.namespace (references s.form) seen.bound.now k (table, word) is.leads_are at
+    → IsLead table policy (get_or seen.bound k None) (leads policy table s.namespace word.text)
+seen-lead seen policy s k table word is at = lead-of policy s.namespace (references s.form) seen.bound k (table, word) is.leads_are at
 
 -- and a word
 pub seen-word : {A : Type 0} (seen : Seen A) (policy : List Placed) (s : Placed) (k : ℕ) (word : Word) → IsSeen seen policy s → slice_get (words_in s.form) k ≡ Some word
@@ -92,17 +88,17 @@ form-there b policy i row d s is at here there =
     subst (IsThere b.joined.now.modules.items row d) (same_Some t s (sym found ∙ at)) (is-there b.joined.now.modules.items row d t from there)
 
 -- what is seen of it
-pub seen-there : {A : Type 0} (b : BoundPolicy A) (policy : List Placed) (i : ℕ) (row : Row) (d : NamedModule A) (view : StatementView) (bound : Bor (List (Option ℕ))) (words : Bor (List ℕ)) (s : Placed) → IsOf b policy → slice_get policy i ≡ Some s
+pub seen-there : {A : Type 0} (b : BoundPolicy A) (policy : List Placed) (i : ℕ) (row : Row) (d : NamedModule A) (view : StatementView) (bound : List (Option ℕ)) (words : Bor (List ℕ)) (s : Placed) → IsOf b policy → slice_get policy i ≡ Some s
     → row ≡ get_or b.policy.now.rows.items i row → d ≡ get_or b.joined.now.modules.items row.«module» d
     → ((statements : Statements) (f : FlatStatement) → Spells d.«module».now statements → slice_get (flat 0 0 0 statements) row.index ≡ Some f → IsShown (texts_of d.«module».now) view f)
-    → bound.now ≡ get_or b.policy.now.bound.0 i [] → IsSeen (record { «module» = d.«module»; name = d.name; view = view; bound = bound; words = words }) policy s
-seen-there b policy i row d view bound words s is at here there shown bound_is = record {
+    → AreLeads policy s.namespace (references s.form) bound → IsSeen (record { «module» = d.«module»; name = d.name; view = view; bound = bound; words = words }) policy s
+seen-there b policy i row d view bound words s is at here there shown bound_are = record {
   f = t.f;
   shown = shown t.statements t.f t.spells t.is;
   form = t.form ∙ ap (λ u. u.form) one;
   place = t.place ∙ ap (λ u. u.at) one;
   named = ap (λ m. m.name.now) (there ∙ get_or_from_slice_get b.joined.now.modules.items row.«module» from.2.m d from.2.at) ∙ from.2.named ∙ ap (λ u. u.module_name) one;
-  leads_are = subst (AreLeads policy s.namespace (references s.form)) (sym bound_is) (bound-at policy policy b.policy.now.bound.0 i s is.bound.bound at);
+  leads_are = bound_are;
 }
   where
     from : (t : Placed) × (slice_get policy i ≡ Some t) × IsFrom b.joined.now.modules.items row t

@@ -93,17 +93,17 @@ none-unset-of policy namespace (attribute_set attribute expr) all =
 none-unset-of policy namespace _ all = refl
 
 -- the last reference of a statement that names permissions of a class is that class
-pub class-last : (policy : List Placed) (s : Placed) (bound : List (Option ℕ)) (place : ℕ) → names_permissions (kind_of s.form) ≡ true → AreLeads policy s.namespace (references s.form) bound → slice_get bound (length bound - 1) ≡ Some (Some place)
+pub class-last : (policy : List Placed) (s : Placed) (bound : List (Option ℕ)) (place : ℕ) → names_permissions (kind_of s.form) ≡ true → AreLeads policy s.namespace (references s.form) bound → get_or bound (length bound - 1) None ≡ Some place
     → IsLead classes policy (Some place) (class_lead policy s)
 class-last policy s bound place is are at = by s.form is bound are at
   where
     lead : Form → Option Placed
     lead form = option_and_then (λ w. leads policy classes s.namespace w.text) (named_class form)
 
-    at-last : (form : Form) (found : Option ℕ) → Some found ≡ Some (Some place) → IsLead classes policy found (lead form) → IsLead classes policy (Some place) (lead form)
-    at-last form found same = subst (λ o. IsLead classes policy o (lead form)) (same_Some found (Some place) same)
+    at-last : (form : Form) (found : Option ℕ) → found ≡ Some place → IsLead classes policy found (lead form) → IsLead classes policy (Some place) (lead form)
+    at-last form found same = subst (λ o. IsLead classes policy o (lead form)) same
 
-    by : (form : Form) → names_permissions (kind_of form) ≡ true → (bound : List (Option ℕ)) → AreLeads policy s.namespace (references form) bound → slice_get bound (length bound - 1) ≡ Some (Some place) → IsLead classes policy (Some place) (lead form)
+    by : (form : Form) → names_permissions (kind_of form) ≡ true → (bound : List (Option ℕ)) → AreLeads policy s.namespace (references form) bound → get_or bound (length bound - 1) None ≡ Some place → IsLead classes policy (Some place) (lead form)
     by (class_permission_set set the_class permissions) is (a ∷ b ∷ []) are at = at-last (class_permission_set set the_class permissions) b at are.1.0
     by (class_permission_set set the_class permissions) is [] are at = absurd are
     by (class_permission_set set the_class permissions) is (a ∷ []) are at = absurd are.1

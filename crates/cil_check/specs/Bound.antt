@@ -35,7 +35,7 @@ pub record IsSeen {A : Type 0} (seen : Seen A) (policy : List Placed) (s : Place
   pub form : f.form ≡ s.form
   pub place : f.at ≡ s.at
   pub named : seen.name.now ≡ s.module_name
-  pub leads_are : AreLeads policy s.namespace (references s.form) seen.bound.now
+  pub leads_are : AreLeads policy s.namespace (references s.form) seen.bound
 
 -- the numbered word is this one, by the texts of the statement's module
 abbrev pub Reads : {A : Type 0} → Seen A → Option NumberedWord → Option Word → Type 0

@@ -1,22 +1,24 @@
 //! The statements of a bound policy.
 
 ghost use Rattle.std.specs.Prelude.{◌≡◌, ◌<◌, ◌∷◌, [], ℕ, List, None, length, slice_get, slice_index_or, Some};
+ghost use Rattle.cil_bind.specs.Binding.{AreLeads};
+ghost use Rattle.cil_specs.specs.Lookup.{references as references_of};
 ghost use Rattle.cil_check.specs.Common.{Word, components, Placed, read, kind_of, texts_of, names_of, AreNumbersOf, test_of, IsOf, IsSeen, policy_kind_of, fault_at, IsFoundFault};
 
 use crate::fault::{PolicyFault, PolicyFaultKind};
 use crate::kinds::Kind;
-use cil_bind::{Joined, Lead, Policy};
+use cil_bind::{Joined, Policy, References};
 use cil_parse::{NumberedWord, ParsedModule, StatementKind, StatementView};
 use std::alloc::{Allocator, Global};
 
-/// A statement as it is seen: its module and the module's name, its view, what its references are bound to, and the numbers of the
-/// names of its module.
+/// A statement as it is seen: its module and the module's name, its view, where its references lead, and the numbers of the names of
+/// its module.
 #[derive(Drop)]
 pub struct Seen<'p, 'm, A: Allocator = Global> {
     pub module: &'m ParsedModule<A>,
     pub name: &'m [u8],
     pub view: StatementView<'m>,
-    pub bound: &'p [Lead],
+    pub bound: References<'p>,
     pub words: &'p [u32],
 }
 
@@ -33,12 +35,9 @@ fn number_at(words: &[u32], k: usize) -> u32
 impl<'p, 'm, A: Allocator> Seen<'p, 'm, A> {
     /// The place that a reference leads to.
     pub fn lead(&self, k: usize) -> Option<u32>
-        ensures { result ≡ slice_index_or self.now.bound.now k None }
+        ensures { result ≡ slice_index_or self.now.bound k None }
     {
-        match self.bound.get(k) {
-            Some(found) => found.place(),
-            None => None,
-        }
+        self.bound.place(k)
     }
 
     /// A word of the statement.
@@ -88,7 +87,19 @@ impl<'p, 'm, A: Allocator> BoundPolicy<'p, 'm, A> {
         self.policy.rows.len()
     }
 
-    /// The statement of a place.
+    /// Where the references of the statement of a place lead.
+    #[inline(always)]
+    pub fn references(&self, i: usize) -> References<'p>
+        requires { (policy : List Placed) × IsOf self.now policy × (i < length policy) }
+        ensures { (policy : List Placed) (s : Placed) → IsOf self.now policy
+            → slice_get policy i ≡ Some s
+            → AreLeads policy s.namespace (references_of s.form) result }
+    {
+        self.policy.references(self.joined, i)
+    }
+
+    /// The statement of a place. It is inlined, since most callers need a part of it.
+    #[inline(always)]
     pub fn seen(&self, i: usize) -> Seen<'p, 'm, A>
         requires is { (policy : List Placed) × IsOf self.now policy × (i < length policy) }
         ensures seen { (policy : List Placed) (s : Placed) → IsOf self.now policy → slice_get policy i ≡ Some s → IsSeen result policy s }
@@ -101,7 +112,7 @@ impl<'p, 'm, A: Allocator> BoundPolicy<'p, 'm, A> {
             module: named.module,
             name: named.name,
             view: named.module.statement(row.index as usize),
-            bound: self.policy.bound.get(i),
+            bound: self.references(i),
             words: self.policy.words[number].as_slice(),
         }
     }

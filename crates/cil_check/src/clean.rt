@@ -11,7 +11,7 @@ use crate::bound::Seen;
 use crate::checker::{CHECKED, Checker};
 use crate::kinds::Kind;
 use crate::known::Known;
-use cil_bind::{Lead, PermissionList};
+use cil_bind::{PermissionList, References};
 use cil_parse::StatementKind;
 use std::alloc::Allocator;
 
@@ -110,21 +110,21 @@ impl<'p, 'm, A: Allocator + Copy> Checker<'p, 'm, A> {
     /// Whether a reference is bound, and to no alias. No statement has the place that stands for
     /// nowhere here, since there are fewer than 2^32.
     #[inline(always)]
-    fn is_plainly_sound(&self, found: Lead) -> bool
+    fn is_plainly_sound(&self, found: Option<u32>) -> bool
         ensures { IsTrue result → (policy : List Placed) → IsNoted self.now policy
             → is_sound_lead self.now.bound.policy.now.kinds.items self.now.actuals found ≡ true }
     {
-        self.is_other(found.place().unwrap_or(u32::MAX))
+        self.is_other(found.unwrap_or(u32::MAX))
     }
 
     /// Whether all of some references are bound, and none to an alias.
     #[inline(always)]
-    fn are_plainly_sound(&self, bound: &[Lead]) -> bool
+    fn are_plainly_sound(&self, bound: &References<'_>) -> bool
         ensures { IsTrue result → (policy : List Placed) → IsNoted self.now policy
             → are_sound_leads self.now.bound.policy.now.kinds.items self.now.actuals bound.now ≡ true }
     {
-        for found in bound {
-            if !self.is_plainly_sound(*found) {
+        for k in 0..bound.len() {
+            if !self.is_plainly_sound(bound.place(k)) {
                 return false;
             }
         }
@@ -135,17 +135,22 @@ impl<'p, 'm, A: Allocator + Copy> Checker<'p, 'm, A> {
     /// going over them one by one.
     #[cold]
     #[inline(never)]
-    fn are_each_sound(&self, bound: &[Lead]) -> bool
+    fn are_each_sound(&self, bound: &References<'_>) -> bool
         ensures { result
             ≡ are_sound_leads self.now.bound.policy.now.kinds.items self.now.actuals bound.now }
     {
-        bound.iter().all(|found| self.is_sound(found.place()))
+        for k in 0..bound.len() {
+            if !self.is_sound(bound.place(k)) {
+                return false;
+            }
+        }
+        true
     }
 
     /// Whether all of some references are bound, and none to an alias without an actual type. Most
     /// lead to no alias.
     #[inline(always)]
-    fn are_sound(&self, bound: &[Lead]) -> bool
+    fn are_sound(&self, bound: &References<'_>) -> bool
         ensures { (policy : List Placed) → IsNoted self.now policy → result
             ≡ are_sound_leads self.now.bound.policy.now.kinds.items self.now.actuals bound.now }
     {
@@ -160,14 +165,11 @@ impl<'p, 'm, A: Allocator + Copy> Checker<'p, 'm, A> {
             → slice_get policy place ≡ Some s → kind_of s.form ≡ TypeAttributeSet
             → IsCleanAt policy place s }
     {
-        let bound = self.bound.policy.bound.get(place);
-        let Some(lead) = bound.first() else {
+        let bound = self.bound.references(place);
+        let Some(first) = bound.place(0) else {
             return false;
         };
-        let Some(first) = lead.place() else {
-            return false;
-        };
-        self.bound.is(first, Kind::Attribute) && self.are_sound(bound)
+        self.bound.is(first, Kind::Attribute) && self.are_sound(&bound)
     }
 
     /// Whether the class of a place has a permission. One that it has is known then.
@@ -259,14 +261,11 @@ impl<'p, 'm, A: Allocator + Copy> Checker<'p, 'm, A> {
             → slice_get policy place ≡ Some s → is_naming_kind (kind_of s.form) ≡ true
             → IsKnown self.now policy known.old → IsKnown self.now policy known.new }
     {
-        let bound = self.bound.policy.bound.get(place);
-        let Some(lead) = bound.last() else {
+        let bound = self.bound.references(place);
+        let Some(class) = bound.last() else {
             return false;
         };
-        let Some(class) = lead.place() else {
-            return false;
-        };
-        if !self.are_sound(bound) {
+        if !self.are_sound(&bound) {
             return false;
         }
         self.has_listed(place, class, known)
@@ -280,7 +279,7 @@ impl<'p, 'm, A: Allocator + Copy> Checker<'p, 'm, A> {
             → slice_get policy place ≡ Some s → is_rule_of_set_kind (kind_of s.form) ≡ true
             → IsCleanAt policy place s }
     {
-        self.are_sound(self.bound.policy.bound.get(place))
+        self.are_sound(&self.bound.references(place))
     }
 
     /// Whether the statement of a place has no fault of the kinds that are seen at one statement.

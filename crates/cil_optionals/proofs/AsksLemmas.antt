@@ -10,6 +10,7 @@ use Rattle.cil_parse.specs.declared.view.StatementView.{StatementView}
 use Rattle.cil_bind.specs.Binding.{AreLeads, AreBound}
 use Rattle.cil_optionals.proofs.FoundLemmas.{leads-found}
 use Rattle.cil_optionals.proofs.ProviderLemmas.{row-within, place-provided, provided-by, naming-declaration, HasRow, row-of}
+use Rattle.cil_bind.specs.Policy.{bound_of}
 
 -- what is led to has a row
 pub lead-low : {A : Type 0} (p : Policy A) (parsed : List (NamedModule A)) (all : List Placed) (table : Table) (found : Option ℕ) (q : ℕ) (lead : Option Placed) → IsReady p parsed all → found ≡ Some q → IsLead table all found lead
@@ -239,14 +240,14 @@ pub kinds-long : {A : Type 0} (p : Policy A) (parsed : List (NamedModule A)) (al
 kinds-long p parsed all ready = ap length ready.bound.kinds ∙ length-map all (λ s. kind_of s.form)
 
 -- the references of the statement at a place are bound to what they lead to
-pub leads-of : {A : Type 0} (p : Policy A) (parsed : List (NamedModule A)) (all : List Placed) (i : ℕ) (s : Placed) (bound : List (Option ℕ)) → IsReady p parsed all → slice_get all i ≡ Some s → bound ≡ get_or p.bound.0 i []
+pub leads-of : {A : Type 0} (p : Policy A) (parsed : List (NamedModule A)) (all : List Placed) (i : ℕ) (s : Placed) (bound : List (Option ℕ)) → IsReady p parsed all → slice_get all i ≡ Some s → bound ≡ get_or (bound_of p parsed) i []
     → AreLeads all s.namespace (references s.form) bound
-leads-of p parsed all i s bound ready at here = subst (AreLeads all s.namespace (references s.form)) (sym here) (bound-at all all p.bound.0 i s ready.bound.bound at).1
+leads-of p parsed all i s bound ready at here = subst (AreLeads all s.namespace (references s.form)) (sym here) (bound-at all all (bound_of p parsed) i s ready.bound.bound at).1
 
 pub seen-of : {A : Type 0} (p : Policy A) (parsed : List (NamedModule A)) (module_at : ParsedModule A) (all : List Placed) (i : ℕ) (s : Placed) (row : Row) (v : StatementView) (bound : List (Option ℕ)) → IsReady p parsed all
     → slice_get all i ≡ Some s → (of : IsOf p module_at i s) → row ≡ get_or p.rows.items i row
     → ((statements : Statements) (f : FlatStatement) → Spells module_at statements → slice_get (flat 0 0 0 statements) row.index ≡ Some f → IsShown (texts_of module_at) v f)
-    → bound ≡ get_or p.bound.0 i [] → IsSeen p module_at all i s v bound
+    → bound ≡ get_or (bound_of p parsed) i [] → IsSeen p module_at all i s v bound
 seen-of p parsed module_at all i s row v bound ready at of is shows here = record {
   f = of.f;
   shown = shows of.statements of.f of.spells (ap (λ r. slice_get (flat 0 0 0 of.statements) r.index) (sym (row-one p module_at i s row of is).0) ∙ of.is);

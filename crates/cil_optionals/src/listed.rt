@@ -9,7 +9,7 @@ ghost use Rattle.cil_bind.specs.Listing.{lists_own as lists_own_kind};
 ghost use Rattle.cil_optionals.specs.Given.{lists as lists_permission, commons_at, has_gift, listers_at, permissions_in, gift as gift_in, given_at, gives_common as gives_common_kind, IsUpTo, IsInverse};
 
 use crate::modules::module_of;
-use cil_bind::{Joined, Lead, Policy};
+use cil_bind::{Joined, Policy, References};
 use cil_names::{Names, Seed};
 use cil_parse::{NumberedWord, ParsedModule, StatementKind};
 use indexmap::IndexSet;
@@ -68,13 +68,13 @@ fn gives_common(kind: StatementKind) -> bool
 }
 
 /// The class and the common of two references, by what these are bound to.
-fn gift_of(bound: &[Lead]) -> Option<(u32, u32)>
+fn gift_of(bound: &References<'_>) -> Option<(u32, u32)>
     ensures { result ≡ gift_in bound.now }
 {
-    match bound {
-        [class, common] => Some((class.place()?, common.place()?)),
-        _ => None,
+    if bound.len() != 2 {
+        return None;
     }
+    Some((bound.place(0)?, bound.place(1)?))
 }
 
 /// Makes room for the commons that are given to the class at a place. Classes are few, and mostly stand early in a policy.
@@ -148,8 +148,8 @@ impl<'m, A: Allocator + Copy> Listed<'m, A> {
             return Ok(());
         }
         if gives_common(kind) {
-            let bound = policy.bound.get(i);
-            self.give(alloc, gift_of(bound))?;
+            let bound = policy.references(joined, i);
+            self.give(alloc, gift_of(&bound))?;
         }
         Ok(())
     }

@@ -48,7 +48,7 @@ fn asked<'m, A: Allocator + Copy>(
         → Asks all (optional_at policy.now i) (λ set. are_found (restricted set all) s.namespace (references_of s.form) && are_there (restricted set all) s.namespace (named_permissions s.form)) needs.old.items needs.new.items) }
 {
     let module = module_of(joined, policy, i);
-    references(policy, module, i, needs)?;
+    references(joined, policy, module, i, needs)?;
     if !permissions.are_there(alloc, policy, i)? {
         add_need(policy.rows[i].optional as usize, None, needs)?;
     }

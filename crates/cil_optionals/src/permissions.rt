@@ -9,13 +9,13 @@ ghost use Rattle.cil_bind.specs.KnownLists.{texts_listed, AreKnown};
 ghost use Rattle.cil_parse.specs.Builder.{read};
 ghost use Rattle.cil_parse.specs.Parsed.{texts_of};
 ghost use Rattle.cil_optionals.specs.Asks.{are_there as all_there};
-ghost use Rattle.cil_optionals.specs.Given.{permissions_in, last_bound as last_of, names_permissions as names_permissions_kind, has_list as has_listed, AreAnswers, AreRecent, IsInverse};
+ghost use Rattle.cil_optionals.specs.Given.{permissions_in, names_permissions as names_permissions_kind, has_list as has_listed, AreAnswers, AreRecent, IsInverse};
 ghost use Rattle.cil_optionals.specs.Permissions.{HavePermissions};
 ghost use Rattle.cil_optionals.specs.Providers.{IsReady};
 
 use crate::listed::{Listed, Permission};
 use crate::modules::module_of;
-use cil_bind::{Joined, KnownLists, Lead, PermissionList, Policy};
+use cil_bind::{Joined, KnownLists, PermissionList, Policy};
 use cil_names::Seed;
 use cil_parse::{NumberedWord, ParsedModule, StatementKind};
 use indexmap::IndexSet;
@@ -51,13 +51,6 @@ fn names_permissions(kind: StatementKind) -> bool
         kind,
         StatementKind::ClassPermissionSet | StatementKind::Rule(_) | StatementKind::RuleToSelf(_)
     )
-}
-
-/// What the last of some references is bound to.
-fn last_bound(bound: &[Lead]) -> Option<u32>
-    ensures { result ≡ last_of bound.now }
-{
-    bound.last()?.place()
 }
 
 /// Where a question is at hand, by the number of the name's text in its module. Other questions may be there.
@@ -220,8 +213,7 @@ impl<'l, 'm, A: Allocator + Copy> Permissions<'l, 'm, A> {
         if !names_permissions(kind) {
             return Ok(true);
         }
-        let bound = policy.bound.get(i);
-        let Some(class) = last_bound(bound) else {
+        let Some(class) = policy.references(self.joined, i).last() else {
             return Ok(true);
         };
         let row = policy.rows[i];

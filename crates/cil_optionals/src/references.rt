@@ -5,7 +5,7 @@ ghost use Rattle.cil_optionals.specs.Common.{Placed, Optionals, is_within, restr
 ghost use Rattle.cil_specs.specs.Lookup.{Table as TableOf, holds_of, references as references_of, is_global as is_global_text};
 ghost use Rattle.cil_optionals.specs.Nodes.{is_provided, is_plain as is_plain_text, is_single as are_single, AreNodesOf};
 
-use cil_bind::Policy;
+use cil_bind::{Joined, Policy};
 use cil_needs::Need;
 use cil_parse::ParsedModule;
 use std::alloc::{AllocError, Allocator};
@@ -77,20 +77,21 @@ pub fn add_need<A: Allocator + Copy>(
 }
 
 /// Puts what the references of the statement at a place need behind others. One that leads outside optionals needs nothing.
-pub fn references<A: Allocator + Copy>(
-    policy: &Policy<'_, A>,
+pub fn references<'m, A: Allocator + Copy>(
+    joined: &Joined<'m, A>,
+    policy: &Policy<'m, A>,
     module: &ParsedModule<A>,
     i: usize,
     needs: &mut Vec<Need, A>,
 ) -> Result<(), AllocError>
-    requires ready { (parsed : List (NamedModule _)) × (all : List Placed) × (s : Placed) × IsReady policy.now parsed all × slice_get all i ≡ Some s × IsOf policy.now «module».now i s }
-    ensures { OnOk result ((parsed : List (NamedModule _)) (all : List Placed) (s : Placed) → IsReady policy.now parsed all → slice_get all i ≡ Some s → IsOf policy.now «module».now i s
+    requires ready { (all : List Placed) × (s : Placed) × IsReady policy.now joined.now.modules.items all × slice_get all i ≡ Some s × IsOf policy.now «module».now i s }
+    ensures { OnOk result ((all : List Placed) (s : Placed) → IsReady policy.now joined.now.modules.items all → slice_get all i ≡ Some s → IsOf policy.now «module».now i s
         → Asks all (optional_at policy.now i) (λ set. are_found (restricted set all) s.namespace (references_of s.form)) needs.old.items needs.new.items) }
 {
     let row = policy.rows[i];
-    let bound = policy.bound.get(i);
+    let bound = policy.references(joined, i);
     for k in 0..bound.len() {
-        let found = bound[k].place();
+        let found = bound.place(k);
         if is_outside(policy, found) {
             continue;
         }

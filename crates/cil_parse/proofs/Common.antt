@@ -1,11 +1,11 @@
 -- The names from elsewhere that this crate's proofs cite most, passed on from one place.
 pub use Rattle.cil_parse.specs.Builder.{Adds, AddsExpr, AddsForm, AddsNamesInFront, AddsPermissions, Closes, IsAt, Places, Puts, read, row_for, row_of, top}
-pub use Rattle.cil_parse.specs.Citations.{AreCited, IsCited, citation_lists, cited, with_citation}
+pub use Rattle.cil_parse.specs.Citations.{AreCited, Finds, IsCited, IsFound, citation_lists, cited, with_citation}
 pub use Rattle.cil_parse.specs.Flat.{FlatStatement, block_inside, count, flat, optional_inside}
 pub use Rattle.cil_parse.specs.Forms.{expr_nodes, is_plain, kind_of, name_nodes, names_then, nodes_in, nodes_with, permission_nodes, permissions_in, words_in, words_with}
 pub use Rattle.cil_parse.specs.Lexicon.{AddsNames, AreNumbersOf, AreSplit, IsLexicon, Keeps, SplitsText, names_in, seen, texts_in}
-pub use Rattle.cil_parse.specs.Lists.{of_rows}
 pub use Rattle.cil_parse.specs.PermissionLists.{permission_texts, permission_words}
+pub use Rattle.cil_parse.specs.Rows.{of_rows}
 pub use Rattle.cil_parse.specs.View.{IsShown}
 pub use Rattle.cil_parse.specs.declared.builder.Builder.{Builder}
 pub use Rattle.cil_parse.specs.declared.lexicon.Lexicon.{Lexicon}

@@ -50,7 +50,7 @@ module _ {A : Type 0} (p : ParsedModule A) where
   pub numbers-long : length p.permission_lists.numbers.items ≡ statement_count p
   numbers-long =
       same-length (slice_get p.permission_lists.lists.0) Some p.permission_lists.numbers.items (permission_texts p.rows.items p.words.0) p.listed
-      ∙ made-length (λ kind words. map (λ w. w.text) (permission_words kind words)) p.rows.items p.words.0 p.each_words
+      ∙ made-length (λ row words. map (λ w. w.text) (permission_words row.kind words)) p.rows.items p.words.0 p.each_words
 
   -- and its list is that of the number
   list-there : (i n d : ℕ) → i < statement_count p → n ≡ get_or p.permission_lists.numbers.items i d
@@ -59,7 +59,7 @@ module _ {A : Type 0} (p : ParsedModule A) where
       let long = numbers-long in
       let there : i < length p.permission_lists.numbers.items = omega (arith, long, within) in
       ap (slice_get p.permission_lists.lists.0) is
-      ∙ same-at (slice_get p.permission_lists.lists.0) Some p.permission_lists.numbers.items (permission_texts p.rows.items p.words.0) i d _ p.listed there (made-at (λ kind words. map (λ w. w.text) (permission_words kind words)) p.rows.items p.words.0 i no_row p.each_words within)
+      ∙ same-at (slice_get p.permission_lists.lists.0) Some p.permission_lists.numbers.items (permission_texts p.rows.items p.words.0) i d _ p.listed there (made-at (λ row words. map (λ w. w.text) (permission_words row.kind words)) p.rows.items p.words.0 i no_row p.each_words within)
 
   pub list-within : (i n d : ℕ) → i < statement_count p → n ≡ get_or p.permission_lists.numbers.items i d → n < length (permission_lists_of p)
   list-within i n d within is =

@@ -1,5 +1,6 @@
 pub mod Common
 pub mod Lists
+pub mod Rows
 pub mod Lexicon
 pub mod Forms
 pub mod Flat

@@ -7,6 +7,7 @@ use Rattle.cil_parse.specs.Forms.{words_in, nodes_in}
 use Rattle.cil_parse.specs.Flat.{FlatStatement, flat}
 use Rattle.cil_parse.specs.Builder.{read, row_of, row_for, IsAt}
 use Rattle.cil_parse.specs.declared.builder.Builder.{Builder}
+use Rattle.cil_parse.specs.declared.citations.Citation.{Citation}
 use Rattle.cil_parse.specs.declared.parsed.ParsedModule.{ParsedModule}
 
 -- the distinct texts of its words, by their numbers
@@ -20,6 +21,14 @@ names_of p = p.names.0
 -- the distinct lists of permissions of its statements, by their numbers
 abbrev pub permission_lists_of : {A : Type 0} → ParsedModule A → List (List (List ℕ))
 permission_lists_of p = map (map (λ n. slice_index_or (texts_of p) n [])) p.permission_lists.lists.0
+
+-- what the references of its statements look up, each once, by their numbers
+abbrev pub citations_of : {A : Type 0} → ParsedModule A → List Citation
+citations_of p = p.citations.distinct.items
+
+-- the numbers of what the references of the statement of an index look up
+abbrev pub cited_by : {A : Type 0} → ParsedModule A → ℕ → List ℕ
+cited_by p i = slice_index_or p.citations.numbers.0 i []
 
 abbrev pub statement_count : {A : Type 0} → ParsedModule A → ℕ
 statement_count p = length p.rows.items

@@ -1,7 +1,7 @@
 -- The lists of permissions that a module's statements name.
 use Rattle.std.specs.Prelude.{ℕ, List, [], ◌∷◌, map, drop}
 use Rattle.cil_parse.specs.Lexicon.{AreNumbersOf}
-use Rattle.cil_parse.specs.Lists.{of_rows}
+use Rattle.cil_parse.specs.Rows.{of_rows}
 use Rattle.cil_parse.specs.declared.permission_lists.PermissionLists.{PermissionLists}
 use Rattle.cil_parse.specs.declared.row.NumberedWord.{NumberedWord}
 use Rattle.cil_parse.specs.declared.row.Row.{Row}
@@ -19,7 +19,7 @@ permission_words _ words = []
 
 -- for each statement the numbers of the texts of its permissions
 abbrev pub permission_texts : List Row → List (List NumberedWord) → List (List ℕ)
-permission_texts = of_rows (λ kind words. map (λ w. w.text) (permission_words kind words))
+permission_texts = of_rows (λ row words. map (λ w. w.text) (permission_words row.kind words))
 
 -- each statement has the number of its list of permissions
 abbrev pub AreListed : {A : Type 0} → PermissionLists A → List Row → List (List NumberedWord) → Type 0

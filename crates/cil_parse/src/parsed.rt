@@ -1,20 +1,20 @@
 //! Modules that borrow nothing.
 
 ghost use Rattle.std.specs.Prelude.{◌≡◌, ◌<◌, [], List, length, slice_get, slice_index_or, Some, IfOk, IfErr};
-ghost use Rattle.cil_specs.specs.Lookup.{references, texts};
+ghost use Rattle.cil_specs.specs.Lookup.{texts};
 ghost use Rattle.cil_specs.specs.Names.{components as components_of};
 ghost use Rattle.cil_specs.specs.Shape.{IsFirstShapeFault};
 ghost use Rattle.cil_specs.specs.Statements.{Statements};
 ghost use Rattle.cil_text.specs.Image.{FaultIs};
 ghost use Rattle.cil_reader.specs.Forest.{forest_of};
-ghost use Rattle.cil_parse.specs.Citations.{AreCited, citation_lists};
+ghost use Rattle.cil_parse.specs.Citations.{AreCitedBy};
 ghost use Rattle.cil_parse.specs.Lexicon.{texts_in, names_in, AreNumbersOf, AreSplit};
 ghost use Rattle.cil_parse.specs.Flat.{FlatStatement, flat, count};
 ghost use Rattle.cil_parse.specs.Forms.{kind_of, permissions_in};
 ghost use Rattle.cil_parse.specs.PermissionLists.{AreListed};
 
 use crate::builder::Builder;
-use crate::citations::{Citation, citations};
+use crate::citations::{Citation, Citations};
 use crate::copied::copied_names;
 use crate::lists::Lists;
 use crate::permission_lists::PermissionLists;
@@ -37,12 +37,12 @@ pub struct ParsedModule<A: Allocator = Global> {
     nodes: Lists<SetNode, A>,
     rows: Vec<Row, A>,
     permission_lists: PermissionLists<A>,
-    citations: Lists<Citation, A>,
+    citations: Citations<A>,
     ghost split: { AreSplit names.0 components.0 texts.0 },
     ghost each_words: { length words.0 ≡ length rows.items },
     ghost each_nodes: { length nodes.0 ≡ length rows.items },
     ghost listed: { AreListed permission_lists rows.items words.0 },
-    ghost cited: { citations.0 ≡ citation_lists rows.items words.0 },
+    ghost cited: { AreCitedBy citations rows.items words.0 },
 }
 
 impl<A: Allocator + Copy> ParsedModule<A> {
@@ -74,7 +74,7 @@ impl<A: Allocator + Copy> ParsedModule<A> {
         requires texts { copies.texts.0 ≡ texts_in builder.lexicon }
         requires names { copies.names.0 ≡ names_in builder.lexicon }
         requires listed { AreListed copies.permission_lists builder.rows.items builder.words.0 }
-        requires cited { copies.citations.0 ≡ citation_lists builder.rows.items builder.words.0 }
+        requires cited { AreCitedBy copies.citations builder.rows.items builder.words.0 }
         ensures { IsOwned builder.entry result }
     {
         let Builder {
@@ -108,7 +108,7 @@ struct Copies<A: Allocator = Global> {
     texts: Lists<u8, A>,
     names: Lists<u8, A>,
     permission_lists: PermissionLists<A>,
-    citations: Lists<Citation, A>,
+    citations: Citations<A>,
 }
 
 impl<A: Allocator + Copy> Copies<A> {
@@ -118,20 +118,19 @@ impl<A: Allocator + Copy> Copies<A> {
         ensures texts { IfOk result (λ copies. copies.texts.0 ≡ texts_in builder.now.lexicon) }
         ensures names { IfOk result (λ copies. copies.names.0 ≡ names_in builder.now.lexicon) }
         ensures listed { IfOk result (λ copies. AreListed copies.permission_lists builder.now.rows.items builder.now.words.0) }
-        ensures cited { IfOk result (λ copies. copies.citations.0
-            ≡ citation_lists builder.now.rows.items builder.now.words.0) }
+        ensures cited { IfOk result (λ copies. AreCitedBy copies.citations builder.now.rows.items builder.now.words.0) }
     {
         Ok(Copies {
             texts: copied_names(alloc, builder.lexicon.texts.as_slice())?,
             names: copied_names(alloc, builder.lexicon.names.as_slice())?,
             permission_lists: PermissionLists::of(alloc, seed, &builder.rows, &builder.words)?,
-            citations: citations(alloc, &builder.rows, &builder.words)?,
+            citations: Citations::of(alloc, seed, &builder.rows, &builder.words)?,
         })
     }
 }
 
 impl<A: Allocator> ParsedModule<A> {
-    ghost use Rattle.cil_parse.specs.Parsed.{texts_of, names_of, permission_lists_of, statement_count, Spells};
+    ghost use Rattle.cil_parse.specs.Parsed.{texts_of, names_of, permission_lists_of, citations_of, cited_by, statement_count, Spells};
     ghost use Rattle.cil_parse.specs.View.{IsShown};
 
     /// How many statements there are, those inside others too.
@@ -166,14 +165,19 @@ impl<A: Allocator> ParsedModule<A> {
         self.rows[i].kind
     }
 
-    /// What the references of the statement of an index look up, in the order of the text.
-    pub fn citations(&self, i: usize) -> &[Citation]
-        requires { i < statement_count self.now }
-        ensures { (statements : Statements) (f : FlatStatement) → Spells self.now statements
-            → slice_get (flat 0 0 0 statements) i ≡ Some f
-            → AreCited (texts_of self.now) (references f.form) result.now }
+    /// What the references of its statements look up, each once, by their numbers.
+    pub fn citations(&self) -> &[Citation]
+        ensures { result.now ≡ citations_of self.now }
     {
-        self.citations.get(i)
+        &self.citations.distinct
+    }
+
+    /// The numbers of what the references of the statement of an index look up, in the order of the text.
+    pub fn cited(&self, i: usize) -> &[u32]
+        requires { i < statement_count self.now }
+        ensures numbers { result.now ≡ cited_by self.now i }
+    {
+        self.citations.numbers.get(i)
     }
 
     /// The number of the permissions that the statement of an index names. Those of another statement have the same number only if they

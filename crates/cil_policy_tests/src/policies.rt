@@ -8,7 +8,7 @@ ghost use Rattle.cil_bind.specs.Policy.{IsBoundTo};
 ghost use Rattle.cil_resolve.specs.Modules.{AreParsedFrom};
 
 use crate::shown::shown;
-use cil_bind::{Joining, Lead, Policy};
+use cil_bind::{Joining, Policy, References};
 use cil_names::Seed;
 use cil_parse::{ParsedModule, parse};
 use cil_resolve::{Joined, NamedModule, PolicyFault, Resolved, join, resolve};
@@ -116,23 +116,43 @@ const BOUND: [Kept; 2] = [
     ),
 ];
 
-// Whether references lead to these places.
-fn lead_to(bound: &[Lead], want: &[Option<u32>]) -> bool {
-    bound.len() == want.len()
-        && bound
-            .iter()
-            .zip(want)
-            .all(|(lead, place)| lead.place() == *place)
+// Where the references of the statement of a place lead, if there is one.
+fn references<'p>(
+    policy: &'p Policy<'_>,
+    joined: &'p Joined<'_>,
+    place: usize,
+) -> Option<References<'p>> {
+    let row = policy.rows.get(place)?;
+    let number = row.module as usize;
+    let index = row.index as usize;
+    let module = joined.modules.get(number)?.module;
+    if index >= module.len() || number >= policy.leads.len() {
+        return None;
+    }
+    Some(References::of(module.cited(index), policy.leads.get(number)))
 }
 
-// Whether so many statements are bound, and some of them to these.
-fn is_bound(policy: &Policy<'_>, len: usize, rows: &[Bound]) -> bool {
-    for (place, want) in rows {
-        if *place >= policy.bound.len() || !lead_to(policy.bound.get(*place), want) {
+// Whether references lead to these places.
+fn lead_to(bound: &References<'_>, want: &[Option<u32>]) -> bool {
+    for (k, place) in want.iter().enumerate() {
+        if bound.place(k) != *place {
             return false;
         }
     }
-    policy.bound.len() == len
+    bound.len() == want.len()
+}
+
+// Whether so many statements are bound, and some of them to these.
+fn is_bound(policy: &Policy<'_>, joined: &Joined<'_>, len: usize, rows: &[Bound]) -> bool {
+    for (place, want) in rows {
+        let Some(bound) = references(policy, joined, *place) else {
+            return false;
+        };
+        if !lead_to(&bound, want) {
+            return false;
+        }
+    }
+    policy.rows.len() == len
 }
 
 // Whether the policy without the optionals that a row leaves out is bound as the row says.
@@ -144,7 +164,7 @@ fn is_kept(rt: &impl Abort, alloc: Global, joined: &Joined<'_>, row: &Kept) -> b
         panic!(rt; "a name is declared again")
     };
     let kept = policy.restrict(alloc, joined, marks).expect(rt, "memory");
-    is_bound(&kept, len, rows)
+    is_bound(&kept, joined, len, rows)
 }
 
 // Whether all is bound, and the rest without an optional.

@@ -21,6 +21,7 @@ use Rattle.cil_resolve.proofs.NumberLemmas.{number-is, numbers-are, numbers-belo
 use Rattle.cil_resolve.proofs.PermitLemmas.{named-of-class, plain-gives, written-gives}
 use Rattle.cil_resolve.proofs.RuleLemmas.{rule-listed}
 use Rattle.cil_resolve.proofs.StatementLemmas.{contained}
+use Rattle.cil_bind.specs.Policy.{bound_of}
 
 -- the text of a word
 abbrev pub text : Word → List ℕ
@@ -92,7 +93,7 @@ module _ {A : Type 0} (l : Lowering A) (seen : Seen A) (policy : List Placed) (s
   refers : Contains (references s.form) (classes, the_class)
   refers = contained (references s.form) k (classes, the_class) names_them.refers
 
-  lead : IsLead classes policy (get_or seen.bound.now k None) (leads policy classes s.namespace the_class.text)
+  lead : IsLead classes policy (get_or seen.bound k None) (leads policy classes s.namespace the_class.text)
   lead = seen-lead seen policy s k classes the_class is.seen_is names_them.refers
 
   leads_on : is_some (leads policy classes s.namespace the_class.text) ≡ true
@@ -102,17 +103,17 @@ module _ {A : Type 0} (l : Lowering A) (seen : Seen A) (policy : List Placed) (s
   pub permissions-listed : list_all (has_name (listed_names policy)) (texts (permissions_in s.form)) ≡ true
   permissions-listed =
       subst (λ words. list_all (has_name (listed_names policy)) (texts words) ≡ true) (sym names_them.words)
-      (rule-listed policy l.checker.now.bound.policy.now.bound.0 is.lowering.noted.is.bound.bound is.lowering.faultless s is.there the_class (leaves permissions) names_them.named
-      (get_or seen.bound.now k None) lead leads_on)
+      (rule-listed policy (bound_of l.checker.now.bound.policy.now l.checker.now.bound.joined.now.modules.items) is.lowering.noted.is.bound.bound is.lowering.faultless s is.there the_class (leaves permissions) names_them.named
+      (get_or seen.bound k None) lead leads_on)
 
   -- Its class stands where the reference leads.
-  pub class-at : IsClassAt policy s the_class (unwrap_or (get_or seen.bound.now k None) 0)
+  pub class-at : IsClassAt policy s the_class (unwrap_or (get_or seen.bound k None) 0)
   class-at =
-      let a = found-at classes policy (get_or seen.bound.now k None) (leads policy classes s.namespace the_class.text) lead leads_on in
+      let a = found-at classes policy (get_or seen.bound k None) (leads policy classes s.namespace the_class.text) lead leads_on in
       record {
         t = a.t;
         at = a.at;
-        is = sym (class-declared a.t.form) ∙ first-declares classes policy (unwrap_or (get_or seen.bound.now k None) 0) a.t a.at a.first;
+        is = sym (class-declared a.t.form) ∙ first-declares classes policy (unwrap_or (get_or seen.bound k None) 0) a.t a.at a.first;
         named = ap (name_or_none classes) a.lead_is;
       }
 

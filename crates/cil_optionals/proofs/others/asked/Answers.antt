@@ -17,7 +17,7 @@ references-requires g c =
     let r = c.requires.ready in
     let parsed = c.args.joined.now.modules.items in
     let (s, at) = statement-at c.args.policy.now parsed r.0 c.args.i r.1 c.requires.within in
-    record { ready = (parsed, r.0, s, r.1, at, c.module_of-module.ensures r.0 s r.1 at) }
+    record { ready = (r.0, s, r.1, at, c.module_of-module.ensures r.0 s r.1 at) }
 
 pub are_there-requires : goal.are_there-requires
 are_there-requires g c =
@@ -29,18 +29,16 @@ are_there-requires g c =
 pub returns-in_ok-add_need-clause-asks : goal.returns-in_ok-add_need-clause-asks
 returns-in_ok-add_need-clause-asks g c = λ all s ready permissions at.
     let p = c.args.policy.now in
-    let parsed = c.args.joined.now.modules.items in
     let of = c.module_of-module.ensures all s ready at in
     let number = (row-one p c.module_of-module.result.now c.args.i s c.index.result.now of c.index.ensures).1 in
     asks-lacking all (optional_at p c.args.i) s c.args.needs.now.items c.references.new.needs.items c.add_need.new.needs.items ready.apart
     (sym (c.in_ok-are_there.ensures.there all s (subst (λ j. IsReady c.args.policy.now j.modules.items all) (sym c.requires.same) ready) permissions at) ∙ c.if-not-branch.true)
     (subst (λ o. AddsNeed c.references.new.needs.items c.add_need.new.needs.items o None) (sym number) c.in_ok-add_need.ensures)
-    (c.in_ok-references.ensures parsed all s ready at of)
+    (c.in_ok-references.ensures all s ready at of)
 
 pub returns-else-not-branch-clause-asks : goal.returns-else-not-branch-clause-asks
 returns-else-not-branch-clause-asks g c = λ all s ready permissions at.
-    let parsed = c.args.joined.now.modules.items in
     let of = c.module_of-module.ensures all s ready at in
     asks-there all (optional_at c.args.policy.now c.args.i) s c.args.needs.now.items c.references.new.needs.items ready.apart
     (sym (c.in_ok-are_there.ensures.there all s (subst (λ j. IsReady c.args.policy.now j.modules.items all) (sym c.requires.same) ready) permissions at) ∙ c.if-not-branch.false)
-    (c.in_ok-references.ensures parsed all s ready at of)
+    (c.in_ok-references.ensures all s ready at of)

@@ -12,4 +12,4 @@ loop-i-preserved g c =
     c.in_ok-close.ensures.ok
     ∙ ap (λ s. (s.0 ++ s.1 ∷ [], [])) (c.in_ok-push_texts.ensures ∙ ap (λ s. (s.0, s.1 ++ map (λ w. w.text) c.permission_words.result.now)) c.loop-i.invariant)
     ∙ ap (λ l. (so_far ++ map (λ w. w.text) l ∷ [], [])) (c.permission_words.ensures ∙ ap (permission_words _) c.get.ensures)
-    ∙ ap (λ l. (l, [])) (sym (made-next (λ kind words. map (λ w. w.text) (permission_words kind words)) rows words i _ c.requires c.loop-i-test.true))
+    ∙ ap (λ l. (l, [])) (sym (made-next (λ row words. map (λ w. w.text) (permission_words row.kind words)) rows words i _ c.requires c.loop-i-test.true))

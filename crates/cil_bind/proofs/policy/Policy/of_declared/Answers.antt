@@ -38,7 +38,7 @@ returns-clause-made g c = λ policy stands from.
     let scope = c.args.scope in
     let that = subst (DeclareThat scope.names scope.namespaces policy) c.in-Once.is
     (c.requires.declared policy stands) in
-    c.in_ok-policy.ensures.made policy stands from c.requires.worded that.0 that.1
+    c.in_ok-policy.ensures.made policy stands from that.0 that.1
 
 pub returns-clause-around : goal.returns-clause-around
 returns-clause-around g c = λ policy around. subst (λ rows. AreAround policy 0 rows policy) (sym c.in_ok-policy.ensures.rows) around

@@ -8,8 +8,17 @@ of_statements-requires-clause-stands g c =
     let spelt = c.requires.spelt in
     (joined spelt.0, c.in_ok-scope.ensures.stands spelt.0 spelt.1, c.in_ok-scope.ensures.from spelt.0 spelt.1)
 
-pub of_statements-requires-clause-worded : goal.of_statements-requires-clause-worded
-of_statements-requires-clause-worded g c = worded-grows _ _ _ _ c.requires.worded c.in_ok-scope.ensures.kept
+pub spaces-requires : goal.spaces-requires
+spaces-requires g c =
+    let spelt = c.requires.spelt in
+    (spelt.0, spelt.1, c.in_ok-scope.ensures.stands spelt.0 spelt.1)
+
+pub of_statements-requires-clause-numbered : goal.of_statements-requires-clause-numbered
+of_statements-requires-clause-numbered g c = record {
+  worded = worded-grows _ _ _ _ c.requires.worded c.in_ok-scope.ensures.kept;
+  spaced = c.in_ok-spaces.ensures.spaced;
+  long = c.in_ok-spaces.ensures.long;
+}
 
 pub returns-clause-made : goal.returns-clause-made
 returns-clause-made g c =

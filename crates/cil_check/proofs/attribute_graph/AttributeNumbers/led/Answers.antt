@@ -7,7 +7,7 @@ use Rattle.cil_check.proofs.attribute_graph.AttributeNumbers.led.Goals as goal
 pub returns-in_err-place : goal.returns-in_err-place
 returns-in_err-place g c policy s word is have seen at =
     let view = c.args.seen.now in
-    c.from_residual.ensures ∙ sym (nowhere-number policy s.namespace word (get_or view.bound.now c.args.k None) (seen-lead view policy s c.args.k types word seen at) (sym c.in_err-place.ensures))
+    c.from_residual.ensures ∙ sym (nowhere-number policy s.namespace word (get_or view.bound c.args.k None) (seen-lead view policy s c.args.k types word seen at) (sym c.in_err-place.ensures))
 
 pub returns-then-is : goal.returns-then-is
 returns-then-is g c policy s word is have seen at =

@@ -1,7 +1,7 @@
 use Rattle.cil_check.proofs.Common.{◌<◌, length, arith, rules, subst, sym, AreNumbersOf, names_of}
 use Rattle.cil_bind.proofs.WordLemmas.{worded-at, worded-long}
 use Rattle.cil_bind.proofs.FromLemmas.{is-there, from-within}
-use Rattle.cil_check.proofs.SeenLemmas.{is-long, bound-long, row-there, seen-there}
+use Rattle.cil_check.proofs.SeenLemmas.{is-long, row-there, seen-there}
 use Rattle.cil_check.proofs.bound.BoundPolicy.seen.Goals as goal
 
 pub index-row-requires : goal.index-row-requires
@@ -22,11 +22,8 @@ statement-requires g c =
     let from = row-there c.args.self.now c.requires.is.0 c.args.i c.index-row.result.now c.requires.is.1 c.requires.is.2 c.index-row.ensures in
     (is-there c.args.self.now.joined.now.modules.items c.index-row.result.now c.index-named.result.now from.0 from.2 c.index-named.ensures).index
 
-pub get-requires : goal.get-requires
-get-requires g c =
-    let long = bound-long c.args.self.now c.requires.is.0 c.requires.is.1 in
-    let less = c.requires.is.2 in
-    omega (arith, long, less)
+pub references-requires : goal.references-requires
+references-requires g c = c.requires.is
 
 pub index-requires : goal.index-requires
 index-requires g c =
@@ -38,7 +35,7 @@ index-requires g c =
 
 pub returns-clause-seen : goal.returns-clause-seen
 returns-clause-seen g c policy s is at =
-    seen-there c.args.self.now policy c.args.i c.index-row.result.now c.index-named.result.now c.statement.result c.get.result c.as_slice.result s is at c.index-row.ensures c.index-named.ensures c.statement.ensures c.get.ensures
+    seen-there c.args.self.now policy c.args.i c.index-row.result.now c.index-named.result.now c.statement.result c.references.result c.as_slice.result s is at c.index-row.ensures c.index-named.ensures c.statement.ensures (c.references.ensures policy s is at)
 
 pub returns-clause-worded : goal.returns-clause-worded
 returns-clause-worded g c policy is =

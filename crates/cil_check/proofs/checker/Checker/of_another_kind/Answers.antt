@@ -7,7 +7,7 @@ pub returns-in_err-found : goal.returns-in_err-found
 returns-in_err-found g c policy s word is seen at here =
     let view = c.args.seen.now in
     reads-none view (is_of_another_kind policy s.namespace (test_of c.args.kind, word)) word c.from_residual.result c.from_residual.ensures
-    (nowhere-kind policy s.namespace c.args.kind word (get_or view.bound.now c.args.k None) (seen-lead view policy s c.args.k types word seen at) (sym c.in_err-found.ensures))
+    (nowhere-kind policy s.namespace c.args.kind word (get_or view.bound c.args.k None) (seen-lead view policy s c.args.k types word seen at) (sym c.in_err-found.ensures))
 
 pub returns-then-is : goal.returns-then-is
 returns-then-is g c policy s word is seen at here =

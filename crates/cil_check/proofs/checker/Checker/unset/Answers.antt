@@ -8,7 +8,7 @@ pub returns-in_err-found : goal.returns-in_err-found
 returns-in_err-found g c policy s word noted seen at here =
     let view = c.args.seen.now in
     reads-none view (is_unset policy s.namespace word) word c.from_residual.result c.from_residual.ensures
-    (nowhere-unset policy s.namespace word (get_or view.bound.now c.args.k None) (seen-lead view policy s c.args.k types word seen at) (sym c.in_err-found.ensures))
+    (nowhere-unset policy s.namespace word (get_or view.bound c.args.k None) (seen-lead view policy s c.args.k types word seen at) (sym c.in_err-found.ensures))
 
 pub returns-then-not-is : goal.returns-then-not-is
 returns-then-not-is g c policy s word noted seen at here =
