@@ -29,6 +29,7 @@ pub use Rattle.cil_resolve.specs.Dropped.{HaveMarks, dropped_if}
 pub use Rattle.cil_resolve.specs.FullNames.{full_name_of, full_name_or, is_numbered, is_numbered_kind, name_in, numbered_id, space_text}
 pub use Rattle.cil_resolve.specs.KnownPermissions.{HaveNumbers, KnowNumbers, known_at, list_at}
 pub use Rattle.cil_resolve.specs.Lowering.{AreElements, ArePartsOf, ArePermissionSets, ArePermissions, AreRules, AreSets, GivePermissions, GivesSet, HaveElements, IsClass, IsDeclared, IsElement, IsExpression, IsIn, IsLowering, IsPermissionSet, IsRule, IsRuleOfClass, IsRuleOfSet, IsRuleStart, IsSpeltBy, KnowSets, NamesPermissions, WritesPermissions, attribute_if, class_if, common_in, common_of, is_set, modules_of, permission_set_if, rule_if, rule_with, set_if, type_if}
+pub use Rattle.cil_resolve.specs.Naming.{AreNaming, is_naming, naming}
 pub use Rattle.cil_resolve.specs.Numbering.{AreNamesOf, AreNumbersIn, HavePermissionsOf, HavePlaces, listed_names, names_of, names_with, number_in}
 pub use Rattle.cil_resolve.specs.GivenSets.{AreGathered, ArePutInOrder, AreSetNumbers, GivesSets, given_to, set_gives}
 pub use Rattle.cil_resolve.specs.Numbers.{GivesNumbered, class_of, declared_of, dropped_with, element_of, given_in, given_with, has_named, keeps_no_list, permission_set_of, resolved_permissions_of, resolved_target_of, set_of, written_in}

@@ -2,6 +2,7 @@ pub mod Common
 pub mod FullNamesLemmas
 pub mod StatementLemmas
 pub mod ListLemmas
+pub mod NamingLemmas
 pub mod NumberLemmas
 pub mod FaultlessLemmas
 pub mod ElementLemmas

@@ -86,15 +86,15 @@ with-behind old more x = by (has_name more x) refl
     by false e = ap (λ b. fold with_name old (if b then more else more ++ x ∷ [])) e ∙ fold-append with_name old more (x ∷ [])
 
 -- The numbers at some places stand for names: the one at a place.
-pub name-there : (words : List (List ℕ)) (numbers : List ℕ) (names : List (List ℕ)) (i : ℕ) → map (slice_get words) numbers ≡ map Some names → i < length numbers
-    → (x : List ℕ) × (slice_get names i ≡ Some x) × (slice_get words (get_or numbers i 0) ≡ Some x)
+pub name-there : {X : Type 0} (words : List X) (numbers : List ℕ) (names : List X) (i : ℕ) → map (slice_get words) numbers ≡ map Some names → i < length numbers
+    → (x : X) × (slice_get names i ≡ Some x) × (slice_get words (get_or numbers i 0) ≡ Some x)
 name-there words [] names i same within = absurd (omega (arith, within))
 name-there words (n ∷ numbers) [] i same within = cc
 name-there words (n ∷ numbers) (x ∷ names) zero same within =
     let head : slice_get words n ≡ Some x = cc in
     (x, refl, head)
-name-there words (n ∷ numbers) (x ∷ names) (suc i) same within =
-    let rest : map (slice_get words) numbers ≡ map {B = Option (List ℕ)} Some names = cc in
+name-there {X = X} words (n ∷ numbers) (x ∷ names) (suc i) same within =
+    let rest : map (slice_get words) numbers ≡ map {B = Option X} Some names = cc in
     name-there words numbers names i rest (omega (arith, within))
 
 -- a name at a place is among them

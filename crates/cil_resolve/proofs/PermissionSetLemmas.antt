@@ -42,7 +42,7 @@ sets-grow modules names policy old new x statements s so_far pushed one = record
   ];
 }
 
-no-set : (policy : List Placed) (s : Placed) (form : Form) → is_set_statement (kind_of form) ≡ false → spec.permission_set_of policy s form ≡ []
+pub no-set : (policy : List Placed) (s : Placed) (form : Form) → is_set_statement (kind_of form) ≡ false → spec.permission_set_of policy s form ≡ []
 no-set policy s (class_permission_set set the_class permissions) e = absurd (true≢false e)
 no-set policy s _ e = refl
 

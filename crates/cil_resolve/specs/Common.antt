@@ -17,6 +17,7 @@ pub use Rattle.cil_resolve.specs.KnownPermissions.{KnowNumbers, known_at, list_a
 pub use Rattle.cil_resolve.specs.Lowering.{AreElements, ArePartsOf, ArePermissionSets, ArePermissions, AreRules, AreSets, HaveElements, IsClass, IsDeclared, IsElement, IsExpression, IsIn, IsLowering, IsPermissionSet, IsRule, IsRuleOfClass, IsRuleOfSet, IsRuleStart, IsSet, IsSpeltBy, KnowSets, NamesPermissions, WritesPermissions, common_of, is_set, modules_of, permission_set_if, rule_if, rule_with, set_if}
 pub use Rattle.cil_resolve.specs.Meter.{adjustments_in, evaluations_in}
 pub use Rattle.cil_resolve.specs.Modules.{AreParsedFrom}
+pub use Rattle.cil_resolve.specs.Naming.{AreNaming, is_naming, naming}
 pub use Rattle.cil_resolve.specs.Numbering.{AreNumbersIn, HavePlaces, listed_names, number_in}
 pub use Rattle.cil_resolve.specs.Numbers.{GivesNumbered, dropped_with, element_of, keeps_no_list, resolved_target_of, set_of}
 pub use Rattle.cil_resolve.specs.Resolved.{meaning_in}

@@ -7,6 +7,7 @@ pub mod Meter
 pub mod Views
 pub mod Modules
 pub mod FullNames
+pub mod Naming
 pub mod Numbering
 pub mod SetPermissions
 pub mod GivenSets

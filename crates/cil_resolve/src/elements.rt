@@ -1,7 +1,7 @@
 //! What names of rules stand for.
 
 ghost use Rattle.std.specs.Prelude.{◌≡◌, ◌<◌, ℕ, List, Some, slice_get, slice_index_or, length, is_some, IfOk, IsTrue};
-ghost use Rattle.cil_resolve.specs.Common.{Word, Placed, IsLead, IsFirstOf, IsOf, IsNoted, IsFaultless, IsElement, HaveElements, is_set, HavePlaces};
+ghost use Rattle.cil_resolve.specs.Common.{Word, Placed, IsLead, IsFirstOf, IsOf, IsNoted, IsFaultless, IsElement, HaveElements, is_set, AreNaming, HavePlaces};
 ghost use Rattle.cil_specs.specs.Lookup.{Table, types, leads, references, actual_statement, actual_of as actual_led};
 ghost use Rattle.cil_specs.specs.Rule.{element_at as element_led};
 ghost use Rattle.cil_expression.specs.declared.expression.Element.TheVariants.{«Type»};
@@ -9,7 +9,6 @@ ghost use Rattle.cil_expression.specs.declared.expression.Element.TheVariants.{�
 use crate::words::number_at;
 use cil_check::{BoundPolicy, Checker};
 use cil_expression::Element;
-use cil_names::counted_in_32_bits;
 use cil_parse::StatementKind;
 use std::alloc::{AllocError, Allocator};
 
@@ -61,21 +60,21 @@ fn element_at<A: Allocator>(checker: &Checker<'_, '_, A>, places: &[u32], i: u32
     }
 }
 
-/// For each statement what a name that leads there stands for. A policy of more than 4294967295 statements is answered as out of memory.
+/// For each statement what a name that leads there stands for, where some are declared at these places.
 pub fn elements<A: Allocator + Copy>(
     alloc: A,
     checker: &Checker<'_, '_, A>,
+    naming: &[u32],
     places: &[u32],
 ) -> Result<Vec<Element, A>, AllocError>
-    requires { (policy : List Placed) × IsNoted checker.now policy }
-    ensures { IfOk result (λ elements. (names : List (List ℕ)) (policy : List Placed) → IsNoted checker.now policy → IsFaultless policy → HavePlaces names policy places.now
-        → HaveElements names policy elements.items) }
+    requires { (policy : List Placed) × IsNoted checker.now policy × AreNaming policy naming.now }
+    ensures { IfOk result (λ elements. (names : List (List ℕ)) (policy : List Placed) → IsNoted checker.now policy → IsFaultless policy → AreNaming policy naming.now
+        → HavePlaces names policy places.now → HaveElements names policy elements.items) }
 {
-    let count = checker.bound.len();
-    counted_in_32_bits(count)?;
-    let mut elements = Vec::with_capacity(alloc, count)?;
-    for i in 0..count {
-        elements.push(element_at(checker, places, i as u32))?;
+    let mut elements = vec![in alloc; Element::Type(0); checker.bound.len()]?;
+    for k in 0..naming.len() {
+        let place = naming[k];
+        elements[place as usize] = element_at(checker, places, place);
     }
     Ok(elements)
 }

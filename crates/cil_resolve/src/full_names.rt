@@ -1,7 +1,7 @@
 //! The full names of what a policy declares.
 
 ghost use Rattle.std.specs.Prelude.{◌≡◌, ◌<◌, ◌++◌, ◌∷◌, ℕ, List, [], map, take, length, slice_get, slice_index_or, Some, IfOk, OnOk};
-ghost use Rattle.cil_resolve.specs.Common.{Word, Placed, named, namespace_at, IsOf, IsSeen, Reads, space_text, numbered_id, is_numbered_kind, full_name_of};
+ghost use Rattle.cil_resolve.specs.Common.{Word, Placed, named, namespace_at, IsOf, IsSeen, Reads, space_text, numbered_id, is_numbered_kind, full_name_of, AreNaming, naming as naming_in};
 ghost use Rattle.cil_bind.specs.Rows.{AreNumbered};
 ghost use Rattle.cil_resolve.specs.FullNames.{name_in};
 
@@ -143,19 +143,20 @@ fn add_statement<A: Allocator + Copy>(
     Ok(())
 }
 
-/// For each statement of a policy the full name of the type, the attribute, the class or the permission set that it declares, and
-/// nothing where it declares none.
+/// For each of the naming statements of a policy, which stand at these places, the full name of the type, the attribute, the class or the
+/// permission set that it declares, and nothing where it declares none.
 pub fn full_names<A: Allocator + Copy>(
     alloc: A,
     bound: &BoundPolicy<'_, '_, A>,
+    naming: &[u32],
 ) -> Result<Lists<u8, A>, AllocError>
-    requires { (policy : List Placed) × IsOf bound.now policy }
-    ensures { IfOk result (λ names. (policy : List Placed) → IsOf bound.now policy → names.0 ≡ map full_name_of policy) }
+    requires { (policy : List Placed) × IsOf bound.now policy × AreNaming policy naming.now }
+    ensures { IfOk result (λ names. (policy : List Placed) → IsOf bound.now policy → AreNaming policy naming.now → names.0 ≡ map full_name_of (naming_in policy)) }
 {
     let spaces = space_names(alloc, bound.policy)?;
-    let mut names = Lists::with_capacity(alloc, bound.len(), 0)?;
-    for i in 0..bound.len() {
-        add_statement(&mut names, bound, &spaces, i)?;
+    let mut names = Lists::with_capacity(alloc, naming.len(), 0)?;
+    for k in 0..naming.len() {
+        add_statement(&mut names, bound, &spaces, naming[k] as usize)?;
     }
     Ok(names)
 }

@@ -15,6 +15,7 @@ mod lowered;
 mod lowering;
 mod meter;
 mod names;
+mod naming;
 mod numbered;
 mod numbering;
 mod one_name;

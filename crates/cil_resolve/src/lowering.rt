@@ -1,13 +1,14 @@
 //! A policy without faults by the numbers of its names.
 
 ghost use Rattle.std.specs.Prelude.{◌≡◌, ◌<◌, ◌++◌, ◌∷◌, List, [], Some, length, slice_get, slice_index_or, Contains, IsTrue, IfOk, OnOk};
-ghost use Rattle.cil_resolve.specs.Common.{Word, Placed, types, classes, permission_sets, leads, references, is_numbered, IsElement, IsLowering, IsIn, IsDeclared, IsClass, ArePartsOf, ArePermissionSets, modules_of, KnowNumbers, KnowSets, number_in};
+ghost use Rattle.cil_resolve.specs.Common.{Word, Placed, types, classes, permission_sets, leads, references, is_numbered, IsElement, IsLowering, IsIn, IsDeclared, IsClass, ArePartsOf, ArePermissionSets, modules_of, AreNaming, KnowNumbers, KnowSets, number_in};
 ghost use Rattle.cil_specs.specs.PolicyFault.{element_words};
 ghost use Rattle.cil_specs.specs.Rule.{element_of as element_led, class_name, is_class, name_or_none, permission_sets_of};
 
 use crate::elements::element_in;
 use crate::given_sets::GivenSets;
 use crate::known_permissions::KnownPermissions;
+use crate::naming::{Naming, Room};
 use crate::numbered::{
     NumberedClass, NumberedName, NumberedPermissionSet, NumberedRule, NumberedSet,
 };
@@ -28,14 +29,6 @@ pub struct Parts<A: Allocator = Global> {
     pub permission_sets: Vec<NumberedPermissionSet<A>, A>,
     pub sets: Vec<NumberedSet<A>, A>,
     pub rules: Vec<NumberedRule<A>, A>,
-}
-
-/// How many statements of permission sets, set statements and rules there are. A list of them that grew would be copied.
-#[derive(Drop)]
-struct Room {
-    permission_sets: usize,
-    sets: usize,
-    rules: usize,
 }
 
 /// What makes a policy's numbers: its statements, the numbers of its names, and for each statement what a name that leads there stands for.
@@ -145,32 +138,6 @@ impl<'l, 'p, 'm, A: Allocator + Copy> Lowering<'l, 'p, 'm, A> {
         Ok(())
     }
 
-    fn room(&self) -> Room {
-        let bound = &self.checker.bound;
-        let policy = bound.policy;
-        let mut room = Room {
-            permission_sets: 0,
-            sets: 0,
-            rules: 0,
-        };
-        for kind in policy.kinds.as_slice() {
-            match kind {
-                StatementKind::ClassPermissionSet => {
-                    room.permission_sets = room.permission_sets.saturating_add(1);
-                }
-                StatementKind::TypeAttributeSet => room.sets = room.sets.saturating_add(1),
-                StatementKind::Rule(_)
-                | StatementKind::RuleToSelf(_)
-                | StatementKind::RuleOfSet(_)
-                | StatementKind::RuleToSelfOfSet(_) => {
-                    room.rules = room.rules.saturating_add(1);
-                }
-                _ => {}
-            }
-        }
-        room
-    }
-
     /// No parts but what is said of permission sets, with room for the others.
     fn no_parts(
         &self,
@@ -194,18 +161,22 @@ impl<'l, 'p, 'm, A: Allocator + Copy> Lowering<'l, 'p, 'm, A> {
     /// The types, attributes, classes, statements of permission sets, set statements and rules of the policy, in the order of their
     /// statements. What permission sets give is worked out before the rules, which may stand in front of their statements. A policy of
     /// more than 4294967295 statements is answered as out of memory.
-    pub fn parts(&self) -> Result<Parts<A>, AllocError>
-        requires { (policy : List Placed) × IsLowering self.now policy }
-        ensures { IfOk result (λ parts. (policy : List Placed) → IsLowering self.now policy
+    pub fn parts(&self, naming: &Naming<A>) -> Result<Parts<A>, AllocError>
+        requires { (policy : List Placed) × IsLowering self.now policy × AreNaming policy naming.now.places.items }
+        ensures { IfOk result (λ parts. (policy : List Placed) → IsLowering self.now policy → AreNaming policy naming.now.places.items
             → ArePartsOf (modules_of self.now.checker.now.bound.joined.now) self.now.numbering.now.names.items policy policy parts) }
     {
         let count = self.checker.bound.len();
         counted_in_32_bits(count)?;
-        let room = self.room();
         let mut known = KnownPermissions::new(self.alloc);
-        let permission_sets = self.permission_sets(&mut known, room.permission_sets)?;
+        let room = &naming.room;
+        let permission_sets = self.permission_sets(
+            &mut known,
+            &naming.places,
+            room.permission_sets,
+        )?;
         let given = GivenSets::of(self.alloc, &permission_sets)?;
-        let mut parts = self.no_parts(&room, permission_sets)?;
+        let mut parts = self.no_parts(room, permission_sets)?;
         for i in 0..count {
             self.add(&mut known, &given, &mut parts, i as u32)?;
         }

@@ -12,8 +12,9 @@ ghost use Rattle.cil_parse.specs.Parsed.{texts_of, names_of as module_names};
 ghost use Rattle.cil_check.specs.Bound.{IsOf, IsSeen};
 ghost use Rattle.cil_bind.specs.Written.{IsOneName};
 ghost use Rattle.cil_check.specs.Permissions.{lists_own as is_listing};
-ghost use Rattle.cil_resolve.specs.FullNames.{full_name_of, is_numbered_kind};
-ghost use Rattle.cil_resolve.specs.Numbering.{names_with, AreNamesOf, HavePlaces, HavePermissions, HavePermissionsOf};
+ghost use Rattle.cil_resolve.specs.FullNames.{full_name_of, is_numbered_kind, is_numbered as is_numbered_form};
+ghost use Rattle.cil_resolve.specs.Naming.{AreNaming, naming as naming_in};
+ghost use Rattle.cil_resolve.specs.Numbering.{names_with, number_in, AreNamesOf, HavePlaces, HavePermissions, HavePermissionsOf};
 
 use crate::full_names::{full_names, is_numbered};
 use crate::names::{number_of, to_texts};
@@ -36,18 +37,18 @@ pub struct Numbering<A: Allocator = Global> {
 }
 
 impl<A: Allocator + Copy> Numbering<A> {
-    /// The names of a policy.
-    pub fn of(alloc: A, bound: &BoundPolicy<'_, '_, A>) -> Result<Self, AllocError>
-        requires { (policy : List Placed) × IsOf bound.now policy }
-        ensures places { IfOk result (λ n. (policy : List Placed) → IsOf bound.now policy → HavePlaces n.names.items policy n.places.items) }
-        ensures permissions { IfOk result (λ n. (policy : List Placed) → IsOf bound.now policy → HavePermissions bound.now.policy.now.names n.names.items policy n.permissions.items) }
+    /// The names of a policy, whose naming statements stand at these places.
+    pub fn of(alloc: A, bound: &BoundPolicy<'_, '_, A>, naming: &[u32]) -> Result<Self, AllocError>
+        requires { (policy : List Placed) × IsOf bound.now policy × AreNaming policy naming.now }
+        ensures places { IfOk result (λ n. (policy : List Placed) → IsOf bound.now policy → AreNaming policy naming.now → HavePlaces n.names.items policy n.places.items) }
+        ensures permissions { IfOk result (λ n. (policy : List Placed) → IsOf bound.now policy → AreNaming policy naming.now → HavePermissions bound.now.policy.now.names n.names.items policy n.permissions.items) }
     {
-        let full_names = full_names(alloc, bound)?;
-        let names = sorted_names(alloc, bound, &full_names)?;
+        let full_names = full_names(alloc, bound, naming)?;
+        let names = sorted_names(alloc, bound, naming, &full_names)?;
         Ok(Numbering {
             names: to_texts(alloc, &names)?,
-            places: place_numbers(alloc, bound, &full_names, &names)?,
-            permissions: permission_numbers(alloc, bound, &names)?,
+            places: place_numbers(alloc, bound, naming, &full_names, &names)?,
+            permissions: permission_numbers(alloc, bound, naming, &names)?,
         })
     }
 }
@@ -97,54 +98,71 @@ fn brings_names(kind: StatementKind) -> bool
 fn insert_names_at<'t, 'm: 't, A: Allocator + Copy>(
     names: &mut Names<'t, A>,
     bound: &BoundPolicy<'_, 'm, A>,
-    full_names: &'t Lists<u8, A>,
+    full_name: &'t [u8],
     i: usize,
 ) -> Result<(), AllocError>
-    requires is { (policy : List Placed) × IsOf bound.now policy × (i < length policy) × (full_names.now.0 ≡ map full_name_of policy) }
-    ensures { OnOk result ((policy : List Placed) (s : Placed) → IsOf bound.now policy → full_names.now.0 ≡ map full_name_of policy → slice_get policy i ≡ Some s → names.new ≡ fold with_name names.old (names_with s)) }
+    requires { (policy : List Placed) × IsOf bound.now policy × (i < length policy) }
+    ensures { OnOk result ((policy : List Placed) (s : Placed) → IsOf bound.now policy → slice_get policy i ≡ Some s → full_name.now ≡ full_name_of s → names.new ≡ fold with_name names.old (names_with s)) }
 {
     if !brings_names(bound.kind(i)) {
         return Ok(());
     }
     let seen = bound.seen(i);
-    insert_names(names, &seen, full_names.get(i))
+    insert_names(names, &seen, full_name)
 }
 
 /// The full names of types, attributes, classes and permission sets and the names of permissions, in the order of their bytes.
 fn sorted_names<'t, 'm: 't, A: Allocator + Copy>(
     alloc: A,
     bound: &BoundPolicy<'_, 'm, A>,
+    naming: &[u32],
     full_names: &'t Lists<u8, A>,
 ) -> Result<Names<'t, A>, AllocError>
-    requires is { (policy : List Placed) × IsOf bound.now policy × (full_names.now.0 ≡ map full_name_of policy) }
+    requires is { (policy : List Placed) × IsOf bound.now policy × AreNaming policy naming.now × (full_names.now.0 ≡ map full_name_of (naming_in policy)) }
     ensures ordered { IfOk result (λ names. IsTrue (names_rise names)) }
-    ensures names { IfOk result (λ names. (policy : List Placed) → IsOf bound.now policy → full_names.now.0 ≡ map full_name_of policy → AreNamesOf policy names) }
+    ensures names { IfOk result (λ names. (policy : List Placed) → IsOf bound.now policy → AreNaming policy naming.now → full_names.now.0 ≡ map full_name_of (naming_in policy) → AreNamesOf policy names) }
 {
     let mut names = Names::new(alloc, bound.joined.seed);
-    for i in 0..bound.len() {
-        insert_names_at(&mut names, bound, full_names, i)?;
+    for k in 0..naming.len() {
+        insert_names_at(&mut names, bound, full_names.get(k), naming[k] as usize)?;
     }
     names.sort()?;
     Ok(names)
+}
+
+/// The number of the full name of the statement of a place, if it declares a type, an attribute, a class or a permission set; else 0.
+fn place_number<A: Allocator>(
+    bound: &BoundPolicy<'_, '_, A>,
+    full_name: &[u8],
+    names: &Names<'_, A>,
+    i: usize,
+) -> Result<u32, AllocError>
+    requires { (policy : List Placed) × (s : Placed) × IsOf bound.now policy × (slice_get policy i ≡ Some s) × (full_name.now ≡ full_name_of s) × AreNamesOf policy names.now }
+    ensures { IfOk result (λ n. (policy : List Placed) (s : Placed) → IsOf bound.now policy → slice_get policy i ≡ Some s → full_name.now ≡ full_name_of s
+        → IsTrue (is_numbered_form s.form) → number_in names.now (full_name_of s) ≡ Some n) }
+{
+    if !is_numbered(bound.kind(i)) {
+        return Ok(0);
+    }
+    number_of(names, full_name)
 }
 
 /// For each statement that declares a type, an attribute, a class or a permission set, the number of its full name; 0 for others.
 fn place_numbers<A: Allocator + Copy>(
     alloc: A,
     bound: &BoundPolicy<'_, '_, A>,
+    naming: &[u32],
     full_names: &Lists<u8, A>,
     names: &Names<'_, A>,
 ) -> Result<Vec<u32, A>, AllocError>
-    requires is { (policy : List Placed) × IsOf bound.now policy × (full_names.now.0 ≡ map full_name_of policy) × AreNamesOf policy names.now }
-    ensures { IfOk result (λ places. (policy : List Placed) → IsOf bound.now policy → full_names.now.0 ≡ map full_name_of policy → HavePlaces names.now policy places.items) }
+    requires is { (policy : List Placed) × IsOf bound.now policy × AreNaming policy naming.now × (full_names.now.0 ≡ map full_name_of (naming_in policy)) × AreNamesOf policy names.now }
+    ensures { IfOk result (λ places. (policy : List Placed) → IsOf bound.now policy → AreNaming policy naming.now → full_names.now.0 ≡ map full_name_of (naming_in policy) → HavePlaces names.now policy places.items) }
 {
-    let mut places = Vec::with_capacity(alloc, bound.len())?;
-    for i in 0..bound.len() {
-        if is_numbered(bound.kind(i)) {
-            places.push(number_of(names, full_names.get(i))?)?;
-        } else {
-            places.push(0)?;
-        }
+    let mut places = vec![in alloc; 0; bound.len()]?;
+    for k in 0..naming.len() {
+        let place = naming[k] as usize;
+        let number = place_number(bound, full_names.get(k), names, place)?;
+        places[place] = number;
     }
     Ok(places)
 }
@@ -174,15 +192,17 @@ fn note_words<A: Allocator>(
 fn permission_numbers<A: Allocator + Copy>(
     alloc: A,
     bound: &BoundPolicy<'_, '_, A>,
+    naming: &[u32],
     names: &Names<'_, A>,
 ) -> Result<Vec<u32, A>, AllocError>
-    requires is { (policy : List Placed) × IsOf bound.now policy × AreNamesOf policy names.now }
-    ensures { IfOk result (λ permissions. (policy : List Placed) → IsOf bound.now policy → HavePermissions bound.now.policy.now.names names.now policy permissions.items) }
+    requires is { (policy : List Placed) × IsOf bound.now policy × AreNaming policy naming.now × AreNamesOf policy names.now }
+    ensures { IfOk result (λ permissions. (policy : List Placed) → IsOf bound.now policy → AreNaming policy naming.now → HavePermissions bound.now.policy.now.names names.now policy permissions.items) }
 {
     let mut permissions = vec![in alloc; 0; bound.policy.names.len()]?;
-    for i in 0..bound.len() {
-        if lists_own(bound.kind(i)) {
-            let seen = bound.seen(i);
+    for k in 0..naming.len() {
+        let place = naming[k] as usize;
+        if lists_own(bound.kind(place)) {
+            let seen = bound.seen(place);
             note_words(&mut permissions, names, &seen, seen.view.permissions())?;
         }
     }

@@ -1,7 +1,7 @@
 //! The statements of permission sets, by the numbers of their names.
 
 ghost use Rattle.std.specs.Prelude.{◌≡◌, ◌<◌, ◌++◌, ◌∷◌, [], List, Some, flat_map, length, slice_get, IfOk, OnOk};
-ghost use Rattle.cil_resolve.specs.Common.{Placed, IsIn, IsLowering, IsPermissionSet, ArePermissionSets, KnowNumbers, modules_of, permission_set_if};
+ghost use Rattle.cil_resolve.specs.Common.{Placed, IsIn, IsLowering, IsPermissionSet, ArePermissionSets, AreNaming, KnowNumbers, modules_of, permission_set_if};
 ghost use Rattle.cil_specs.specs.Rule.{permission_sets_of};
 
 use crate::known_permissions::KnownPermissions;
@@ -62,24 +62,24 @@ impl<'l, 'p, 'm, A: Allocator + Copy> Lowering<'l, 'p, 'm, A> {
         Ok(())
     }
 
-    /// The statements of permission sets, in their order. There is room for so many.
+    /// The statements of permission sets, in their order. They are among those of these places, and there is room for so many.
     pub(crate) fn permission_sets(
         &self,
         known: &mut KnownPermissions<A>,
+        naming: &[u32],
         room: usize,
     ) -> Result<Vec<NumberedPermissionSet<A>, A>, AllocError>
-        requires { (policy : List Placed) × IsLowering self.now policy }
+        requires { (policy : List Placed) × IsLowering self.now policy × AreNaming policy naming.now }
         ensures sets { IfOk result (λ sets. (policy : List Placed) → IsLowering self.now policy
-            → KnowNumbers self.now known.old policy
+            → AreNaming policy naming.now → KnowNumbers self.now known.old policy
             → ArePermissionSets (modules_of self.now.checker.now.bound.joined.now) self.now.numbering.now.names.items
             policy sets.items (permission_sets_of policy)) }
         ensures known { OnOk result ((policy : List Placed) → IsLowering self.now policy
-            → KnowNumbers self.now known.old policy → KnowNumbers self.now known.new policy) }
+            → AreNaming policy naming.now → KnowNumbers self.now known.old policy → KnowNumbers self.now known.new policy) }
     {
-        let count = self.checker.bound.len();
         let mut sets = Vec::with_capacity(self.alloc, room)?;
-        for i in 0..count {
-            self.add_permission_set(known, &mut sets, i)?;
+        for k in 0..naming.len() {
+            self.add_permission_set(known, &mut sets, naming[k] as usize)?;
         }
         Ok(sets)
     }

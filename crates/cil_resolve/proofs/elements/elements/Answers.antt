@@ -1,19 +1,48 @@
-use Rattle.cil_resolve.proofs.Common.{◌∙◌, ◌+◌, length, sym, ap, subst, arith, length_push, slice_get_within}
-use Rattle.cil_resolve.proofs.ElementLemmas.{HaveElementsBelow, elements-next}
+use Rattle.cil_resolve.proofs.Common.{◌≡◌, ◌<◌, ◌∙◌, length, get_or, sym, arith, rules, length-set, slice_get_within, types, «Type»}
+use Rattle.cil_resolve.proofs.ElementLemmas.{first-declares}
+use Rattle.cil_resolve.proofs.NamingLemmas.{FitsElement, naming-there, fill-next, filled-at, type-naming}
 use Rattle.cil_resolve.proofs.elements.elements.Goals as goal
 
-pub loop-i-preserved : goal.loop-i-preserved
-loop-i-preserved g c = record {
-  long = ap length c.in_ok-push.ensures.items ∙ length_push c.loop-i.elements.items c.element_at.result ∙ ap (λ n. n + 1) c.loop-i.invariant.long;
-  made = λ names policy noted faultless have.
-      subst (HaveElementsBelow names policy (c.loop-i.i + 1)) (sym c.in_ok-push.ensures.items)
-      (elements-next names policy c.loop-i.i c.element_at.result c.loop-i.elements.items c.loop-i.invariant.long (λ s at first set. c.element_at.ensures names policy s noted faultless have at first set)
-      (c.loop-i.invariant.made names policy noted faultless have));
+pub element_at-requires : goal.element_at-requires
+element_at-requires g c =
+    let (policy, noted, naming) = c.requires in
+    let (s, among, at) = naming-there policy c.args.naming.now c.loop-k.k naming c.loop-k-test.true in
+    (policy, noted, slice_get_within policy _ s at)
+
+pub index_mut-requires : goal.index_mut-requires
+index_mut-requires g c =
+    let (policy, noted, naming) = c.requires in
+    let (s, among, at) = naming-there policy c.args.naming.now c.loop-k.k naming c.loop-k-test.true in
+    let low = slice_get_within policy _ s at in
+    let long = c.loop-k.invariant.long policy noted in
+    let below : get_or c.args.naming.now c.loop-k.k 0 < length c.loop-k.elements.items = omega (arith, low, long) in
+    search rules
+
+pub loop-k-init : goal.loop-k-init
+loop-k-init g c = record {
+  long = λ policy noted.
+      let size : c.in_ok-elements.elements.len ≡ length c.in_ok-elements.elements.items = c.in_ok-elements.elements.ok.0 in
+      sym size ∙ c.in_ok-elements.ensures.len ∙ c.len.ensures policy noted.is;
+  made = λ names policy noted faultless naming have j i low there. absurd (omega (arith, low));
 }
 
+pub loop-k-preserved : goal.loop-k-preserved
+loop-k-preserved g c =
+    let k = c.loop-k.k in
+    let place = get_or c.args.naming.now k 0 in
+    record {
+      long = λ policy noted. length-set c.loop-k.elements.items place c.element_at.result ∙ c.loop-k.invariant.long policy noted;
+      made = λ names policy noted faultless naming have.
+          let (s, among, at) = naming-there policy c.args.naming.now k naming c.loop-k-test.true in
+          let low = slice_get_within policy place s at in
+          let long = c.loop-k.invariant.long policy noted in
+          fill-next (FitsElement names policy) («Type» 0) c.args.naming.now k c.element_at.result c.loop-k.elements.items c.loop-k-test.true (omega (arith, low, long))
+          (λ t there first set. c.element_at.ensures names policy t noted faultless have there first set)
+          (c.loop-k.invariant.made names policy noted faultless naming have);
+    }
+
 pub returns : goal.returns
-returns g c names policy noted faultless have i s at first set =
-    let count = c.len-count.ensures policy noted.is in
-    let past = c.loop-i-test.false in
-    let low = slice_get_within policy i s at in
-    c.loop-i.invariant.made names policy noted faultless have i s (omega (arith, count, past, low)) at first set
+returns g c names policy noted faultless naming have i s at first set =
+    let past = c.loop-k-test.false in
+    filled-at (FitsElement names policy) («Type» 0) policy c.args.naming.now c.loop-k.k c.loop-k.elements.items i s naming (omega (arith, past)) (c.loop-k.invariant.made names policy noted faultless naming have) at
+    (type-naming s.form (first-declares types policy i s at first)) s at first set

@@ -1,7 +1,6 @@
 use Rattle.cil_resolve.proofs.Common.{rules, ◌≡◌, ◌∙◌, [], ◌<◌, ◌^◌, length, map, IsTrue, sym, ap, subst, list_all, AllPairs, IsStrictlySortedBy, length-map, HasSoundSets, meaning_of, are_permission_sets_of, are_rules_of, are_placed_in, modules_of, declared_of, class_of, permission_set_of, set_of, dropped_with, HasNoCircle, is_set_below}
 use Rattle.cil_resolve.specs.Numbers.{GivesNumbered, rule_of}
 use Rattle.cil_resolve.proofs.ConsistentLemmas.{rules-declared, sets-declared}
-use Rattle.cil_resolve.proofs.LoweringLemmas.{lowering-of}
 use Rattle.cil_resolve.proofs.PlacedLemmas.{from-named, all-placed}
 use Rattle.cil_specs.specs.Violations.{rule_cmp}
 use Rattle.cil_resolve.specs.Apart.{StandApart}
@@ -11,45 +10,35 @@ use Rattle.cil_resolve.proofs.SetNameLemmas.{numbers-straight}
 use Rattle.cil_resolve.proofs.SoundLemmas.{faultless-sound}
 use Rattle.cil_resolve.proofs.lowered.lowered.Goals as goal
 
-pub parts-requires : goal.parts-requires
-parts-requires g c =
-    let (policy, noted, faultless) = c.requires in (
-      policy,
-      lowering-of _ policy c.deref.result.now c.in_ok-elements.elements.items noted faultless (c.in_ok-numbering.ensures.places policy noted.is) (c.in_ok-numbering.ensures.permissions policy noted.is)
-          c.deref.ensures.value (c.in_ok-elements.ensures c.in_ok-numbering.numbering.names.items policy noted faultless) c.deref-2.ensures.value,
-    )
-
-pub of-requires-2 : goal.of-requires-2
-of-requires-2 g c =
+pub of-requires : goal.of-requires
+of-requires g c =
     let (policy, noted, faultless) = c.requires in
-    let parts = c.in_ok-parts.ensures policy (lowering-of _ policy c.deref.result.now c.in_ok-elements.elements.items noted faultless (c.in_ok-numbering.ensures.places policy noted.is) (c.in_ok-numbering.ensures.permissions policy noted.is)
-    c.deref.ensures.value (c.in_ok-elements.ensures c.in_ok-numbering.numbering.names.items policy noted faultless) c.deref-2.ensures.value) in
+    let parts = c.in_ok-numbering.ensures policy noted faultless in
     let names = c.in_ok-numbering.numbering.names.items in
     let long : c.len.result ≡ length names = search rules in
     let modules = modules_of c.args.checker.now.bound.joined.now in
     record {
-      within = subst (λ n. IsTrue (list_all (is_set_below n) c.in_ok-parts.parts.sets.items)) (sym long) parts.sets_are.below;
+      within = subst (λ n. IsTrue (list_all (is_set_below n) c.in_ok-numbering.parts.sets.items)) (sym long) parts.sets_are.below;
       straight =
-          numbers-straight modules names c.in_ok-parts.parts.sets.items (record { rise = c.in_ok-numbering.numbering.ordered; below = parts.sets_are.below })
+          numbers-straight modules names c.in_ok-numbering.parts.sets.items (record { rise = c.in_ok-numbering.numbering.ordered; below = parts.sets_are.below })
           (subst HasNoCircle (sym parts.sets_are.is) (faultless-sound policy faultless []).straight);
     }
 
 pub invariant_of-result : goal.invariant_of-result
 invariant_of-result g c =
     let (policy, noted, faultless) = c.requires in
-    let parts = c.in_ok-parts.ensures policy (lowering-of _ policy c.deref.result.now c.in_ok-elements.elements.items noted faultless (c.in_ok-numbering.ensures.places policy noted.is) (c.in_ok-numbering.ensures.permissions policy noted.is)
-    c.deref.ensures.value (c.in_ok-elements.ensures c.in_ok-numbering.numbering.names.items policy noted faultless) c.deref-2.ensures.value) in
+    let parts = c.in_ok-numbering.ensures policy noted faultless in
     let names = c.in_ok-numbering.numbering.names.items in
     let modules = c.in_ok-module_names.ensures in
     let bound = noted.is.bound in
     let parsed = c.args.checker.now.bound.joined.now.modules.items in
     let rows = c.args.checker.now.bound.policy.now.rows.items in
-    let types = (λ k. map (declared_of (modules k) names) c.in_ok-parts.parts.types.items) ∙ parts.types_are in
-    let attributes = (λ k. map (declared_of (modules k) names) c.in_ok-parts.parts.attributes.items) ∙ parts.attributes_are in
-    let classes = (λ k. map (class_of (modules k) names) c.in_ok-parts.parts.classes.items) ∙ parts.classes_are in
-    let permission_sets = (λ k. map (permission_set_of (modules k) names) c.in_ok-parts.parts.permission_sets.items) ∙ parts.permission_sets_are.is in
+    let types = (λ k. map (declared_of (modules k) names) c.in_ok-numbering.parts.types.items) ∙ parts.types_are in
+    let attributes = (λ k. map (declared_of (modules k) names) c.in_ok-numbering.parts.attributes.items) ∙ parts.attributes_are in
+    let classes = (λ k. map (class_of (modules k) names) c.in_ok-numbering.parts.classes.items) ∙ parts.classes_are in
+    let permission_sets = (λ k. map (permission_set_of (modules k) names) c.in_ok-numbering.parts.permission_sets.items) ∙ parts.permission_sets_are.is in
     let sets = (λ k. map (set_of (modules k) names) (c.in_ok-sets.ensures k)) ∙ parts.sets_are.is in
-    let rules = (λ k. map (rule_of (modules k) names) c.in_ok-parts.parts.rules.items) ∙ parts.rules_are.is in
+    let rules = (λ k. map (rule_of (modules k) names) c.in_ok-numbering.parts.rules.items) ∙ parts.rules_are.is in
     let dropped = map (dropped_with (modules_of c.args.checker.now.bound.joined.now)) c.args.dropped.items in
     let means : _ ≡ meaning_of policy dropped = λ i. record { types = types i; attributes = attributes i; classes = classes i; permission_sets = permission_sets i; sets = sets i; rules = rules i; dropped = map (dropped_with (modules i)) c.args.dropped.items } in
     record {
@@ -58,7 +47,7 @@ invariant_of-result g c =
       few =
           subst (λ n. n < 2 ^ 32)
           (ap (λ l. length l) (sym parts.sets_are.is)
-          ∙ (length-map c.in_ok-parts.parts.sets.items (set_of (modules_of c.args.checker.now.bound.joined.now) names) ∙ ap (λ l. length l) (sym c.in_ok-sets.ensures)))
+          ∙ (length-map c.in_ok-numbering.parts.sets.items (set_of (modules_of c.args.checker.now.bound.joined.now) names) ∙ ap (λ l. length l) (sym c.in_ok-sets.ensures)))
           (sets-few policy noted.few);
       rules_ordered = subst (IsStrictlySortedBy rule_cmp) (sym rules) (rules-sorted policy noted.is.ordered);
       consistent = record {
@@ -81,14 +70,13 @@ invariant_of-result g c =
 
 pub returns : goal.returns
 returns g c policy noted faultless =
-    let parts = c.in_ok-parts.ensures policy (lowering-of _ policy c.deref.result.now c.in_ok-elements.elements.items noted faultless (c.in_ok-numbering.ensures.places policy noted.is) (c.in_ok-numbering.ensures.permissions policy noted.is)
-    c.deref.ensures.value (c.in_ok-elements.ensures c.in_ok-numbering.numbering.names.items policy noted faultless) c.deref-2.ensures.value) in
+    let parts = c.in_ok-numbering.ensures policy noted faultless in
     let names = c.in_ok-numbering.numbering.names.items in
     let modules = c.in_ok-module_names.ensures in
-    let types = (λ k. map (declared_of (modules k) names) c.in_ok-parts.parts.types.items) ∙ parts.types_are in
-    let attributes = (λ k. map (declared_of (modules k) names) c.in_ok-parts.parts.attributes.items) ∙ parts.attributes_are in
-    let classes = (λ k. map (class_of (modules k) names) c.in_ok-parts.parts.classes.items) ∙ parts.classes_are in
-    let permission_sets = (λ k. map (permission_set_of (modules k) names) c.in_ok-parts.parts.permission_sets.items) ∙ parts.permission_sets_are.is in
+    let types = (λ k. map (declared_of (modules k) names) c.in_ok-numbering.parts.types.items) ∙ parts.types_are in
+    let attributes = (λ k. map (declared_of (modules k) names) c.in_ok-numbering.parts.attributes.items) ∙ parts.attributes_are in
+    let classes = (λ k. map (class_of (modules k) names) c.in_ok-numbering.parts.classes.items) ∙ parts.classes_are in
+    let permission_sets = (λ k. map (permission_set_of (modules k) names) c.in_ok-numbering.parts.permission_sets.items) ∙ parts.permission_sets_are.is in
     let sets = (λ k. map (set_of (modules k) names) (c.in_ok-sets.ensures k)) ∙ parts.sets_are.is in
-    let rules = (λ k. map (rule_of (modules k) names) c.in_ok-parts.parts.rules.items) ∙ parts.rules_are.is in
+    let rules = (λ k. map (rule_of (modules k) names) c.in_ok-numbering.parts.rules.items) ∙ parts.rules_are.is in
     λ i. record { types = types i; attributes = attributes i; classes = classes i; permission_sets = permission_sets i; sets = sets i; rules = rules i; dropped = map (dropped_with (modules i)) c.args.dropped.items }

@@ -1,48 +1,52 @@
-use Rattle.cil_resolve.proofs.Common.{◌+◌, ◌∙◌, [], length, get_or, sym, ap, subst, arith, true≢false, length_push, slice_get_within, has_name, there-at, is_numbered_kind, full_name_of, names_with, number_in}
+use Rattle.cil_resolve.proofs.Common.{◌≡◌, ◌<◌, ◌∙◌, [], length, get_or, sym, ap, arith, rules, length-set, same_Some, slice_get_within, full_name_of, naming, kind_of}
 use Rattle.cil_resolve.proofs.FullNamesLemmas.{kind-numbered}
-use Rattle.cil_resolve.proofs.NumberLemmas.{HavePlacesBelow, place-next, full-named, named-in}
-use Rattle.cil_resolve.proofs.StatementLemmas.{mapped-at, at-place}
+use Rattle.cil_resolve.proofs.NamingLemmas.{FitsPlace, naming-there, fill-next, filled-at, numbered-naming}
+use Rattle.cil_resolve.proofs.StatementLemmas.{mapped-at}
 use Rattle.cil_resolve.proofs.numbering.place_numbers.Goals as goal
-use Rattle.cil_resolve.proofs.numbering.place_numbers.Goals.{then-is_numbered+in_ok-number_of+in_ok-push, else-is_numbered+in_ok-push-2}
 
-pub number_of-requires : goal.number_of-requires
-number_of-requires g c =
-    let (policy, is, full, are) = c.requires.is in
-    let count = c.len-i-end.ensures policy is in
-    let i = c.loop-i.i in
-    let (s, at) = there-at policy i (omega (arith, count)) in
-    let numbered = sym (c.is_numbered.ensures ∙ ap is_numbered_kind (c.kind.ensures policy s is at) ∙ kind-numbered s.form) ∙ c.if-is_numbered.true in
-    ap (has_name c.args.names.now) (c.get.ensures ∙ ap (λ l. get_or l i []) full ∙ mapped-at full_name_of policy i s [] at)
-    ∙ are (full_name_of s) ∙ named-in names_with policy s (full_name_of s) (at-place policy i s at).1 (full-named s numbered)
+pub place_number-requires : goal.place_number-requires
+place_number-requires g c =
+    let (policy, is, places, full, are) = c.requires.is in
+    let k = c.loop-k.k in
+    let (s, among, at) = naming-there policy c.args.naming.now k places c.loop-k-test.true in
+    (policy, s, is, at, c.get.ensures ∙ ap (λ l. get_or l k []) full ∙ mapped-at full_name_of (naming policy) k s [] among, are)
 
-pub loop-i-preserved : goal.loop-i-preserved
-loop-i-preserved g c = elim c.if-is_numbered.branch [
-  | then-is_numbered+in_ok-number_of+in_ok-push w ↦ record {
-    long = ap (λ v. length v.items) w.places-is ∙ ap length w.in_ok-push.ensures.items ∙ length_push c.loop-i.places.items w.in_ok-number_of.field-0 ∙ ap (λ n. n + 1) c.loop-i.invariant.long;
-    placed = λ policy is full.
-        let i = c.loop-i.i in
-        let count = c.len-i-end.ensures policy is in
-        let (s, at) = there-at policy i (omega (arith, count)) in
-        subst (HavePlacesBelow c.args.names.now policy (i + 1)) (sym (ap (λ v. v.items) w.places-is ∙ w.in_ok-push.ensures.items))
-        (place-next c.args.names.now policy i w.in_ok-number_of.field-0 s c.loop-i.places.items c.loop-i.invariant.long at
-        (λ numbered. ap (number_in c.args.names.now) (sym (w.get.ensures ∙ ap (λ l. get_or l i []) full ∙ mapped-at full_name_of policy i s [] at)) ∙ w.in_ok-number_of.ensures)
-        (c.loop-i.invariant.placed policy is full));
-  }
-  | else-is_numbered+in_ok-push-2 w ↦ record {
-    long = ap (λ v. length v.items) w.places-is ∙ ap length w.in_ok-push-2.ensures.items ∙ length_push c.loop-i.places.items 0 ∙ ap (λ n. n + 1) c.loop-i.invariant.long;
-    placed = λ policy is full.
-        let i = c.loop-i.i in
-        let count = c.len-i-end.ensures policy is in
-        let (s, at) = there-at policy i (omega (arith, count)) in
-        let kind = sym (c.is_numbered.ensures ∙ ap is_numbered_kind (c.kind.ensures policy s is at) ∙ kind-numbered s.form) ∙ w.if-is_numbered.false in
-        subst (HavePlacesBelow c.args.names.now policy (i + 1)) (sym (ap (λ v. v.items) w.places-is ∙ w.in_ok-push-2.ensures.items))
-        (place-next c.args.names.now policy i 0 s c.loop-i.places.items c.loop-i.invariant.long at (λ numbered. absurd (true≢false (sym numbered ∙ kind))) (c.loop-i.invariant.placed policy is full));
-  }
-]
+pub index_mut-requires : goal.index_mut-requires
+index_mut-requires g c =
+    let (policy, is, places, full, are) = c.requires.is in
+    let (s, among, at) = naming-there policy c.args.naming.now c.loop-k.k places c.loop-k-test.true in
+    let low = slice_get_within policy _ s at in
+    let long = c.loop-k.invariant.long policy is in
+    let below : get_or c.args.naming.now c.loop-k.k 0 < length c.loop-k.places.items = omega (arith, low, long) in
+    search rules
+
+pub loop-k-init : goal.loop-k-init
+loop-k-init g c = record {
+  long = λ policy is.
+      let size : c.in_ok-places.places.len ≡ length c.in_ok-places.places.items = c.in_ok-places.places.ok.0 in
+      sym size ∙ c.in_ok-places.ensures.len ∙ c.len.ensures policy is;
+  placed = λ policy is places full j i low there. absurd (omega (arith, low));
+}
+
+pub loop-k-preserved : goal.loop-k-preserved
+loop-k-preserved g c =
+    let k = c.loop-k.k in
+    let place = get_or c.args.naming.now k 0 in
+    let found = c.in_ok-number.number in
+    record {
+      long = λ policy is. length-set c.loop-k.places.items place found ∙ c.loop-k.invariant.long policy is;
+      placed = λ policy is places full.
+          let (s, among, at) = naming-there policy c.args.naming.now k places c.loop-k-test.true in
+          let low = slice_get_within policy place s at in
+          let long = c.loop-k.invariant.long policy is in
+          fill-next (FitsPlace c.args.names.now policy) 0 c.args.naming.now k found c.loop-k.places.items c.loop-k-test.true (omega (arith, low, long))
+          (λ t there numbered. c.in_ok-number.ensures policy t is there
+          (c.get.ensures ∙ ap (λ l. get_or l k []) full ∙ mapped-at full_name_of (naming policy) k s [] among ∙ ap full_name_of (same_Some s t (sym at ∙ there))) numbered)
+          (c.loop-k.invariant.placed policy is places full);
+    }
 
 pub returns : goal.returns
-returns g c policy is full i s at numbered =
-    let count = c.len-i-end.ensures policy is in
-    let past = c.loop-i-test.false in
-    let low = slice_get_within policy i s at in
-    c.loop-i.invariant.placed policy is full i s (omega (arith, count, past, low)) at numbered
+returns g c policy is places full i s at numbered =
+    let past = c.loop-k-test.false in
+    filled-at (FitsPlace c.args.names.now policy) 0 policy c.args.naming.now c.loop-k.k c.loop-k.places.items i s places (omega (arith, past)) (c.loop-k.invariant.placed policy is places full) at
+    (numbered-naming (kind_of s.form) (kind-numbered s.form ∙ numbered)) s at numbered
