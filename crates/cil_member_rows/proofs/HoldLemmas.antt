@@ -12,7 +12,7 @@ pub record IsUpTo (held now : List (List ℕ)) (s : State) (step : ℕ) : Type 0
 
 module _ (held : List (List ℕ)) (s : State) (is : IsHeld held s) where
   -- a word that isn't there has no member
-  none_there : (r w : ℕ) → words_of held r ≤ w → IsPresence (count_now s r) w 0
+  pub none_there : (r w : ℕ) → words_of held r ≤ w → IsPresence (count_now s r) w 0
   none_there r w past = presence_none (count_now s r) w (λ b within. is.room r (64 * w + b) (let place = word_of w b within in omega (arith, place, past)))
 
   module _ (now now' : List (List ℕ)) (step line word present : ℕ) (was : IsUpTo held now s step) (at_line : line ≡ (step_at s step).line) (at_word : word ≡ (step_at s step).word) where

@@ -1,6 +1,6 @@
 //! Bits by words of 64.
 
-ghost use Rattle.std.specs.Prelude.{◌≡◌, ◌≢◌, ℕ, [], ◌<◌, ◌≤◌, length, slice_index, OnOk};
+ghost use Rattle.std.specs.Prelude.{◌≡◌, ◌≢◌, ℕ, [], ◌<◌, ◌≤◌, length, min, slice_index, IfOk, OnOk};
 
 use std::alloc::{AllocError, Allocator, Global};
 use std::marker::Model;
@@ -17,6 +17,18 @@ impl<A: Allocator> Model for BitRow<A> {
     ghost Value = { List ℕ };
 
     ghost view = { λ r. r.words.items };
+}
+
+impl<A: Allocator + Copy> BitRow<A> {
+    /// The first so many words, or all where there are fewer.
+    pub fn first_words(&self, alloc: A, count: usize) -> Result<Vec<u64, A>, AllocError>
+        ensures len { IfOk result (λ words. length words.items ≡ min (length self.now) count) }
+        ensures words { IfOk result (λ words. (w : ℕ) → w < count
+            → slice_index words.items w ≡ slice_index self.now w) }
+    {
+        let len = self.words.len().min(count);
+        Vec::from_slice(alloc, &self.words[..len])
+    }
 }
 
 impl<A: Allocator> BitRow<A> {

@@ -1,6 +1,6 @@
 //! Words of one of several rows of bits.
 
-ghost use Rattle.std.specs.Prelude.{◌≡◌, ℕ, ◌<◌, ◌≤◌, length, OnOk};
+ghost use Rattle.std.specs.Prelude.{◌≡◌, ℕ, ◌<◌, ◌≤◌, length, min, slice_index, IfOk, OnOk};
 ghost use Rattle.cil_member_rows.specs.Common.{bits_at, words_of};
 
 use crate::bit_row::BitRow;
@@ -14,6 +14,24 @@ pub fn bits<A: Allocator>(rows: &[BitRow<A>], row: usize, word: usize) -> u64
         rows[row].word(word)
     } else {
         0
+    }
+}
+
+/// The bits of the first so many words of a row, or of all its words where there are fewer.
+pub fn first_words<A: Allocator + Copy>(
+    rows: &[BitRow<A>],
+    alloc: A,
+    row: usize,
+    count: usize,
+) -> Result<Vec<u64, A>, AllocError>
+    ensures len { IfOk result (λ words. length words.items ≡ min (words_of rows.now row) count) }
+    ensures words { IfOk result (λ words. (w : ℕ) → w < count
+        → slice_index words.items w ≡ bits_at rows.now row w) }
+{
+    if row < rows.len() {
+        rows[row].first_words(alloc, count)
+    } else {
+        Ok(Vec::new(alloc))
     }
 }
 

@@ -1,11 +1,12 @@
 //! Rows of counters by type, with the bits of who was a member before the steps.
 
-ghost use Rattle.std.specs.Prelude.{◌≡◌, ◌↔◌, ℕ, ◌+◌, ◌-◌, ◌/◌, ◌<◌, ◌≤◌, ◌^◌, true, false, min, IfOk, IsTrue, MatchOption, OnErr, OnOk};
+ghost use Rattle.std.specs.Prelude.{◌≡◌, ◌↔◌, ℕ, ◌+◌, ◌-◌, ◌/◌, ◌<◌, ◌≤◌, ◌^◌, true, false, length, min, slice_index, IfOk, IsTrue, MatchOption, OnErr, OnOk};
 ghost use Rattle.cil_member_rows.specs.Common.{hit, IsNextPresent, IsPresence, NonePresent, hit_at, rows_in, IsChange, AreSome, IsOutside};
 ghost use Rattle.cil_recorded.specs.Differences.{appeared_at, change_key, gone_at, Ascends};
 ghost use Rattle.cil_member_rows.specs.Rows.{count_before, count_now, steps_in};
 
 mod ended;
+mod present_words;
 mod settling;
 mod shifting;
 
@@ -101,6 +102,31 @@ impl<A: Allocator + Copy> MemberRows<A> {
         Ok(())
     }
 
+    /// The members among the types of the first so many words of a row, by words. What is behind the words isn't one of them.
+    pub fn present_words(
+        &self,
+        alloc: A,
+        row: usize,
+        count: usize,
+    ) -> Result<Vec<u64, A>, AllocError>
+        ensures len { IfOk result (λ words. length words.items ≤ count) }
+        ensures are { IfOk result (λ words. (w : ℕ) → w < count
+            → IsPresence (count_now self.now row) w (slice_index words.items w)) }
+    {
+        let mut words = held::first_words(&self.held, alloc, row, count)?;
+        present_words::put(&self.rows, row, self.turned_words(row), &mut words);
+        Ok(words)
+    }
+
+    /// Those that were members before the steps, in the same way.
+    pub fn held_words(&self, alloc: A, row: usize, count: usize) -> Result<Vec<u64, A>, AllocError>
+        ensures len { IfOk result (λ words. length words.items ≤ count) }
+        ensures are { IfOk result (λ words. (w : ℕ) → w < count
+            → IsPresence (count_before self.now row) w (slice_index words.items w)) }
+    {
+        held::first_words(&self.held, alloc, row, count)
+    }
+
     /// Who became a member since the last settling, and who is no member any more, by row and word. A word without
     /// either is left out.
     pub fn changes(&self, alloc: A) -> Result<Vec<Change, A>, AllocError>
@@ -160,7 +186,11 @@ impl<A: Allocator> MemberRows<A> {
     pub fn present(&self, row: usize, word: usize) -> u64
         ensures { IsPresence (count_now self.now row) word result }
     {
-        self.rows.present(row, word)
+        if self.turned_words(row).has(word) {
+            self.rows.present(row, word)
+        } else {
+            self.held(row, word)
+        }
     }
 
     /// Those that were members before the steps.

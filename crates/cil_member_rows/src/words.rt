@@ -1,6 +1,6 @@
 //! Words that stand behind one another.
 
-ghost use Rattle.std.specs.Prelude.{◌≡◌, ◌↔◌, ◌+◌, ◌<◌, ◌^◌, ◌⊎◌, ℕ, IsTrue};
+ghost use Rattle.std.specs.Prelude.{◌≡◌, ◌↔◌, ◌+◌, ◌<◌, ◌^◌, ◌⊎◌, ℕ, false, IsTrue};
 ghost use Rattle.cil_member_rows.specs.Common.{AreSome, IsOutside};
 
 /// The words from the first one to behind the last one; none where the end isn't behind the first one.
@@ -36,6 +36,13 @@ impl Words {
         ensures { IsTrue result ↔ AreSome self }
     {
         self.first < self.end
+    }
+
+    /// Whether a word is one of these.
+    pub fn has(self, word: usize) -> bool
+        ensures { result ≡ false → IsOutside self word }
+    {
+        self.first <= word && word < self.end
     }
 
     /// The words of two, and those that stand between them.

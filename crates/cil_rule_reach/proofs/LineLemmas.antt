@@ -1,11 +1,11 @@
 -- Members of a row as a line, word by word.
-use Rattle.std.proofs.Common.{◌≡◌, ℕ, ◌+◌, ◌*◌, ◌/◌, ◌%◌, ◌^◌, ◌<◌, ◌≤◌, ◌==◌, ◌&&◌, Bool, true, false, List, [], ◌∷◌, ◌++◌, length, get_or, min, nat_lt, refl, sym, ap, ◌∙◌, inl, inr, arith, zero-add}
+use Rattle.std.proofs.Common.{◌≡◌, ℕ, ◌+◌, ◌*◌, ◌/◌, ◌%◌, ◌^◌, ◌<◌, ◌≤◌, ◌==◌, ◌&&◌, Bool, true, false, List, length, get_or, min, nat_lt, refl, sym, ap, ◌∙◌, inl, inr, arith, zero-add}
 use Rattle.std.proofs.Math.Bool.{and-false}
-use Rattle.std.proofs.Math.ListN.{get_or-append, get_or-eq_default}
+use Rattle.std.proofs.Math.ListN.{get_or-eq_default}
 use Rattle.std.proofs.lemmas.Bool.{cases_eq, cases_lt, eq-eqb, lt-ltb, le-ltb, ne_eqb}
-use Rattle.std.proofs.lemmas.List.{get_or_push, length_push}
 use Rattle.std.proofs.lemmas.Nat.Bits.{bit_at-zero}
 use Rattle.std.specs.Int.{bit_at}
+use Rattle.std.specs.Prelude.{slice_index}
 use Rattle.cil_lines.specs.Line.{Counters, count_of, hit, IsPresence}
 use Rattle.cil_rule_shifts.specs.Reach.{is_present, one_if}
 use Rattle.cil_rule_shifts.proofs.ReachLemmas.{bit-here}
@@ -17,33 +17,17 @@ one-if-some n =
       | inr none ↦ let zero : min 1 n ≡ 0 = omega (arith, none) in zero ∙ sym (ap one_if (le-ltb 0 n none))
     ]
 
--- so many words have a bit for each counter above 0
-abbrev pub AreWords : (ℕ → ℕ) → List ℕ → ℕ → Type 0
-AreWords counts words n = (length words ≡ n) × ((t : ℕ) → t / 64 < n → bit_at (get_or words (t / 64) 0) (t % 64) ≡ one_if (nat_lt 0 (counts t)))
-
--- one more word
-pub word-more : (counts : ℕ → ℕ) (words : List ℕ) (n mask : ℕ) → IsPresence counts n mask → AreWords counts words n → AreWords counts (words ++ mask ∷ []) (n + 1)
-word-more counts words n mask present are = (length_push words mask ∙ ap (λ k. k + 1) are.0, more)
-  where
-    more : (t : ℕ) → t / 64 < n + 1 → bit_at (get_or (words ++ mask ∷ []) (t / 64) 0) (t % 64) ≡ one_if (nat_lt 0 (counts t))
-    more t upto =
-        elim (cases_lt (t / 64) n) [
-          | inl before ↦ ap (λ w. bit_at w (t % 64)) (get_or-append words (mask ∷ []) 0 (t / 64) (omega (arith, are.0, before))) ∙ are.1 t before
-          | inr behind ↦
-              let here : 64 * n + t % 64 ≡ t = omega (arith, behind, upto) in
-              ap (λ w. bit_at w (t % 64)) (get_or_push words mask 0 (t / 64) (omega (arith, are.0, behind, upto)))
-              ∙ present (t % 64) (omega arith) ∙ ap (λ k. min 1 (counts k)) here ∙ one-if-some (counts t)
-        ]
-
--- all words
-pub words-all : (line : Counters) (counts : ℕ → ℕ) (words : List ℕ) (symbols n t : ℕ) → n ≡ symbols / 64 + 1 → (symbols ≤ t → counts t ≡ 0) → AreWords counts words n
-    → count_of line t ≡ bit_at (get_or words (t / 64) 0) (t % 64) → is_present line t ≡ nat_lt 0 (counts t)
+-- words that say who is a member, as far as any type is one
+pub words-all : (line : Counters) (counts : ℕ → ℕ) (words : List ℕ) (symbols n t : ℕ) → n ≡ symbols / 64 + 1 → (symbols ≤ t → counts t ≡ 0) → length words ≤ n
+    → ((w : ℕ) → w < n → IsPresence counts w (slice_index words w)) → count_of line t ≡ bit_at (get_or words (t / 64) 0) (t % 64) → is_present line t ≡ nat_lt 0 (counts t)
 unfolding is_present
-words-all line counts words symbols n t all none are is =
+words-all line counts words symbols n t all none few are is =
     elim (cases_lt (t / 64) n) [
-      | inl within ↦ ap (nat_lt 0) (is ∙ are.1 t within) ∙ positive (nat_lt 0 (counts t))
+      | inl within ↦
+          let here : 64 * (t / 64) + t % 64 ≡ t = omega arith in
+          ap (nat_lt 0) (is ∙ are (t / 64) within (t % 64) (omega arith) ∙ ap (λ k. min 1 (counts k)) here ∙ one-if-some (counts t)) ∙ positive (nat_lt 0 (counts t))
       | inr past ↦
-          ap (nat_lt 0) (is ∙ ap (λ w. bit_at w (t % 64)) (get_or-eq_default words 0 (omega (arith, are.0, past))) ∙ bit_at-zero (t % 64))
+          ap (nat_lt 0) (is ∙ ap (λ w. bit_at w (t % 64)) (get_or-eq_default words 0 (omega (arith, few, past))) ∙ bit_at-zero (t % 64))
           ∙ sym (ap (nat_lt 0) (none (omega (arith, all, past))))
     ]
   where

@@ -21,10 +21,7 @@ pub fn members_line<A: Allocator + Copy>(
     ensures { IfOk result (λ line. (t : ℕ) → is_present line t ≡ nat_lt 0 (members_of members.now row t)) }
 {
     let count = members.symbols / WORD + 1;
-    let mut words = Vec::with_capacity(alloc, count)?;
-    for word in 0..count {
-        words.push(members.word(row, word))?;
-    }
+    let words = members.words(alloc, row, count)?;
     Ok(Line::of_words(alloc, words))
 }
 

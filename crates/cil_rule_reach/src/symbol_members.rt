@@ -1,11 +1,11 @@
 //! The members of one of two policies, by symbols.
 
-ghost use Rattle.std.specs.Prelude.{◌≡◌, ◌<◌, ◌^◌};
+ghost use Rattle.std.specs.Prelude.{◌≡◌, ◌<◌, ◌≤◌, ◌^◌, ℕ, length, slice_index, IfOk};
 ghost use Rattle.cil_lines.specs.Line.{IsPresence};
 ghost use Rattle.cil_rule_reach.specs.Reaches.{members_of};
 
 use cil_member_rows::MemberRows;
-use std::alloc::{Allocator, Global};
+use std::alloc::{AllocError, Allocator, Global};
 
 /// Whose members are asked for: those before the steps, which are the old policy's, or those now, which are the new one's.
 #[derive(Clone, Copy, PartialEq, Eq)]
@@ -31,14 +31,18 @@ impl<A: Allocator> SymbolMembers<'_, A> {
     {
         self.symbols
     }
+}
 
-    /// The members among the types of a word of a row.
-    pub fn word(&self, row: usize, word: usize) -> u64
-        ensures { IsPresence (members_of self.now row) word result }
+impl<A: Allocator + Copy> SymbolMembers<'_, A> {
+    /// The members among the types of the first so many words of a row, by words. What is behind the words isn't one of them.
+    pub fn words(&self, alloc: A, row: usize, count: usize) -> Result<Vec<u64, A>, AllocError>
+        ensures len { IfOk result (λ words. length words.items ≤ count) }
+        ensures are { IfOk result (λ words. (w : ℕ) → w < count
+            → IsPresence (members_of self.now row) w (slice_index words.items w)) }
     {
         match self.when {
-            When::Before => self.rows.held(row, word),
-            When::Now => self.rows.present(row, word),
+            When::Before => self.rows.held_words(alloc, row, count),
+            When::Now => self.rows.present_words(alloc, row, count),
         }
     }
 }
