@@ -1,5 +1,6 @@
 //! Modules of two policies, compared by their names.
 
+ghost use Rattle.std.specs.Ordering.{nat_cmp, ordering_then};
 ghost use Rattle.std.specs.Prelude.{◌≡◌, [], slice_index_or, IfSome};
 ghost use Rattle.cil_matching.specs.Compared.{AreCompared};
 ghost use Rattle.cil_specs.specs.Report.{name_cmp};
@@ -15,6 +16,30 @@ pub struct Compared {
     first: u32,
     second: u32,
     order: Ordering,
+}
+
+/// How the name of the new policy's module at a place stands to that of the old one's at a place, by a look at their names. Few are asked
+/// for, so it isn't inlined where rules are gone along.
+#[inline(never)]
+fn compare_modules<A: Allocator>(
+    known: &mut Option<Compared>,
+    old: &Resolved<A>,
+    first: u32,
+    new: &Resolved<A>,
+    second: u32,
+) -> Ordering
+    requires { IfSome known.old (AreCompared old.now new.now) }
+    ensures known { IfSome known.new (AreCompared old.now new.now) }
+    ensures order { result ≡ name_cmp (slice_index_or new.now.modules.items second [])
+        (slice_index_or old.now.modules.items first []) }
+{
+    let order = new.module(second as usize).cmp(old.module(first as usize));
+    *known = Some(Compared {
+        first,
+        second,
+        order,
+    });
+    order
 }
 
 /// How the name of the new policy's module at a place stands to that of the old one's at a place. Where
@@ -36,11 +61,16 @@ pub fn order_of_modules<A: Allocator>(
             return last.order;
         }
     }
-    let order = new.module(second as usize).cmp(old.module(first as usize));
-    *known = Some(Compared {
-        first,
-        second,
-        order,
-    });
-    order
+    compare_modules(known, old, first, new, second)
+}
+
+/// The order by modules, and then by offsets. Mostly both are equal, which is told first.
+#[inline(always)]
+pub fn then_offsets(modules: Ordering, offset: u32, other: u32) -> Ordering
+    ensures { result ≡ ordering_then modules (nat_cmp offset other) }
+{
+    if modules == Ordering::Equal && offset == other {
+        return Ordering::Equal;
+    }
+    modules.then(offset.cmp(&other))
 }

@@ -7,7 +7,7 @@ ghost use Rattle.cil_specs.specs.Report.{name_cmp};
 ghost use Rattle.cil_specs.specs.Rule.{Rule};
 ghost use Rattle.cil_specs.specs.Violations.{rule_cmp};
 
-use crate::compared::{Compared, order_of_modules};
+use crate::compared::{Compared, order_of_modules, then_offsets};
 use crate::name_numbers::name_numbers;
 use crate::numbers::Numbers;
 use crate::same_content::is_same_content;
@@ -32,9 +32,8 @@ fn order_of<A: Allocator>(
 {
     let rule = &old.rules()[i];
     let other = &new.rules()[j];
-    order_of_modules(known, old, rule.module, new, other.module).then(
-        other.at.offset.cmp(&rule.at.offset),
-    )
+    let modules = order_of_modules(known, old, rule.module, new, other.module);
+    then_offsets(modules, other.at.offset, rule.at.offset)
 }
 
 /// Where the new policy has a rule at the position of the old one's rule at a place, or how many of its rules stand before that, as a

@@ -43,10 +43,9 @@ fn is_same_head<A: Allocator>(
 ) -> bool
     ensures { result ≡ is_head_by numbers.now rule.now other.now }
 {
-    let kind = rule.kind == other.kind;
-    let source = is_element(numbers, rule.source, other.source);
-    let target = is_target(numbers, rule.target, other.target);
-    kind & source & target
+    rule.kind == other.kind
+        && is_element(numbers, rule.source, other.source)
+        && is_target(numbers, rule.target, other.target)
 }
 
 /// Whether as many permissions are the same, in their order.
