@@ -1,12 +1,12 @@
 -- How many accesses came to a table, told by the counters.
-use Rattle.cil_counters.proofs.Common.{◌≡◌, ◌≢◌, ◌⊎◌, ℕ, ◌<◌, true, not, List, [], ◌∷◌, length, map, nat_lt, Some, Less, Equal, Greater, true≢false, refl, sym, ap, subst, ◌∙◌, inl, inr, arith, IsTrue, AllByRecursion, AllPairs, IsStrictlySortedBy, ltb-true, length-map, slice_get-get_or, is_in_table, atom_cmp, AreAtoms, AreChanges, Atom, AnyByRecursion, all_weaker, contains_from, contains_to, rule_kind_of, RuleKind, Allow, AuditAllow, DontAudit, NeverAllow, SymbolKey, meaning_in, Resolved, atom_of, is_named, name_at, AreApart, IsCounted}
+use Rattle.cil_counters.proofs.Common.{◌≡◌, ◌≢◌, ◌⊎◌, ℕ, ◌<◌, true, not, List, [], ◌∷◌, length, map, nat_lt, Some, Less, Equal, Greater, true≢false, refl, sym, ap, subst, ◌∙◌, inl, inr, arith, IsTrue, AllByRecursion, AllPairs, IsStrictlySortedBy, ltb-true, length-map, slice_get-get_or, is_in_table, atom_cmp, AreAtoms, AreChanges, Atom, AnyByRecursion, all_weaker, contains_from, contains_to, SymbolKey, meaning_in, Resolved, atom_of, is_named, name_at, AreApart, IsCounted}
 use Rattle.std.proofs.Common.{Contains}
 use Rattle.std.specs.Ordering.{ordering_reverse}
 use Rattle.std.specs.declared.cmp.Ordering.{Ordering}
 use Rattle.cil_sums.proofs.PairLemmas.{at-most-all, from-mapped, mapped, pairs-map}
-use Rattle.cil_specs.specs.Statements as spec
-use Rattle.cil_specs.specs.Statements.{allow, auditallow, dontaudit, neverallow}
+use Rattle.cil_specs.specs.Rule.{kind_index}
 use Rattle.cil_specs.proofs.ReportLemmas.{atom_exact, atom_total}
+use Rattle.cil_accesses.proofs.Order.{same-rule_kind}
 use Rattle.cil_symbol_changes.specs.Counts.{has_come, AreSoMany}
 use Rattle.cil_symbol_changes.specs.declared.counted_changes.ChangeCounts.{ChangeCounts}
 use Rattle.cil_symbol_changes.proofs.CountLemmas.{both-hold}
@@ -98,20 +98,6 @@ in-order (a ∷ atoms) =
 
 -- ---- accesses by symbols
 
--- a kind as the code has it
-kind_for : spec.RuleKind → RuleKind
-kind_for allow = Allow
-kind_for auditallow = AuditAllow
-kind_for dontaudit = DontAudit
-kind_for neverallow = NeverAllow
-
-kind-back : (kind : RuleKind) → kind_for (rule_kind_of kind) ≡ kind
-unfolding kind_for
-kind-back Allow = refl
-kind-back AuditAllow = refl
-kind-back DontAudit = refl
-kind-back NeverAllow = refl
-
 module _ (symbols : List (List ℕ)) (apart : AreApart symbols) where
   abbrev pub by_names : SymbolKey × ℕ → Atom
   by_names a = atom_of symbols a.0 a.1
@@ -122,7 +108,7 @@ module _ (symbols : List (List ℕ)) (apart : AreApart symbols) where
   -- one access has one kind and one symbol for each of its names
   one-access : (a b : SymbolKey × ℕ) → AreLow symbols a.0 a.1 → AreLow symbols b.0 b.1 → by_names a ≡ by_names b → a ≡ b
   one-access a b low other same =
-      let kinds : a.0.kind ≡ b.0.kind = sym (kind-back a.0.kind) ∙ ap (λ (x : Atom). kind_for x.kind) same ∙ kind-back b.0.kind in
+      let kinds = same-rule_kind a.0.kind b.0.kind (ap (λ (x : Atom). kind_index x.kind) same) in
       let sources = same-symbol a.0.source b.0.source low.source other.source (ap (λ (x : Atom). x.source) same) in
       let targets = same-symbol a.1 b.1 low.target other.target (ap (λ (x : Atom). x.target) same) in
       let classes = same-symbol a.0.class b.0.class low.the_class other.the_class (ap (λ (x : Atom). x.the_class) same) in

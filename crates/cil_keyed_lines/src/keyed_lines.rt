@@ -54,6 +54,7 @@ fn insert<A: Allocator>(
 }
 
 /// Puts in a key that has no place, and its place behind the others. It names line 0.
+#[inline(never)]
 fn put_key<A: Allocator>(
     keys: &mut IndexSet<SymbolKey, BuildHasherDefault<FoldHasher>, A>,
     names: &mut Names<A>,
@@ -201,6 +202,7 @@ impl<A: Allocator + Copy> KeyedLines<A> {
     }
 
     /// Moves the counters of the keys of places.
+    #[inline(never)]
     fn move_keys(&mut self, alloc: A, places: &[Named], moved: &[Moved]) -> Result<(), AllocError>
         requires named { AreNamed places.now self.old.names }
         requires moved { AreMoves moved.now }
@@ -264,6 +266,7 @@ impl<A: Allocator> KeyedLines<A> {
     }
 
     /// The place of a key.
+    #[inline(never)]
     fn place_of(&self, key: SymbolKey) -> Option<usize>
         ensures place { result ≡ position (is_key key) self.now.keys }
         ensures found { is_some result ≡ list_any (is_key key) self.now.keys }

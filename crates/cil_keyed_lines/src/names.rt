@@ -152,6 +152,13 @@ impl<A: Allocator> Names<A> {
         }
     }
 
+    /// The line that each place names.
+    pub fn named(&self) -> &[usize]
+        ensures { result.now ≡ self.now.named }
+    {
+        &self.named
+    }
+
     /// How many places name a line.
     pub fn users(&self, line: usize) -> usize
         requires { line ≢ 0 }

@@ -1,5 +1,6 @@
 -- What rules reach, word by word and source by source.
 use Rattle.cil_rule_shifts.proofs.Common.{◌≡◌, ◌≢◌, ℕ, ◌+◌, ◌-◌, ◌*◌, ◌/◌, ◌%◌, ◌^◌, ◌<◌, ◌≤◌, ◌==◌, ◌&&◌, ◌||◌, Bool, true, false, nat_lt, Option, None, Some, MatchOption, w64, refl, sym, ap, ◌∙◌, subst, inl, inr, arith, true≢false, min, div-add-mod', div-le_self, mod-lt, pow_pos, bit_at, trailing_zeros, cases_eq, cases_lt, eq-eqb, ne_eqb, lt-ltb, leb-true, leb-false, bit_at-pow_same, bit_at-pow_other, bit_at_cat_high, bit_at-trailing_zeros, bit_at_above, bit_at-zero, Counters, count_of, hit, IsPresence, NonePresent, IsNextPresent, hit-here, hit-there, hit-none, one_if, is_present, takes, IsMask, IsNext, NoneFrom, IsNextWord, NoneFromWord, Targets}
+use Rattle.cil_rule_shifts.specs.Reach.{AreNoneBefore, IsMaybeWord}
 use Rattle.std.specs.Bool.{then_some}
 use Rattle.std.proofs.Math.Dec.{leb}
 use Rattle.cil_rule_shifts.specs.declared.targets.Targets.TheVariants.{Nothing, Itself, These}
@@ -225,15 +226,15 @@ module _ (f : ℕ → Bool) where
         | inr high ↦ absurd (true≢false (sym is.holds ∙ short next high))
       ]
 
--- the first word of a test that is narrower than the one by which it is sought
-pub narrower-word : (f wide : ℕ → Bool) → ((t : ℕ) → wide t ≡ false → f t ≡ false) → (from at word mask : ℕ) → from ≤ at → ((t : ℕ) → from ≤ t / 64 → t / 64 < at → f t ≡ false) → IsNextWord wide at word
+-- the first word of a test, behind words that were passed
+pub passed-word : (f wide : ℕ → Bool) (from at word mask : ℕ) → from ≤ at → ((t : ℕ) → from ≤ t / 64 → t / 64 < at → f t ≡ false) → AreNoneBefore f wide at word
     → IsMask f word mask → mask < 2 ^ 64 → mask ≢ 0 → IsNextWord f from word
-narrower-word f wide narrow from at word mask low passed next presence fits some = record {
+passed-word f wide from at word mask low passed next presence fits some = record {
   from_on = let on = next.from_on in omega (arith, low, on);
   present = some-in_word f word mask presence fits positive;
   first = λ t behind before. elim (cases_lt (t / 64) at) [
     | inl earlier ↦ passed t behind earlier
-    | inr past ↦ narrow t (next.first t past before)
+    | inr past ↦ next.first t past before
   ];
 }
   where
@@ -252,3 +253,25 @@ no-first false b e = refl
 pub no-second : (a b : Bool) → (a || b) ≡ false → b ≡ false
 no-second true b e = absurd (true≢false e)
 no-second false b e = e
+
+-- a word that is the first of a test, for a narrower one
+pub maybe-word : (f test wide : ℕ → Bool) → ((t : ℕ) → test t ≡ false → f t ≡ false) → ((t : ℕ) → test t ≡ true → wide t ≡ true) → (from : ℕ) (found : Option ℕ)
+    → MatchOption found (NoneFromWord test from) (IsNextWord test from) → IsMaybeWord f wide from found
+maybe-word f test wide narrow wider from None none = λ t behind. narrow t (none t behind)
+maybe-word f test wide narrow wider from (Some next) is = record {
+  from_on = is.from_on;
+  present = (is.present.0, is.present.1, wider is.present.0 is.present.2);
+  first = λ t behind before. narrow t (is.first t behind before);
+}
+
+-- a test that holds where one of two does
+module _ (f g : ℕ → Bool) where
+  pub first-some : (t : ℕ) → f t ≡ true → (f t || g t) ≡ true
+  first-some t is = ap (λ b. b || g t) is
+
+  pub second-some : (t : ℕ) → g t ≡ true → (f t || g t) ≡ true
+  second-some t is = ap (λ b. f t || b) is ∙ or-true (f t)
+    where
+      or-true : (b : Bool) → (b || true) ≡ true
+      or-true true = refl
+      or-true false = refl

@@ -157,6 +157,13 @@ pub short-among : {A : Type 0} (sources : Sources A) → AreSources sources → 
 short-among sources short s high =
     either-none sources s (ap (λ b. b || has_source sources.is.now s) (short.was.sources s high) ∙ short.is.sources s high)
 
+pub short-one : {A : Type 0} (sources : Sources A) (s : ℕ) → AreSources sources → is_among sources s ≡ true → s < 2 ^ 64 - 1
+short-one sources s short is =
+    elim (cases_lt s (2 ^ 64 - 1)) [
+      | inl low ↦ low
+      | inr high ↦ absurd (true≢false (sym is ∙ short-among sources short s high))
+    ]
+
 pub short-source : {A : Type 0} (sources : Sources A) (from source : ℕ) → AreSources sources → IsNext (is_among sources) from source → source < 2 ^ 64 - 1
 short-source sources from source short next =
     elim (cases_lt source (2 ^ 64 - 1)) [

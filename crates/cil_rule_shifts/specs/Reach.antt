@@ -100,6 +100,16 @@ NoneFromWord test from = (t : ℕ) → from ≤ t / 64 → test t ≡ false
 abbrev pub IsFirstWord : (ℕ → Bool) → ℕ → Option ℕ → Type 0
 IsFirstWord test from found = MatchOption found (NoneFromWord test from) (IsNextWord test from)
 
+-- a word from one on that has a number at which a wider test holds, and before which the test holds at none
+pub record AreNoneBefore (test wide : ℕ → Bool) (from next : ℕ) : Type 0 where
+  pub from_on : from ≤ next
+  pub present : (t : ℕ) × (t / 64 ≡ next) × (wide t ≡ true)
+  pub first : (t : ℕ) → from ≤ t / 64 → t / 64 < next → test t ≡ false
+
+-- such a word, or it holds at none
+abbrev pub IsMaybeWord : (test wide : ℕ → Bool) → ℕ → Option ℕ → Type 0
+IsMaybeWord test wide from found = MatchOption found (NoneFromWord test from) (AreNoneBefore test wide from)
+
 -- the bits of a word of those of its numbers at which the test holds
 abbrev pub IsMask : (ℕ → Bool) → ℕ → ℕ → Type 0
 IsMask test word mask = (b : ℕ) → b < 64 → bit_at mask b ≡ one_if (test (64 * word + b))

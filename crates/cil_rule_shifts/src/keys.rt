@@ -9,7 +9,7 @@ ghost use Rattle.cil_rule_shifts.specs.Permits.{AreInOrder};
 ghost use Rattle.cil_rule_shifts.specs.Reach.{is_line};
 
 use crate::head::RuleHead;
-use crate::reach::{Sources, next_source};
+use crate::reach::{Sources, next_source, sources_len};
 use cil_keyed_lines::SymbolKey;
 use std::alloc::{AllocError, Allocator};
 
@@ -48,7 +48,8 @@ pub fn keys_of<A: Allocator + Copy>(
     requires sources { AreSources sources }
     ensures { IfOk result (λ keys. AreKeysOf (is_among sources.entry) head.entry keys.items) }
 {
-    let mut keys = Vec::new(alloc);
+    let room = sources_len(sources).saturating_mul(head.permits.len());
+    let mut keys = Vec::with_capacity(alloc, room)?;
     let mut from = 0;
     while let Some(source) = next_source(sources, from) {
         push_keys(&mut keys, source, head)?;

@@ -2,10 +2,10 @@
 
 ghost use Rattle.std.specs.Prelude.{◌≡◌, ℕ, false};
 ghost use Rattle.cil_rule_shifts.specs.Groups.{has_either, is_among, AreSources};
-ghost use Rattle.cil_rule_shifts.specs.Reach.{has_source, IsFirst, IsFirstWord, IsMask, IsShort};
+ghost use Rattle.cil_rule_shifts.specs.Reach.{has_source, IsFirst, IsFirstWord, IsMask, IsMaybeWord, IsShort};
 
 use crate::targets::Targets;
-use crate::words::earlier;
+use crate::words::later;
 use cil_lines::Line;
 use std::alloc::{Allocator, Global};
 
@@ -63,14 +63,19 @@ fn mask<A: Allocator + Copy>(sources: Sources<'_, A>, word: usize) -> u64
     }
 }
 
-/// The first word from one on with a source of what the rule reached or of what it reaches.
+/// A word from one on with a source of what the rule reached or of what it reaches, before which there is
+/// none of the sources. Where there is no such word there is none of them from the one on.
 fn next_word<A: Allocator + Copy>(sources: Sources<'_, A>, from: usize) -> Option<usize>
-    ensures { IsFirstWord (has_either sources.entry) from result }
+    ensures { IsMaybeWord (is_among sources.entry) (has_either sources.entry) from result }
 {
-    earlier(
-        sources.was.sources.next_present_word(from),
-        sources.is.sources.next_present_word(from),
-    )
+    match sources.part {
+        Part::Lost => sources.was.sources.next_present_word(from),
+        Part::Kept => later(
+            sources.was.sources.next_present_word(from),
+            sources.is.sources.next_present_word(from),
+        ),
+        Part::Got => sources.is.sources.next_present_word(from),
+    }
 }
 
 /// The first word from one on with one of the sources.
@@ -100,4 +105,17 @@ pub fn next_source<A: Allocator + Copy>(sources: Sources<'_, A>, from: usize) ->
     let word = next_source_word(sources, from / WORD + 1)?;
     let bits = mask(sources, word);
     Some(WORD * word + bits.trailing_zeros() as usize)
+}
+
+/// How many sources there are. It tells how much room their keys take, so no contract needs it.
+pub fn sources_len<A: Allocator + Copy>(sources: Sources<'_, A>) -> usize
+    requires { AreSources sources }
+{
+    let mut len: usize = 0;
+    let mut from = 0;
+    while let Some(word) = next_source_word(sources, from) {
+        len = len.saturating_add(mask(sources, word).count_ones() as usize);
+        from = word + 1;
+    }
+    len
 }

@@ -1,7 +1,7 @@
 //! The words of the targets that a source had or has.
 
-ghost use Rattle.std.specs.Prelude.{◌≡◌, ◌||◌, ◌+◌, ◌/◌, ◌<◌, ◌≤◌, ◌^◌, ℕ, false, Bool};
-ghost use Rattle.cil_rule_shifts.specs.Reach.{takes, IsFirstWord};
+ghost use Rattle.std.specs.Prelude.{◌≡◌, ◌&&◌, ◌||◌, ◌+◌, ◌/◌, ◌<◌, ◌≤◌, ◌^◌, ℕ, false, Bool};
+ghost use Rattle.cil_rule_shifts.specs.Reach.{takes, IsFirstWord, IsMaybeWord};
 
 use crate::targets::Targets;
 use std::alloc::Allocator;
@@ -18,6 +18,18 @@ pub fn earlier(first: Option<usize>, second: Option<usize>) -> Option<usize>
         (Some(first), Some(second)) => Some(first.min(second)),
         (Some(first), None) => Some(first),
         (None, second) => second,
+    }
+}
+
+/// The later of two words, each the first from one on at which a test holds: before it no number passes
+/// both tests.
+pub fn later(first: Option<usize>, second: Option<usize>) -> Option<usize>
+    ensures { (f g : ℕ → Bool) (from : ℕ) → IsFirstWord f from first → IsFirstWord g from second
+        → IsMaybeWord (λ t. f t && g t) (λ t. f t || g t) from result }
+{
+    match (first, second) {
+        (Some(first), Some(second)) => Some(first.max(second)),
+        _ => None,
     }
 }
 

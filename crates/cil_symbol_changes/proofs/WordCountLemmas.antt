@@ -7,6 +7,8 @@ use Rattle.std.proofs.lemmas.Nat.Bits.{bit_at_and, bit_at_not}
 use Rattle.cil_keyed_lines.specs.Past.{AreAlike, IsNextTurned, NoneTurned}
 use Rattle.cil_symbol_changes.specs.declared.counted_changes.ChangeCounts.{ChangeCounts}
 use Rattle.cil_symbol_changes.proofs.CountLemmas.{both-hold}
+use Rattle.std.proofs.Math.Nat.{mul-suc, mul-zero, zero-mul}
+use Rattle.std.proofs.Common.{zero, suc}
 
 -- ---- words
 
@@ -191,6 +193,37 @@ pub place-more : {X : Type 0} (test : ℕ → X → Bool) (place before between 
 place-more test place before between some after sum own rises =
     rises-next test place before between after rises (rises-added (test place) between some after own (omega (arith, sum)) (omega (arith, sum)))
 
+-- a count that rises by what each place of a run has, which is the same of all
+module _ {X : Type 0} (test : ℕ → X → Bool) (place before between some : ℕ) (rises : RisesBy (below test place) before between) where
+  abbrev pub AreSo : ℕ → Type 0
+  AreSo n = (p : ℕ) → place ≤ p → p < place + n → RisesBy (test p) 0 some
+
+  run-up : (n : ℕ) → AreSo n → RisesBy (below test (place + n)) before (between + some * n)
+  run-up zero own =
+      let none = mul-zero some in
+      let end : place ≡ place + 0 = omega arith in
+      let same : between ≡ between + some * 0 = omega (arith, none) in
+      subst (λ e. RisesBy (below test e) before (between + some * 0)) end (subst (RisesBy (below test place) before) same rises)
+  run-up (suc n) own =
+      let step = mul-suc some n in
+      let long = between + some * n in
+      let longer = between + some * suc n in
+      let end : place + n + 1 ≡ place + suc n = omega arith in
+      subst (λ e. RisesBy (below test e) before longer) end
+      (rises-next test (place + n) before long longer (run-up n (λ p from low. own p from (omega (arith, low))))
+      (rises-added (test (place + n)) long some longer (own (place + n) (omega arith) (omega arith)) (omega (arith, step)) (omega (arith, step))))
+
+  pub run-more : (n after : ℕ) → after ≤ between + some * n → min (between + some * n) (2 ^ 128 - 1) ≤ after → AreSo n → RisesBy (below test (place + n)) before after
+  run-more n after most least own =
+      let all = run-up n own in
+      record {
+        those = all.those;
+        exact = all.exact;
+        once = all.once;
+        at_most = omega (arith, most, all.at_most);
+        at_least = omega (arith, least, all.at_least);
+      }
+
 module _ (came went : ℕ → ℕ → Bool) where
   pub no-places : (counts : ChangeCounts) → counts.added ≡ 0 → counts.removed ≡ 0 → AreCounted (below came 0) (below went 0) counts
   no-places counts added removed = record {
@@ -198,17 +231,22 @@ module _ (came went : ℕ → ℕ → Bool) where
     removed = subst (RisesBy (below went 0) 0) (sym removed) (rises-first went 0);
   }
 
-  pub places-more : (place : ℕ) (old more new : ChangeCounts) → new.added ≡ min (old.added + more.added) (2 ^ 128 - 1) → new.removed ≡ min (old.removed + more.removed) (2 ^ 128 - 1)
-      → AreCounted (came place) (went place) more → AreCounted (below came place) (below went place) old → AreCounted (below came (place + 1)) (below went (place + 1)) new
-  places-more place old more new added removed own are = record {
-    added = place-more came place 0 old.added more.added new.added added own.added are.added;
-    removed = place-more went place 0 old.removed more.removed new.removed removed own.removed are.removed;
+  -- places that have the same numbers
+  pub places-run : (place n : ℕ) (old more all new : ChangeCounts) → all.added ≡ min (more.added * n) (2 ^ 128 - 1) → all.removed ≡ min (more.removed * n) (2 ^ 128 - 1)
+      → new.added ≡ min (old.added + all.added) (2 ^ 128 - 1) → new.removed ≡ min (old.removed + all.removed) (2 ^ 128 - 1)
+      → ((p : ℕ) → place ≤ p → p < place + n → AreCounted (came p) (went p) more) → AreCounted (below came place) (below went place) old
+      → AreCounted (below came (place + n)) (below went (place + n)) new
+  places-run place n old more all new added removed sum_added sum_removed own are = record {
+    added = run-more came place 0 old.added more.added are.added n new.added (omega (arith, added, sum_added)) (omega (arith, added, sum_added)) (λ p from low. (own p from low).added);
+    removed = run-more went place 0 old.removed more.removed are.removed n new.removed (omega (arith, removed, sum_removed)) (omega (arith, removed, sum_removed)) (λ p from low. (own p from low).removed);
   }
 
-  -- a place that counts nothing
-  pub places-none : (place : ℕ) (counts : ChangeCounts) → ((x : ℕ) → came place x ≡ false) → ((x : ℕ) → went place x ≡ false)
-      → AreCounted (below came place) (below went place) counts → AreCounted (below came (place + 1)) (below went (place + 1)) counts
-  places-none place counts none_came none_went are = record {
-    added = rises-next came place 0 counts.added counts.added are.added (rises-none (came place) counts.added none_came);
-    removed = rises-next went place 0 counts.removed counts.removed are.removed (rises-none (went place) counts.removed none_went);
-  }
+  -- places that count nothing
+  pub places-none : (place n : ℕ) (counts : ChangeCounts) → ((p x : ℕ) → place ≤ p → p < place + n → came p x ≡ false) → ((p x : ℕ) → place ≤ p → p < place + n → went p x ≡ false)
+      → AreCounted (below came place) (below went place) counts → AreCounted (below came (place + n)) (below went (place + n)) counts
+  places-none place n counts none_came none_went are =
+      let nothing = zero-mul n in
+      record {
+        added = run-more came place 0 counts.added 0 are.added n counts.added (omega (arith, nothing)) (omega (arith, nothing)) (λ p from low. rises-none (came p) 0 (λ x. none_came p x from low));
+        removed = run-more went place 0 counts.removed 0 are.removed n counts.removed (omega (arith, nothing)) (omega (arith, nothing)) (λ p from low. rises-none (went p) 0 (λ x. none_went p x from low));
+      }

@@ -1,6 +1,6 @@
 //! How many accesses appeared and how many went in lines of their counters.
 
-ghost use Rattle.std.specs.Prelude.{◌≡◌, ◌+◌, ◌-◌, ◌<◌, ◌^◌, min, IfOk};
+ghost use Rattle.std.specs.Prelude.{◌≡◌, ◌+◌, ◌-◌, ◌*◌, ◌^◌, min, IfOk};
 ghost use Rattle.std.specs.Int.{bit_at};
 ghost use Rattle.cil_keyed_lines.specs.Past.{IsPast};
 ghost use Rattle.cil_symbol_changes.specs.Common.{came_at, count_before, count_now, has_come, has_risen, went_at, AreCounted, AreSoMany};
@@ -38,6 +38,18 @@ impl ChangeCounts {
         }
     }
 
+    /// So many times the numbers, or the greatest `u128` where one is greater.
+    fn times(self, count: usize) -> Self
+        ensures added { result.added ≡ min (self.added * count) (2 ^ 128 - 1) }
+        ensures removed { result.removed ≡ min (self.removed * count) (2 ^ 128 - 1) }
+    {
+        let count = count as u128;
+        ChangeCounts {
+            added: self.added.saturating_mul(count),
+            removed: self.removed.saturating_mul(count),
+        }
+    }
+
     /// The sums, or the greatest `u128` where one is greater.
     fn plus(self, more: ChangeCounts) -> Self
         ensures added { result.added ≡ min (self.added + more.added) (2 ^ 128 - 1) }
@@ -72,27 +84,8 @@ fn place_counts<A: Allocator>(
     Ok(counts)
 }
 
-/// The same, where the numbers of the place before are told: a place that is alike has these too.
-#[inline(always)]
-fn next_counts<A: Allocator>(
-    lines: &KeyedLines<A>,
-    past: &Past<A>,
-    place: usize,
-    before: ChangeCounts,
-) -> Result<ChangeCounts, AllocError>
-    requires past { IsPast lines.now past.now }
-    requires before { 0 < place
-        → AreCounted (came_at lines.now (place - 1)) (went_at lines.now (place - 1)) before }
-    ensures { IfOk result (AreCounted (came_at lines.now place) (went_at lines.now place)) }
-{
-    if place > 0 && lines.are_alike(past, place, place - 1) {
-        return Ok(before);
-    }
-    place_counts(lines, past, place)
-}
-
-/// How many accesses of all places appeared and how many went, or the greatest `u128` where they are more. Places of which nothing has
-/// turned, which most are, are passed by.
+/// How many accesses of all places appeared and how many went, or the greatest `u128` where they are more. Places beside one another
+/// that are alike have the same numbers. Those of which nothing has turned, which most are, are passed by.
 fn count_places<A: Allocator>(
     lines: &KeyedLines<A>,
     past: &Past<A>,
@@ -102,14 +95,14 @@ fn count_places<A: Allocator>(
         (has_come (count_now lines.now) (count_before lines.now))) }
 {
     let mut counts = ChangeCounts::none();
-    let mut of_place = ChangeCounts::none();
-    for place in 0..lines.len() {
-        if lines.is_same(past, place) {
-            of_place = ChangeCounts::none();
-            continue;
+    let mut place = 0;
+    while place < lines.len() {
+        let end = lines.alike_end(past, place);
+        if !lines.is_same(past, place) {
+            let of_place = place_counts(lines, past, place)?;
+            counts = counts.plus(of_place.times(end - place));
         }
-        of_place = next_counts(lines, past, place, of_place)?;
-        counts = counts.plus(of_place);
+        place = end;
     }
     Ok(counts)
 }

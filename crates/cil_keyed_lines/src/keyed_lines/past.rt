@@ -105,6 +105,28 @@ fn earlier(one: Option<usize>, other: Option<usize>) -> Option<usize>
     }
 }
 
+/// The end of the places, from one on, whose lines are those of it in both of two lists.
+fn run_end(is: &[usize], was: &[usize], place: usize) -> usize
+    requires { place < length is.now }
+    ensures further { place < result }
+    ensures within { result ≤ length is.now }
+    ensures is { (p : ℕ) → place ≤ p → p < result → slice_index is.now p ≡ slice_index is.now place }
+    ensures was { (p : ℕ) → place ≤ p → p < result → slice_index was.now p
+        ≡ slice_index was.now place }
+{
+    let mut end = place + 1;
+    if place >= was.len() {
+        return end;
+    }
+    let len = is.len().min(was.len());
+    let line = is[place];
+    let before = was[place];
+    while end < len && is[end] == line && was[end] == before {
+        end += 1;
+    }
+    end
+}
+
 impl<A: Allocator> Past<A> {
     /// The line that a place named, or 0 where there was no such place.
     fn line(&self, place: usize) -> usize
@@ -186,12 +208,16 @@ impl<A: Allocator> KeyedLines<A> {
         self.line_of(place) == self.line_of(other)
     }
 
-    /// Whether two places name one line, and named one before the steps.
-    pub fn are_alike(&self, past: &Past<A>, place: usize, other: usize) -> bool
-        requires { IsPast self.now past.now }
-        ensures { IsTrue result → AreAlike self.now place other }
+    /// The end of the places, from one on, that name the line that it names, and named the one that it named before the
+    /// steps.
+    pub fn alike_end(&self, past: &Past<A>, place: usize) -> usize
+        requires past { IsPast self.now past.now }
+        requires place { place < length self.now.keys }
+        ensures further { place < result }
+        ensures within { result ≤ length self.now.keys }
+        ensures alike { (p : ℕ) → place ≤ p → p < result → AreAlike self.now p place }
     {
-        self.line_of(place) == self.line_of(other) && past.line(place) == past.line(other)
+        run_end(self.names.named(), &past.named, place)
     }
 
     /// The targets of a word whose counters of the key of a place were at least 1 before the steps.

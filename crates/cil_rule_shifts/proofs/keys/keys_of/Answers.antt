@@ -4,7 +4,7 @@ use Rattle.cil_rule_shifts.proofs.ShiftLemmas.{short-source}
 use Rattle.cil_rule_shifts.proofs.keys.keys_of.Goals as goal
 
 pub loop-source-init : goal.loop-source-init
-loop-source-init g c = rw c.new-keys.ensures.items (keys-new (is_among c.args.sources) c.args.head)
+loop-source-init g c = rw c.in_ok-keys.ensures.items (keys-new (is_among c.args.sources) c.args.head)
 
 pub push_keys-requires-clause-distinct : goal.push_keys-requires-clause-distinct
 push_keys-requires-clause-distinct g c = c.loop-source.invariant.distinct

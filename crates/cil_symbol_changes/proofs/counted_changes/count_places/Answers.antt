@@ -1,45 +1,52 @@
-use Rattle.cil_symbol_changes.proofs.Common.{◌≡◌, ◌+◌, ◌-◌, arith, below, came_at, length, subst, went_at, AreCounted}
+use Rattle.cil_symbol_changes.proofs.Common.{◌≡◌, ◌∙◌, ◌+◌, ◌-◌, arith, below, came_at, has_risen, length, subst, went_at, AreCounted}
 use Rattle.cil_symbol_changes.proofs.CountLemmas.{change-count}
-use Rattle.cil_symbol_changes.proofs.WordCountLemmas.{no-places, none-came, none-went, places-more, places-none, turned-all, turned-none}
+use Rattle.cil_symbol_changes.proofs.WordCountLemmas.{alike-counts, no-places, none-came, none-went, places-none, places-run}
 use Rattle.cil_symbol_changes.proofs.counted_changes.count_places.Goals as goal
 
 pub loop-place-init : goal.loop-place-init
 loop-place-init g c = record {
+  within = omega arith;
   all = no-places (came_at c.args.lines.now) (went_at c.args.lines.now) c.none-counts.result c.none-counts.ensures.added c.none-counts.ensures.removed;
-  last = λ some. absurd (omega (arith, some));
 }
+
+pub loop-place-preserved-in_ok-of_place : goal.loop-place-preserved-in_ok-of_place
+loop-place-preserved-in_ok-of_place g c =
+    let lines = c.args.lines.now in
+    let place = c.loop-place.place in
+    let end = c.alike_end-end.result in
+    let far = c.alike_end-end.ensures.further in
+    let last : place + (end - place) ≡ end = omega (arith, far) in
+    let sum = c.plus-counts.ensures in
+    record {
+      within = c.alike_end-end.ensures.within;
+      all = subst (λ e. AreCounted (below (came_at lines) e) (below (went_at lines) e) c.plus-counts.result) last
+          (places-run (came_at lines) (went_at lines) place (end - place) c.loop-place.counts c.in_ok-of_place.of_place c.times.result c.plus-counts.result c.times.ensures.added c.times.ensures.removed sum.added sum.removed
+          (λ p from low. alike-counts lines p place c.in_ok-of_place.of_place (c.alike_end-end.ensures.alike p from (omega (arith, far, low))) c.in_ok-of_place.ensures) c.loop-place.invariant.all);
+    }
 
 pub loop-place-preserved : goal.loop-place-preserved
 loop-place-preserved g c =
-    let came = came_at c.args.lines.now in
-    let went = went_at c.args.lines.now in
-    let place = c.loop-place.place in
-    let of_place = c.in_ok-of_place.of_place in
-    let last : place ≡ place + 1 - 1 = omega arith in
-    record {
-      all = places-more came went place c.loop-place.counts of_place c.plus-counts.result c.plus-counts.ensures.added c.plus-counts.ensures.removed c.in_ok-of_place.ensures c.loop-place.invariant.all;
-      last = λ some. subst (λ p. AreCounted (came p) (went p) of_place) last c.in_ok-of_place.ensures;
-    }
-
-pub loop-place-preserved-then-is_same : goal.loop-place-preserved-then-is_same
-loop-place-preserved-then-is_same g c =
     let lines = c.args.lines.now in
     let place = c.loop-place.place in
-    let none = c.none-of_place-then-is_same in
-    let stays = c.is_same.ensures c.if-is_same.true in
-    let last : place ≡ place + 1 - 1 = omega arith in
+    let end = c.alike_end-end.result in
+    let far = c.alike_end-end.ensures.further in
+    let last : place + (end - place) ≡ end = omega (arith, far) in
+    let stays = c.is_same.ensures c.if-not-is_same.false in
+    let alike = c.alike_end-end.ensures.alike in
     record {
-      all = places-none (came_at lines) (went_at lines) place c.loop-place.counts (none-came lines place stays) (none-went lines place stays) c.loop-place.invariant.all;
-      last = λ some. subst (λ p. AreCounted (came_at lines p) (went_at lines p) none.result) last
-          (turned-all lines place 0 none.result stays (turned-none lines place none.result none.ensures.added none.ensures.removed));
+      within = c.alike_end-end.ensures.within;
+      all = subst (λ e. AreCounted (below (came_at lines) e) (below (went_at lines) e) c.loop-place.counts) last
+          (places-none (came_at lines) (went_at lines) place (end - place) c.loop-place.counts
+          (λ p t from low. let same = alike p from (omega (arith, far, low)) t in (λ i. has_risen (same.1 i) (same.0 i)) ∙ none-came lines place stays t)
+          (λ p t from low. let same = alike p from (omega (arith, far, low)) t in (λ i. has_risen (same.0 i) (same.1 i)) ∙ none-went lines place stays t) c.loop-place.invariant.all);
     }
 
 pub returns : goal.returns
 returns g c =
     let lines = c.args.lines.now in
-    let len = c.len-place-end.ensures.len in
+    let len = c.len.ensures.len in
     let past = c.loop-place-test.false in
-    let within = c.loop-place.auto.place-end in
+    let within = c.loop-place.invariant.within in
     let end : c.loop-place.place ≡ length lines.keys = omega (arith, len, past, within) in
-    change-count lines c.len-place-end.ensures.apart.distinct c.loop-place.counts
+    change-count lines c.len.ensures.apart.distinct c.loop-place.counts
     (subst (λ n. AreCounted (below (came_at lines) n) (below (went_at lines) n) c.loop-place.counts) end c.loop-place.invariant.all)
