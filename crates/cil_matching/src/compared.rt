@@ -18,28 +18,19 @@ pub struct Compared {
     order: Ordering,
 }
 
-/// How the name of the new policy's module at a place stands to that of the old one's at a place, by a look at their names. Few are asked
-/// for, so it isn't inlined where rules are gone along.
+/// How the name of the new policy's module at a place stands to that of the old one's, by a look at their names. Few are asked for, so it
+/// isn't inlined where rules are gone along.
 #[inline(never)]
-fn compare_modules<A: Allocator>(
-    known: &mut Option<Compared>,
+fn compare_names<A: Allocator>(
     old: &Resolved<A>,
     first: u32,
     new: &Resolved<A>,
     second: u32,
 ) -> Ordering
-    requires { IfSome known.old (AreCompared old.now new.now) }
-    ensures known { IfSome known.new (AreCompared old.now new.now) }
-    ensures order { result ≡ name_cmp (slice_index_or new.now.modules.items second [])
+    ensures { result ≡ name_cmp (slice_index_or new.now.modules.items second [])
         (slice_index_or old.now.modules.items first []) }
 {
-    let order = new.module(second as usize).cmp(old.module(first as usize));
-    *known = Some(Compared {
-        first,
-        second,
-        order,
-    });
-    order
+    new.module(second as usize).cmp(old.module(first as usize))
 }
 
 /// How the name of the new policy's module at a place stands to that of the old one's at a place. Where
@@ -61,7 +52,13 @@ pub fn order_of_modules<A: Allocator>(
             return last.order;
         }
     }
-    compare_modules(known, old, first, new, second)
+    let order = compare_names(old, first, new, second);
+    *known = Some(Compared {
+        first,
+        second,
+        order,
+    });
+    order
 }
 
 /// The order by modules, and then by offsets. Mostly both are equal, which is told first.

@@ -55,6 +55,10 @@ pub naming-there : (policy : List Placed) (places : List ℕ) (k : ℕ) → AreN
     → (s : Placed) × (slice_get (naming policy) k ≡ Some s) × (slice_get policy (get_or places k 0) ≡ Some s)
 naming-there policy places k is within = name-there policy places (naming policy) k is.are within
 
+-- the place is that of a statement
+pub naming-within : (policy : List Placed) (places : List ℕ) (k : ℕ) → AreNaming policy places → k < length places → get_or places k 0 < length policy
+naming-within policy places k is within = let (s, among, at) = naming-there policy places k is within in slice_get_within policy (get_or places k 0) s at
+
 pub naming-all : (policy : List Placed) (places : List ℕ) (k : ℕ) → AreNaming policy places → length places ≤ k → take k (naming policy) ≡ naming policy
 naming-all policy places k is past = let long = naming-length policy places is in take_all k (naming policy) (omega (arith, long, past))
 

@@ -1,19 +1,17 @@
-use Rattle.cil_resolve.proofs.Common.{◌≡◌, ◌<◌, ◌∙◌, length, get_or, sym, arith, rules, length-set, slice_get_within, types, «Type»}
+use Rattle.cil_resolve.proofs.Common.{◌≡◌, ◌<◌, ◌∙◌, length, get_or, sym, arith, rules, length-set, types, «Type»}
 use Rattle.cil_resolve.proofs.ElementLemmas.{first-declares}
-use Rattle.cil_resolve.proofs.NamingLemmas.{FitsElement, naming-there, fill-next, filled-at, type-naming}
+use Rattle.cil_resolve.proofs.NamingLemmas.{FitsElement, naming-within, fill-next, filled-at, type-naming}
 use Rattle.cil_resolve.proofs.elements.elements.Goals as goal
 
 pub element_at-requires : goal.element_at-requires
 element_at-requires g c =
     let (policy, noted, naming) = c.requires in
-    let (s, among, at) = naming-there policy c.args.naming.now c.loop-k.k naming c.loop-k-test.true in
-    (policy, noted, slice_get_within policy _ s at)
+    (policy, noted, naming-within policy c.args.naming.now c.loop-k.k naming c.loop-k-test.true)
 
 pub index_mut-requires : goal.index_mut-requires
 index_mut-requires g c =
     let (policy, noted, naming) = c.requires in
-    let (s, among, at) = naming-there policy c.args.naming.now c.loop-k.k naming c.loop-k-test.true in
-    let low = slice_get_within policy _ s at in
+    let low = naming-within policy c.args.naming.now c.loop-k.k naming c.loop-k-test.true in
     let long = c.loop-k.invariant.long policy noted in
     let below : get_or c.args.naming.now c.loop-k.k 0 < length c.loop-k.elements.items = omega (arith, low, long) in
     search rules
@@ -33,8 +31,7 @@ loop-k-preserved g c =
     record {
       long = λ policy noted. length-set c.loop-k.elements.items place c.element_at.result ∙ c.loop-k.invariant.long policy noted;
       made = λ names policy noted faultless naming have.
-          let (s, among, at) = naming-there policy c.args.naming.now k naming c.loop-k-test.true in
-          let low = slice_get_within policy place s at in
+          let low = naming-within policy c.args.naming.now k naming c.loop-k-test.true in
           let long = c.loop-k.invariant.long policy noted in
           fill-next (FitsElement names policy) («Type» 0) c.args.naming.now k c.element_at.result c.loop-k.elements.items c.loop-k-test.true (omega (arith, low, long))
           (λ t there first set. c.element_at.ensures names policy t noted faultless have there first set)

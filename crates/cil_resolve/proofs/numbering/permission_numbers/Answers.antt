@@ -1,6 +1,6 @@
-use Rattle.cil_resolve.proofs.Common.{◌≡◌, ◌+◌, ◌++◌, ◌∙◌, length, take, sym, ap, subst, arith, append-nil, AllByRecursion, has_name, texts, own_permissions, permissions_in, texts_of, IsOneName, lists_own, own-listed, none-listed, slice_get_within, naming, kind_of, names_with, listed_names, HavePermissionsOf}
+use Rattle.cil_resolve.proofs.Common.{◌≡◌, ◌+◌, ◌++◌, ◌∙◌, length, take, sym, ap, subst, arith, append-nil, AllByRecursion, has_name, texts, own_permissions, permissions_in, texts_of, IsOneName, lists_own, own-listed, none-listed, naming, kind_of, names_with, listed_names, HavePermissionsOf}
 use Rattle.cil_resolve.proofs.NumberLemmas.{has-words, named-in, own-named}
-use Rattle.cil_resolve.proofs.NamingLemmas.{naming-there, naming-all, flat-naming, not-listing}
+use Rattle.cil_resolve.proofs.NamingLemmas.{naming-there, naming-within, naming-all, flat-naming, not-listing}
 use Rattle.cil_resolve.proofs.StatementLemmas.{contained, flat-one}
 use Rattle.cil_resolve.proofs.numbering.permission_numbers.Goals as goal
 use Rattle.cil_resolve.proofs.numbering.permission_numbers.Goals.{then-lists_own+in_ok-note_words, else-lists_own}
@@ -8,14 +8,12 @@ use Rattle.cil_resolve.proofs.numbering.permission_numbers.Goals.{then-lists_own
 pub kind-requires : goal.kind-requires
 kind-requires g c =
     let (policy, is, places, are) = c.requires.is in
-    let (s, among, at) = naming-there policy c.args.naming.now c.loop-k.k places c.loop-k-test.true in
-    (policy, is, slice_get_within policy _ s at)
+    (policy, is, naming-within policy c.args.naming.now c.loop-k.k places c.loop-k-test.true)
 
 pub seen-seen-requires : goal.seen-seen-requires
 seen-seen-requires g c =
     let (policy, is, places, are) = c.requires.is in
-    let (s, among, at) = naming-there policy c.args.naming.now c.loop-k.k places c.loop-k-test.true in
-    record { is = (policy, is, slice_get_within policy _ s at) }
+    record { is = (policy, is, naming-within policy c.args.naming.now c.loop-k.k places c.loop-k-test.true) }
 
 pub note_words-requires : goal.note_words-requires
 note_words-requires g c =

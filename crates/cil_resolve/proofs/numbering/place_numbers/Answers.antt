@@ -1,6 +1,6 @@
 use Rattle.cil_resolve.proofs.Common.{◌≡◌, ◌<◌, ◌∙◌, [], length, get_or, sym, ap, arith, rules, length-set, same_Some, slice_get_within, full_name_of, naming, kind_of}
 use Rattle.cil_resolve.proofs.FullNamesLemmas.{kind-numbered}
-use Rattle.cil_resolve.proofs.NamingLemmas.{FitsPlace, naming-there, fill-next, filled-at, numbered-naming}
+use Rattle.cil_resolve.proofs.NamingLemmas.{FitsPlace, naming-there, naming-within, fill-next, filled-at, numbered-naming}
 use Rattle.cil_resolve.proofs.StatementLemmas.{mapped-at}
 use Rattle.cil_resolve.proofs.numbering.place_numbers.Goals as goal
 
@@ -14,8 +14,7 @@ place_number-requires g c =
 pub index_mut-requires : goal.index_mut-requires
 index_mut-requires g c =
     let (policy, is, places, full, are) = c.requires.is in
-    let (s, among, at) = naming-there policy c.args.naming.now c.loop-k.k places c.loop-k-test.true in
-    let low = slice_get_within policy _ s at in
+    let low = naming-within policy c.args.naming.now c.loop-k.k places c.loop-k-test.true in
     let long = c.loop-k.invariant.long policy is in
     let below : get_or c.args.naming.now c.loop-k.k 0 < length c.loop-k.places.items = omega (arith, low, long) in
     search rules
