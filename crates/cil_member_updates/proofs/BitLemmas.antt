@@ -1,5 +1,5 @@
 -- Bits of words.
-use Rattle.cil_member_updates.proofs.Common.{◌≡◌, ◌≢◌, ◌==◌, ◌+◌, ◌*◌, ◌/◌, ◌%◌, ◌^◌, ◌<◌, ◌≤◌, ◌&&◌, ℕ, Bool, true, false, bit_and, bit_or, nat_lt, refl, sym, ap, ◌∙◌, inl, inr, arith, w64, below_more, cases_lt, eq-eqb, ne_eqb, le-ltb, shr_and_one, bit_at_and, bit_at_or, bit_at_set_same, bit_at-lt, bit_at-pow_same, bit_at-pow_other, bit_at-zero, and-false, bit_at, IsPresence, one_if, differ, AreBits, Cover, CoverAmong}
+use Rattle.cil_member_updates.proofs.Common.{◌≡◌, ◌≢◌, ◌==◌, ◌+◌, ◌-◌, ◌*◌, ◌/◌, ◌%◌, ◌^◌, ◌<◌, ◌≤◌, ◌&&◌, ℕ, Bool, true, false, bit_and, bit_or, nat_lt, refl, sym, ap, ◌∙◌, inl, inr, arith, trailing_zeros, up_to, w64, below_more, cases_lt, eq-eqb, ne_eqb, le-ltb, lt-ltb, bit_at_and, bit_at_or, bit_at_set_same, bit_at-lt, bit_at-pow_same, bit_at-pow_other, bit_at-trailing_zeros, bit_at-zero, bit_at_above, div-le_self, shr-shr, and-false, bit_at, IsPresence, one_if, differ, AreBits, Cover, CoverAmong}
 
 pub cover-first : (test : ℕ → Bool) (word one other : ℕ) → Cover test word one → Cover test word (bit_or one other)
 cover-first test word one other covers b within none = covers b within (omega (arith, none, bit_at_or one other b))
@@ -28,19 +28,22 @@ pub record HeldBelow (visits : ℕ) (test : ℕ → Bool) (word b mask : ℕ) : 
   pub below : (k : ℕ) → k < b → bit_at mask k ≡ one_if ((bit_at visits k == 1) && test (64 * word + k))
   pub behind : (k : ℕ) → b ≤ k → bit_at mask k ≡ 0
 
+pub held-none : (visits : ℕ) (test : ℕ → Bool) (word : ℕ) → HeldBelow visits test word 0 0
+held-none visits test word = record {
+  below = λ k low. absurd (omega (arith, low));
+  behind = λ k high. bit_at-zero k;
+}
+
 module _ (visits : ℕ) (test : ℕ → Bool) (word b mask : ℕ) (held : HeldBelow visits test word b mask) where
-  -- no bit at a symbol where the test isn't asked for or fails
-  pub held-skip : ((bit_at visits b == 1) && test (64 * word + b)) ≡ false → HeldBelow visits test word (b + 1) mask
-  held-skip fails = record {
+  -- no bits at symbols where the test isn't asked for or fails
+  pub held-past : (next : ℕ) → b ≤ next → ((k : ℕ) → b ≤ k → k < next → ((bit_at visits k == 1) && test (64 * word + k)) ≡ false) → HeldBelow visits test word next mask
+  held-past next on fails = record {
     below = λ k low. elim (cases_lt k b) [
       | inl before ↦ held.below k before
-      | inr last ↦ at k (omega (arith, low, last))
+      | inr past ↦ held.behind k past ∙ sym (ap one_if (fails k past low))
     ];
-    behind = λ k high. held.behind k (omega (arith, high));
+    behind = λ k high. held.behind k (omega (arith, on, high));
   }
-    where
-      at : (k : ℕ) → k ≡ b → bit_at mask k ≡ one_if ((bit_at visits k == 1) && test (64 * word + k))
-      at k same = held.behind k (omega (arith, same)) ∙ sym (ap one_if (ap (λ j. (bit_at visits j == 1) && test (64 * word + j)) same ∙ fails))
 
   -- the bit where the test is asked for
   pub held-add : (answer : Bool) (more : ℕ) → b < 64 → bit_at visits b ≡ 1 → answer ≡ test (64 * word + b) → bit_at more b ≡ one_if answer → ((k : ℕ) → k ≢ b → bit_at more k ≡ 0)
@@ -109,17 +112,14 @@ cover-more tests k word bits more covers next =
 
 -- A symbol that is looked at is a kept one; at any other no mask has a bit.
 module _ (keeps test : ℕ → Bool) (word visits kept b : ℕ) (within : b < 64) (are : AreBits keeps word kept) where
-  looked : bit_and (bit_and visits kept / 2 ^ b) 1 ≡ bit_at (bit_and visits kept) b
-  looked = shr_and_one (bit_and visits kept) b
+  pub looked-visit : bit_at (bit_and visits kept) b ≡ 1 → bit_at visits b ≡ 1
+  looked-visit is = omega (arith, is, bit_at_and visits kept b, bit_at-lt visits b, bit_at-lt kept b)
 
-  pub looked-visit : bit_and (bit_and visits kept / 2 ^ b) 1 ≡ 1 → bit_at visits b ≡ 1
-  looked-visit is = omega (arith, is, looked, bit_at_and visits kept b, bit_at-lt visits b, bit_at-lt kept b)
-
-  pub looked-kept : bit_and (bit_and visits kept / 2 ^ b) 1 ≡ 1 → keeps (64 * word + b) ≡ true
+  pub looked-kept : bit_at (bit_and visits kept) b ≡ 1 → keeps (64 * word + b) ≡ true
   looked-kept is = by (keeps (64 * word + b)) refl
     where
       set : bit_at kept b ≡ 1
-      set = omega (arith, is, looked, bit_at_and visits kept b, bit_at-lt visits b, bit_at-lt kept b)
+      set = omega (arith, is, bit_at_and visits kept b, bit_at-lt visits b, bit_at-lt kept b)
 
       by : (h : Bool) → keeps (64 * word + b) ≡ h → h ≡ true
       by true e = refl
@@ -128,11 +128,50 @@ module _ (keeps test : ℕ → Bool) (word visits kept b : ℕ) (within : b < 64
           apart : bit_at kept b ≡ 0 → ⊥
           apart none = omega (arith, set, none)
 
-  pub looked-past : (bit_and (bit_and visits kept / 2 ^ b) 1 ≡ 1 → ⊥) → (keeps (64 * word + b) ≡ false → test (64 * word + b) ≡ false) → ((bit_at visits b == 1) && test (64 * word + b)) ≡ false
-  looked-past not fails = by (keeps (64 * word + b)) refl
+  pub looked-past : bit_at (bit_and visits kept) b ≡ 0 → (keeps (64 * word + b) ≡ false → test (64 * word + b) ≡ false) → ((bit_at visits b == 1) && test (64 * word + b)) ≡ false
+  looked-past none fails = by (keeps (64 * word + b)) refl
     where
       by : (h : Bool) → keeps (64 * word + b) ≡ h → ((bit_at visits b == 1) && test (64 * word + b)) ≡ false
       by false e = ap (λ x. (bit_at visits b == 1) && x) (fails e) ∙ and-false (bit_at visits b == 1)
       by true e =
           ap (λ x. x && test (64 * word + b))
-          (ne_eqb (bit_at visits b) 1 (λ set. not (let one = are b within ∙ ap one_if e in omega (arith, looked, bit_at_and visits kept b, set, one))))
+          (ne_eqb (bit_at visits b) 1 (λ set. let one = are b within ∙ ap one_if e in omega (arith, none, bit_at_and visits kept b, set, one)))
+
+-- ---- the next bit that is 1
+
+module _ (bits from : ℕ) where
+  shifted : (i : ℕ) → bit_at (bits / 2 ^ from) i ≡ bit_at bits (from + i)
+  shifted i = ap (λ m. m % 2) (shr-shr bits from i)
+
+  clear-at : (k : ℕ) → from ≤ k → bit_at (bits / 2 ^ from) (k - from) ≡ 0 → bit_at bits k ≡ 0
+  clear-at k low none = let place : k ≡ from + (k - from) = omega (arith, low) in ap (bit_at bits) place ∙ sym (shifted (k - from)) ∙ none
+
+  pub none-behind : bits / 2 ^ from ≡ 0 → (k : ℕ) → from ≤ k → bit_at bits k ≡ 0
+  none-behind none k low = clear-at k low (ap (λ n. bit_at n (k - from)) none ∙ bit_at-zero (k - from))
+
+  module _ (fits : bits < 2 ^ 64) (some : bits / 2 ^ from ≢ 0) where
+    lowest : (trailing_zeros w64 (bits / 2 ^ from) < 64) × (bit_at (bits / 2 ^ from) (trailing_zeros w64 (bits / 2 ^ from)) ≡ 1)
+        × ((i : ℕ) → i < trailing_zeros w64 (bits / 2 ^ from) → bit_at (bits / 2 ^ from) i ≡ 0)
+    lowest = bit_at-trailing_zeros w64 (bits / 2 ^ from) (omega (arith, some)) (let less = div-le_self bits (2 ^ from) in omega (arith, less, fits))
+
+    pub first-set : bit_at bits (from + trailing_zeros w64 (bits / 2 ^ from)) ≡ 1
+    first-set = sym (shifted (trailing_zeros w64 (bits / 2 ^ from))) ∙ lowest.1
+
+    pub first-within : from + trailing_zeros w64 (bits / 2 ^ from) < 64
+    first-within = elim (cases_lt (from + trailing_zeros w64 (bits / 2 ^ from)) 64) [
+      | inl low ↦ low
+      | inr high ↦ let none = bit_at_above bits 64 (from + trailing_zeros w64 (bits / 2 ^ from)) fits high in absurd (omega (arith, none, first-set))
+    ]
+
+    pub first-clear : (k : ℕ) → from ≤ k → k < from + trailing_zeros w64 (bits / 2 ^ from) → bit_at bits k ≡ 0
+    first-clear k low high = clear-at k low (lowest.2 (k - from) (omega (arith, low, high)))
+
+-- numbers that don't pass a test are passed by
+pub up_to-past : (p : ℕ → Bool) (from next : ℕ) → from ≤ next → ((k : ℕ) → from ≤ k → k < next → p k ≡ false) → (k : ℕ) → up_to p from k ≡ up_to p next k
+up_to-past p from next on fails k = elim (cases_lt k from) [
+  | inl low ↦ ap (λ b. b && p k) (lt-ltb k from low ∙ sym (lt-ltb k next (omega (arith, low, on))))
+  | inr past ↦ elim (cases_lt k next) [
+    | inl before ↦ ap (λ b. b && p k) (le-ltb k from past) ∙ sym (ap (λ b. b && p k) (lt-ltb k next before) ∙ fails k past before)
+    | inr above ↦ ap (λ b. b && p k) (le-ltb k from past ∙ sym (le-ltb k next above))
+  ]
+]

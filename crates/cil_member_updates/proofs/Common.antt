@@ -33,18 +33,19 @@ unfoldable pub use Rattle.cil_specs.specs.Members.{is_member}
 pub use Rattle.cil_specs.specs.Rule.{Declared, Element, IsSameSet, SetStatement, a_type, an_attribute}
 pub use Rattle.cil_specs.specs.Sets.{differ, holds_with, is_the_attribute, mentions}
 pub use Rattle.cil_sums.proofs.SumLemmas.{across-none, across-some, alone-most, alone-none, alone-some, sum-differs, sum-more, sum-most, sum-none, sum-part, sum-rest, sum-sides, sum-zero}
-pub use Rattle.cil_sums.proofs.WithinLemmas.{up_to-add, up_to-skip, up_to-some, within-both, within-by, within-either, within-first, within-map, within-next, within-none, within-weaker}
+pub use Rattle.cil_sums.proofs.WithinLemmas.{up_to-add, up_to-first, up_to-some, within-both, within-by, within-either, within-first, within-map, within-next, within-none, within-weaker}
 pub use Rattle.cil_sums.specs.Rises.{RisesBy, RisesWithin, UpTo, up_to}
 pub use Rattle.cil_sums.specs.Sums.{ArePlaces, across, alone, sum_below}
-pub use Rattle.std.proofs.Common.{Bool, IsTrue, List, None, Option, Some, [], add-one, ap, arith, below_more, bit_and, bit_or, bit_xor, bytes_eq, cond, count_by, false, get_or, get_or-set_other, get_or-set_same, inl, inr, length, map, min, nat_lt, of_calls, option_map, refl, replicate, rules, set, slice_get, slice_index, subst, suc, sym, take, true, w64, zero, zero-add, ℕ, ◌%◌, ◌&&◌, ◌*◌, ◌++◌, ◌+◌, ◌-◌, ◌/◌, ◌<◌, ◌==◌, ◌^◌, ◌||◌, ◌∙◌, ◌∷◌, ◌≡◌, ◌≢◌, ◌≤◌, ◌⊎◌}
+pub use Rattle.std.proofs.Common.{Bool, IsTrue, List, None, Option, Some, [], add-one, ap, arith, below_more, bit_and, bit_or, bit_xor, bytes_eq, cond, count_by, div-le_self, false, get_or, get_or-set_other, get_or-set_same, inl, inr, length, map, min, nat_lt, of_calls, option_map, refl, replicate, rules, set, slice_get, slice_index, subst, suc, sym, take, true, w64, zero, zero-add, ℕ, ◌%◌, ◌&&◌, ◌*◌, ◌++◌, ◌+◌, ◌-◌, ◌/◌, ◌<◌, ◌==◌, ◌^◌, ◌||◌, ◌∙◌, ◌∷◌, ◌≡◌, ◌≢◌, ◌≤◌, ◌⊎◌}
 pub use Rattle.std.proofs.Math.Bool.{and-false, or-false, or-true}
 pub use Rattle.std.proofs.lemmas.Bool.{and_parts, cases_Bool, cases_eq, cases_lt, eq-eqb, eqb-true, le-ltb, lt-ltb, ltb-true, ne_eqb, or_parts, true≢false}
 pub use Rattle.std.proofs.lemmas.List.{length-append, length-map, length-set, take_all}
 pub use Rattle.std.proofs.lemmas.List.Elements.{All-append, All-contains, All-map, Contains-get_or}
-pub use Rattle.std.proofs.lemmas.Nat.Bits.{bit_at-lt, bit_at-pow_other, bit_at-pow_same, bit_at-zero, bit_at_and, bit_at_or, bit_at_set_other, bit_at_set_same, bit_at_xor, shr_and_one}
+pub use Rattle.std.proofs.lemmas.Nat.{shr-shr}
+pub use Rattle.std.proofs.lemmas.Nat.Bits.{bit_at-lt, bit_at-pow_other, bit_at-pow_same, bit_at-trailing_zeros, bit_at-zero, bit_at_above, bit_at_and, bit_at_or, bit_at_set_other, bit_at_set_same, bit_at_xor}
 pub use Rattle.std.proofs.lemmas.Option.{get_or_from_slice_get, none-some, same_Some, slice_get-get_or, slice_get_past, slice_get_read, slice_get_within}
 pub use Rattle.std.proofs.lemmas.Result.{on_ok_weaker}
 pub use Rattle.std.proofs.lemmas.Slice.Eq.{bytes_eq-Decides}
-pub use Rattle.std.specs.Int.{bit_at}
+pub use Rattle.std.specs.Int.{bit_at, trailing_zeros}
 pub use Rattle.std.specs.List.{All, AllByRecursion, AllPairs, Contains, list_any}
 unfoldable pub use Rattle.std.specs.List.{IsDistinct}

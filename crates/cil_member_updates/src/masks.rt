@@ -1,6 +1,7 @@
 //! The types of a word that a set statement holds.
 
-ghost use Rattle.std.specs.Prelude.{◌≡◌, ◌*◌, ◌%◌, ◌<◌, ◌^◌, slice_index};
+ghost use Rattle.std.specs.Prelude.{◌≡◌, ◌*◌, ◌%◌, ◌<◌, ◌≤◌, ◌^◌, ℕ, slice_index};
+ghost use Rattle.std.specs.Int.{bit_at};
 ghost use Rattle.cil_member_updates.specs.Common.{adjustments_in, evaluations_in, held_by, EvaluatesOnce, MayHold, Reads, TellsMember, AreHeld, is_asked};
 ghost use Rattle.cil_member_updates.specs.Counts.{one_if};
 ghost use Rattle.cil_sums.specs.Rises.{RisesBy};
@@ -74,6 +75,24 @@ fn held_bit<A: Allocator>(
     }
 }
 
+/// The place of the first bit from one on that is 1, or how many bits a word has where there is none.
+fn next_bit(bits: u64, from: usize) -> usize
+    requires { from ≤ 64 }
+    ensures from_on { from ≤ result }
+    ensures within { result ≤ 64 }
+    ensures clear { (k : ℕ) → from ≤ k → k < result → bit_at bits k ≡ 0 }
+    ensures set { result < 64 → bit_at bits result ≡ 1 }
+{
+    if from >= WORD {
+        return WORD;
+    }
+    let behind = bits >> from;
+    if behind == 0 {
+        return WORD;
+    }
+    from + behind.trailing_zeros() as usize
+}
+
 /// The types of a word that a set statement holds, among those of some bits.
 pub fn masked<A: Allocator>(
     reading: &Reading<'_, A>,
@@ -91,10 +110,10 @@ pub fn masked<A: Allocator>(
 {
     let kept = visits & reading.side.kept.word(word);
     let mut mask = 0;
-    for b in 0..WORD {
-        if (kept >> b) & 1 == 1 {
-            mask |= held_bit(reading, rows, WORD * word + b, meter);
-        }
+    let mut b = next_bit(kept, 0);
+    while b < WORD {
+        mask |= held_bit(reading, rows, WORD * word + b, meter);
+        b = next_bit(kept, b + 1);
     }
     mask
 }
