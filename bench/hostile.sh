@@ -166,6 +166,17 @@ themselves() {
     }'
 }
 
+# one set statement that lists all types by their names
+listed() {
+    awk -v k="$1" 'BEGIN {
+        print "(typeattribute a)"
+        for (i = 0; i < 2500 * k; i++) printf "(type t%d)\n", i
+        printf "(typeattributeset a ("
+        for (i = 0; i < 2500 * k; i++) printf "t%d ", i
+        print "))"
+    }'
+}
+
 # attributes that each have one type more than the last, and a rule of each to itself
 growing() {
     awk -v k="$1" 'BEGIN {
@@ -176,7 +187,7 @@ growing() {
     }'
 }
 
-for shape in ${1:-common commons blocks sets repeats brackets dotted chain statements nots named many idle shared turns themselves growing}; do
+for shape in ${1:-common commons blocks sets repeats brackets dotted chain statements nots named many idle shared turns themselves growing listed}; do
     for k in 1 4; do
         "$shape" "$k" > "$folder/text"
         script_of_text
