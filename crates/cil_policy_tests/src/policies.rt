@@ -143,7 +143,12 @@ fn lead_to(bound: &References<'_>, want: &[Option<u32>]) -> bool {
 }
 
 // Whether so many statements are bound, and some of them to these.
-fn is_bound(policy: &Policy<'_>, joined: &Joined<'_>, len: usize, rows: &[Bound]) -> bool {
+fn is_bound<'p>(
+    policy: &'p Policy<'_>,
+    joined: &'p Joined<'_>,
+    len: usize,
+    rows: &[Bound],
+) -> bool {
     for (place, want) in rows {
         let Some(bound) = references(policy, joined, *place) else {
             return false;
