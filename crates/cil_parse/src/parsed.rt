@@ -1,13 +1,13 @@
 //! Modules that borrow nothing.
 
-ghost use Rattle.std.specs.Prelude.{◌≡◌, ◌<◌, [], List, length, slice_get, slice_index_or, Some, IfOk, IfErr};
-ghost use Rattle.cil_specs.specs.Lookup.{texts};
+ghost use Rattle.std.specs.Prelude.{◌≡◌, ◌<◌, [], List, length, map, slice_get, slice_index_or, Some, IfOk, IfErr};
+ghost use Rattle.cil_specs.specs.Lookup.{references, texts};
 ghost use Rattle.cil_specs.specs.Names.{components as components_of};
 ghost use Rattle.cil_specs.specs.Shape.{IsFirstShapeFault};
 ghost use Rattle.cil_specs.specs.Statements.{Statements};
 ghost use Rattle.cil_text.specs.Image.{FaultIs};
 ghost use Rattle.cil_reader.specs.Forest.{forest_of};
-ghost use Rattle.cil_parse.specs.Citations.{AreCitedBy};
+ghost use Rattle.cil_parse.specs.Citations.{AreCited, AreCitedBy};
 ghost use Rattle.cil_parse.specs.Lexicon.{texts_in, names_in, AreNumbersOf, AreSplit};
 ghost use Rattle.cil_parse.specs.Flat.{FlatStatement, flat, count};
 ghost use Rattle.cil_parse.specs.Forms.{kind_of, permissions_in};
@@ -176,6 +176,8 @@ impl<A: Allocator> ParsedModule<A> {
     pub fn cited(&self, i: usize) -> &[u32]
         requires { i < statement_count self.now }
         ensures numbers { result.now ≡ cited_by self.now i }
+        ensures are { (statements : Statements) (f : FlatStatement) → Spells self.now statements → slice_get (flat 0 0 0 statements) i ≡ Some f
+            → AreCited (texts_of self.now) (citations_of self.now) f.block (references f.form) result.now }
     {
         self.citations.numbers.get(i)
     }
@@ -188,6 +190,15 @@ impl<A: Allocator> ParsedModule<A> {
         ensures list { (statements : Statements) (f : FlatStatement) → Spells self.now statements → slice_get (flat 0 0 0 statements) i ≡ Some f → slice_index_or (permission_lists_of self.now) result [] ≡ texts (permissions_in f.form) }
     {
         self.permission_lists.numbers[i] as usize
+    }
+
+    /// The numbers of the texts of the list of permissions of a number, in the order of the text.
+    pub fn permission_texts(&self, n: usize) -> &[u32]
+        requires { n < length (permission_lists_of self.now) }
+        ensures { map (λ t. slice_index_or (texts_of self.now) t []) result.now
+            ≡ slice_index_or (permission_lists_of self.now) n [] }
+    {
+        self.permission_lists.lists.get(n)
     }
 
     /// How many distinct lists of permissions its statements name.
