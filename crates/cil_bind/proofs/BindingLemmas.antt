@@ -88,7 +88,3 @@ kind-at policy kinds i s d are at = ap (λ l. get_or l i d) are ∙ there policy
     there [] i e = absurd (none-some s e)
     there (x ∷ xs) zero e = ap (λ t. kind_of t.form) (same_Some x s e)
     there (x ∷ xs) (suc i) e = there xs i e
-
--- what is read at a place of a list
-pub place-told : (places : List (Option ℕ)) (i : ℕ) (o found : Option ℕ) → i < length places → o ≡ get_or places i o → found ≡ o → get_or places i None ≡ found
-place-told places i o found low is told = get_or_from_slice_get places i o None (slice_get-get_or places i o low ∙ ap Some (sym is)) ∙ sym told

@@ -2,7 +2,7 @@
 pub use Rattle.cil_bind.specs.Binding.{AreBound, AreLeads, bound_in, bound_rows, kinds_of, leads_at}
 pub use Rattle.cil_bind.specs.Ordered.{AreOrdered, IsBefore, IsLeast, IsRising, offsets_in, offsets_of}
 pub use Rattle.cil_bind.specs.Policy.{AreMarked, IsFirstAgain, IsNumbered, IsTold, bound_of, fault_of}
-pub use Rattle.cil_bind.specs.Rows.{AreNumbered, AreRows, DeclareThat, IsDeclared, IsOnce, IsRow, IsTaken, is_optional_row}
+pub use Rattle.cil_bind.specs.Rows.{AreNumbered, AreRows, DeclareThat, IsDeclared, IsOnce, IsRow, IsTaken, declares_name, is_optional_row, kinds_told}
 pub use Rattle.cil_bind.specs.Scope.{AreAround, AreBlockSpaces, AreFrom, AreSpaced, AreSpelt, HaveModule, IsAround, IsBlockSpace, IsFrom, IsOpenedIn, IsSpaced, Stands, StandsFor, block_word, is_optional_kind, optional_number}
 pub use Rattle.cil_bind.specs.Words.{AreAllLed, AreLed, AreWorded, Comes, IsLed, LeadsTo}
 pub use Rattle.cil_bind.specs.declared.joined.NamedModule.{NamedModule}

@@ -1,5 +1,5 @@
 -- What statements declare, and the entries that have it.
-use Rattle.cil_bind.proofs.Common.{◌≡◌, ℕ, zero, suc, ◌+◌, ◌<◌, ◌≤◌, Bool, true, false, not, ◌&&◌, ◌==◌, cond, List, [], ◌∷◌, ◌++◌, length, get_or, take, drop, Contains, Option, Some, None, is_some, bytes_eq, position, if◌then◌else◌, refl, sym, ap, ◌∙◌, subst, add-one, append_assoc, true≢false, arith, list_any, AllByRecursion, lookup, option_or, eqb-true, eq-eqb, le-ltb, none-some, same_Some, get_or_from_slice_get, position-Some, take_all, take-append-drop, Word, is_optional, Placed, Table, types, classes, commons, permission_sets, scopes, declared_in, declares, is_word, same_namespace, both_true, first_true, second_true, contains-first, stands, same_place, later, earlier, table-in, twice-some, twice-nothing, PassesAmong, passes-among, any-middle, one-namespace, word_at, named, namespace_at, table_of, table_index, is_key, HaveDeclared, IsDeclared, IsRow, AreRows, AreNumbered, IsOnce, IsTaken, is_optional_row, Key, Row}
+use Rattle.cil_bind.proofs.Common.{◌≡◌, ℕ, zero, suc, ◌+◌, ◌<◌, ◌≤◌, Bool, true, false, not, ◌&&◌, ◌==◌, cond, List, [], ◌∷◌, ◌++◌, length, get_or, take, drop, Contains, Option, Some, None, is_some, bytes_eq, position, if◌then◌else◌, refl, sym, ap, ◌∙◌, subst, add-one, append_assoc, true≢false, arith, list_any, AllByRecursion, lookup, option_or, eqb-true, eq-eqb, le-ltb, none-some, same_Some, get_or_from_slice_get, position-Some, take_all, take-append-drop, Word, is_optional, Placed, Table, types, classes, commons, permission_sets, scopes, declared_in, declares, is_word, same_namespace, both_true, first_true, second_true, contains-first, stands, same_place, later, earlier, table-in, twice-some, twice-nothing, PassesAmong, passes-among, any-middle, one-namespace, word_at, named, namespace_at, table_of, table_index, is_key, HaveDeclared, IsDeclared, IsRow, AreRows, AreNumbered, IsOnce, IsTaken, is_optional_row, kind_of, kinds_of, kinds_told, Key, Row, StatementKind}
 use Rattle.std.proofs.Common.{slice_get}
 use Rattle.indexmap.specs.IndexMap.{insert_entry}
 use Rattle.cil_specs.specs.PolicyFault.{twice, is_again, twice_words}
@@ -245,6 +245,20 @@ rows-length names spaces [] [] are = refl
 rows-length names spaces [] (p ∷ policy) are = absurd are
 rows-length names spaces (r ∷ rows) [] are = absurd are
 rows-length names spaces (r ∷ rows) (p ∷ policy) are = ap suc (rows-length names spaces rows policy are.1)
+
+-- the kind of a statement, as the rows tell it
+pub kind-told : (names spaces : List (List ℕ)) (rows : List Row) (policy : List Placed) (k : ℕ) (s : Placed) (d : StatementKind) → AreRows names spaces rows policy → slice_get policy k ≡ Some s → get_or (kinds_told rows) k d ≡ kind_of s.form
+kind-told names spaces [] [] k s d are at = absurd (none-some s at)
+kind-told names spaces [] (p ∷ policy) k s d are at = absurd are
+kind-told names spaces (r ∷ rows) [] k s d are at = absurd are
+kind-told names spaces (r ∷ rows) (p ∷ policy) zero s d are at = are.0.kind ∙ ap (λ q. kind_of q.form) (same_Some p s at)
+kind-told names spaces (r ∷ rows) (p ∷ policy) (suc k) s d are at = kind-told names spaces rows policy k s d are.1 at
+
+pub kinds-are : (names spaces : List (List ℕ)) (rows : List Row) (policy : List Placed) → AreRows names spaces rows policy → kinds_told rows ≡ kinds_of policy
+kinds-are names spaces [] [] are = refl
+kinds-are names spaces [] (p ∷ policy) are = absurd are
+kinds-are names spaces (r ∷ rows) [] are = absurd are
+kinds-are names spaces (r ∷ rows) (p ∷ policy) are = λ i. are.0.kind i ∷ kinds-are names spaces rows policy are.1 i
 
 optional-at : (names spaces : List (List ℕ)) (rows : List Row) (policy : List Placed) (k : ℕ) (f : Placed) → AreRows names spaces rows policy → slice_get policy k ≡ Some f → is_optional_row (slice_get rows k) ≡ is_optional f.form
 optional-at names spaces [] [] k f are at = absurd (none-some f at)

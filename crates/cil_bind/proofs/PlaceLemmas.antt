@@ -65,13 +65,14 @@ pub placed-next : {A : Type 0} (p : ParsedModule A) (statements : Statements) (v
     → (IsDistinct bytes_eq names → IsDistinct bytes_eq (names ++ more)) → row.namespace < length spaces
     → (v.block ≡ 0 → row.namespace ≡ 0) → ((k : ℕ) (r : Row) → v.block ≡ suc k → slice_get rows (start + k) ≡ Some r → r.inside < length spaces → row.namespace ≡ r.inside)
     → ((form : Form) → (f : FlatStatement) × IsShown (texts_of p) v f × (f.form ≡ form) → IsDeclared (names ++ more) row.declares form)
-    → row.is_optional ≡ is_optional_kind v.kind → Opens spaces spaces' row.namespace (block_word v.kind row.declares) row.inside
+    → row.kind ≡ v.kind → row.is_optional ≡ is_optional_kind v.kind → Opens spaces spaces' row.namespace (block_word v.kind row.declares) row.inside
     → Stands (names ++ more) spaces' (rows ++ row ∷ []) (before ++ take (i + 1) (placed name [] [] statements))
-placed-next p statements v i names spaces more spaces' rows before name start row spells low long stands shows distinct within global inside declares optional opens =
+placed-next p statements v i names spaces more spaces' rows before name start row spells low long stands shows distinct within global inside declares kind optional opens =
     subst (Stands (names ++ more) spaces' (rows ++ row ∷ [])) whole
     (stands-next names spaces more spaces' rows (before ++ take i all) row it.0 stands distinct within
     (around-is names spaces rows before all start i v.block it.0.namespace row.namespace stands long (subst (λ n. IsBlockOf all i n it.0.namespace) (sym shown.block) here.is_block) global inside)
     (subst (IsDeclared (names ++ more) row.declares) (sym here.form) (declares f.0.form (f.0, shown, refl)))
+    (kind ∙ shown.kind ∙ ap kind_of (sym here.form))
     (optional ∙ ap is_optional_kind shown.kind ∙ kind-optional f.0.form ∙ ap is_optional (sym here.form))
     (subst (λ k. Opens spaces spaces' row.namespace (block_word k row.declares) row.inside) (shown.kind ∙ ap kind_of (sym here.form)) opens))
   where

@@ -30,17 +30,6 @@ from-kept parsed set kept (row ∷ rows) (s ∷ policy) marked are = by (mark ke
     by true false e rest = cc
     by false true e rest = cc
 
--- whatever is kept, the rows are those of some statements
-pub from-some : {A : Type 0} (parsed : List (NamedModule A)) (kept : List Bool) (rows : List Row) (policy : List Placed) → AreFrom parsed rows policy → (others : List Placed) × AreFrom parsed (filter (mark kept) rows) others
-from-some parsed kept [] [] are = ([], tt)
-from-some parsed kept [] (s ∷ policy) are = absurd are
-from-some parsed kept (row ∷ rows) [] are = absurd are
-from-some {A} parsed kept (row ∷ rows) (s ∷ policy) are = by (mark kept row) (from-some parsed kept rows policy are.1)
-  where
-    by : (b : Bool) → (others : List Placed) × AreFrom parsed (filter (mark kept) rows) others → (others : List Placed) × AreFrom parsed (cond b (row ∷ filter (mark kept) rows) (filter (mark kept) rows)) others
-    by true rest = (s ∷ rest.0, (are.0, rest.1))
-    by false rest = rest
-
 contains-kept : (set : Optionals) (policy : List Placed) (s : Placed) → is_within set s ≡ true → Contains policy s → Contains (restricted set policy) s
 contains-kept set [] s e there = absurd (omega (arith, there.1))
 contains-kept set (t ∷ policy) s e there = by (contains-kept set policy s e) (is_within set t) refl (contains-cases t policy s there)

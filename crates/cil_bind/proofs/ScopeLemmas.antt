@@ -1,5 +1,5 @@
 -- Statements of a joined policy by numbers.
-use Rattle.cil_bind.proofs.Common.{◌≡◌, ◌⊎◌, inl, inr, ℕ, zero, suc, ◌<◌, ◌≤◌, List, [], ◌∷◌, ◌++◌, length, get_or, Contains, Option, Some, None, bytes_eq, refl, sym, ap, ◌∙◌, subst, append-nil, arith, length-append, AllByRecursion, IsDistinct, option_map, get_or_append_left, none-some, same_Some, Word, Form, block, rule, anonymous, by_name, itself, the_named, is_optional, Placed, Table, types, classes, commons, permission_sets, scopes, declared_in, read, kind_of, NumberedWord, word_at, named, namespace_at, table_of, IsDeclared, IsRow, AreRows, AreNumbered, Opens, IsOpenedIn, Stands, block_word, is_optional_kind, StatementKind, Row}
+use Rattle.cil_bind.proofs.Common.{◌≡◌, ◌⊎◌, inl, inr, ℕ, zero, suc, ◌<◌, ◌≤◌, List, [], ◌∷◌, ◌++◌, length, get_or, Contains, Option, Some, None, false, bytes_eq, refl, sym, ap, ◌∙◌, subst, append-nil, arith, length-append, AllByRecursion, IsDistinct, option_map, get_or_append_left, none-some, same_Some, Word, true≢false, Form, block, class, class_permission, common, type_name, rule, anonymous, by_name, itself, the_named, is_optional, Placed, Table, types, classes, commons, permission_sets, scopes, declared_in, read, kind_of, NumberedWord, word_at, named, namespace_at, table_of, IsDeclared, IsRow, AreRows, AreNumbered, Opens, IsOpenedIn, Stands, block_word, is_optional_kind, StatementKind, Row, declares_name}
 use Rattle.std.proofs.Common.{slice_get}
 use Rattle.cil_text.specs.Image.{place_of}
 use Rattle.cil_parse.specs.declared.table.Table as code
@@ -80,6 +80,7 @@ row-grows names spaces more others row s are is =
       within = (let l = is.within in omega arith);
       here = namespace-grows names spaces more others row.namespace are is.within ∙ is.here;
       declares = declared-grows names more row.declares s.form is.declares;
+      kind = is.kind;
       optional = is.optional;
       inside = λ id e. let inner = is.inside id e in (omega (arith, inner.0), namespace-grows names spaces more others row.inside are inner.0 ∙ inner.1);
     }
@@ -138,6 +139,19 @@ kind-optional (rule kind source (the_named target) (anonymous the_class permissi
 kind-optional (rule kind source (the_named target) (by_name set)) = refl
 kind-optional _ = refl
 
+-- a statement of a kind that declares no name declares none
+pub kind-nothing : (table : Table) (form : Form) → declares_name (kind_of form) ≡ false → declared_in table form ≡ None
+kind-nothing types (type_name id) e = absurd (true≢false e)
+kind-nothing types _ e = cc
+kind-nothing classes (class id permissions) e = absurd (true≢false e)
+kind-nothing classes _ e = cc
+kind-nothing commons (common id permissions) e = absurd (true≢false e)
+kind-nothing commons _ e = cc
+kind-nothing permission_sets (class_permission id) e = absurd (true≢false e)
+kind-nothing permission_sets _ e = cc
+kind-nothing scopes (block id) e = absurd (true≢false e)
+kind-nothing scopes _ e = cc
+
 -- the word of a block
 word-block : (kind : StatementKind) (found : Option (code.Table × ℕ)) (w : ℕ) → block_word kind found ≡ Some w → (kind ≡ kinds.Block) × ((table : code.Table) × (found ≡ Some (table, w)))
 word-block kinds.Block None w e = absurd (none-some w e)
@@ -161,8 +175,8 @@ block-declares names (Some (table, w)) form id e is =
 -- One statement more stands, where its row has these numbers.
 pub stands-next : (names spaces more spaces' : List (List ℕ)) (rows : List Row) (policy : List Placed) (row : Row) (s : Placed) → Stands names spaces rows policy
     → (IsDistinct bytes_eq names → IsDistinct bytes_eq (names ++ more)) → row.namespace < length spaces → namespace_at names spaces row.namespace ≡ s.namespace → IsDeclared (names ++ more) row.declares s.form
-    → row.is_optional ≡ is_optional s.form → Opens spaces spaces' row.namespace (block_word (kind_of s.form) row.declares) row.inside → Stands (names ++ more) spaces' (rows ++ row ∷ []) (policy ++ s ∷ [])
-stands-next names spaces more spaces' rows policy row s was distinct low here declares is_opt opens = record {
+    → row.kind ≡ kind_of s.form → row.is_optional ≡ is_optional s.form → Opens spaces spaces' row.namespace (block_word (kind_of s.form) row.declares) row.inside → Stands (names ++ more) spaces' (rows ++ row ∷ []) (policy ++ s ∷ [])
+stands-next names spaces more spaces' rows policy row s was distinct low here declares kind is_opt opens = record {
   numbered = numbered;
   global = ap (λ l. get_or l 0 []) opens.kept.1 ∙ get_or_append_left spaces opens.kept.0 [] 0 (omega arith) ∙ was.global;
   rows_are = rows-push names' spaces' rows policy row s (subst (λ l. AreRows names' l rows policy) (sym opens.kept.1) (rows-grow names spaces more opens.kept.0 rows policy was.numbered was.rows_are)) is_row;
@@ -219,6 +233,7 @@ stands-next names spaces more spaces' rows policy row s was distinct low here de
       within = (let long = ap length opens.kept.1 ∙ length-append spaces opens.kept.0 in omega (arith, low));
       here = ap (λ l. namespace_at names' l row.namespace) opens.kept.1 ∙ namespace-grows names spaces more opens.kept.0 row.namespace was.numbered low ∙ here;
       declares = declares;
+      kind = kind;
       optional = is_opt;
       inside = inside;
     }

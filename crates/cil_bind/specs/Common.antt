@@ -1,7 +1,7 @@
 -- The names from elsewhere that this crate's contracts cite most, passed on from one place.
 pub use Rattle.cil_bind.specs.Binding.{AreBound, kinds_of, leads_at}
 pub use Rattle.cil_bind.specs.Policy.{AreMarked, IsBoundTo, IsFirstAgain, IsNumbered, IsTold, Makes, TellsAround, bound_of, fault_of}
-pub use Rattle.cil_bind.specs.Rows.{AreNumbered, AreRows, DeclareThat, IsDeclared, IsOnce, IsRow, IsTaken, is_optional_row}
+pub use Rattle.cil_bind.specs.Rows.{AreNumbered, AreRows, DeclareThat, IsDeclared, IsOnce, IsRow, IsTaken, declares_name, is_optional_row, kinds_told}
 pub use Rattle.cil_bind.specs.Scope.{AreAround, AreBlockSpaces, AreFrom, AreSpaced, AreSpelt, IsFrom, StandsFor}
 pub use Rattle.cil_bind.specs.Words.{AreAllLed, AreLed, AreWorded, AsKnown, Comes, IsLed, LeadsTo}
 pub use Rattle.cil_bind.specs.declared.rows.Row.{Row}

@@ -29,7 +29,8 @@ pub record IsNumbered {A : Type 0} (names spaces : List (List ℕ)) (parsed : Li
   pub long : length numbers.spaces.0 ≡ length parsed
 
 -- The words, the namespaces and the rows are those of this policy; each name has its first declaration, and none is declared twice;
--- each reference is bound to what it leads to; the kinds are those of the statements; and places have 32 bits.
+-- what each module's statements look up is looked up from these namespaces, and each reference is bound to what it leads to; the kinds
+-- are those of the statements; and places have 32 bits.
 pub record IsBoundTo {A : Type 0} (p : Policy A) (parsed : List (NamedModule A)) (policy : List Placed) : Type 0 where
   pub stands : Stands p.names p.lookup.namespaces p.rows.items policy
   pub from : AreFrom parsed p.rows.items policy

@@ -1,5 +1,5 @@
 -- Statements by numbers.
-use Rattle.std.specs.Prelude.{◌≡◌, ◌<◌, ℕ, Bool, true, false, List, [], ◌∷◌, ◌++◌, length, take, slice_get, bytes_eq, Option, Some, None}
+use Rattle.std.specs.Prelude.{◌≡◌, ◌<◌, ℕ, Bool, true, false, List, [], ◌∷◌, ◌++◌, length, map, take, slice_get, bytes_eq, Option, Some, None}
 use Rattle.std.specs.List.{IsDistinct, AllByRecursion}
 use Rattle.cil_specs.specs.Names.{Word}
 use Rattle.cil_specs.specs.Statements.{Form, block, is_optional}
@@ -7,6 +7,9 @@ use Rattle.cil_specs.specs.Joined.{Placed}
 use Rattle.cil_specs.specs.Lookup.{Table, declared_in}
 use Rattle.cil_specs.specs.PolicyFault.{PolicyFault, twice, twice_words, IsFaultOf}
 use Rattle.cil_lookup.specs.Lookup.{word_at, namespace_at, table_of, HaveDeclared}
+use Rattle.cil_parse.specs.Forms.{kind_of}
+use Rattle.cil_parse.specs.declared.row.StatementKind.{StatementKind}
+use Rattle.cil_parse.specs.declared.row.StatementKind.TheVariants as kinds
 use Rattle.cil_parse.specs.declared.table.Table as code
 use Rattle.cil_lookup.specs.declared.lookup.Key.{Key}
 use Rattle.cil_bind.specs.declared.rows.Row.{Row}
@@ -23,6 +26,7 @@ pub record IsRow (names spaces : List (List ℕ)) (row : Row) (s : Placed) : Typ
   pub within : row.namespace < length spaces
   pub here : namespace_at names spaces row.namespace ≡ s.namespace
   pub declares : IsDeclared names row.declares s.form
+  pub kind : row.kind ≡ kind_of s.form
   pub optional : row.is_optional ≡ is_optional s.form
   pub inside : (id : Word) → s.form ≡ block id → (row.inside < length spaces) × (namespace_at names spaces row.inside ≡ id.text ∷ s.namespace)
 
@@ -32,6 +36,22 @@ AreRows names spaces [] [] = Unit {0}
 AreRows names spaces [] (s ∷ policy) = ⊥
 AreRows names spaces (row ∷ rows) [] = ⊥
 AreRows names spaces (row ∷ rows) (s ∷ policy) = IsRow names spaces row s × AreRows names spaces rows policy
+
+-- the kinds of the statements of rows
+abbrev pub kinds_told : List Row → List StatementKind
+kinds_told rows = map (λ row. row.kind) rows
+
+-- whether statements of a kind declare a name
+abbrev pub declares_name : StatementKind → Bool
+declares_name kinds.Block = true
+declares_name kinds.Optional = true
+declares_name kinds.TypeName = true
+declares_name kinds.TypeAlias = true
+declares_name kinds.TypeAttribute = true
+declares_name kinds.Common = true
+declares_name kinds.Class = true
+declares_name kinds.ClassPermission = true
+declares_name _ = false
 
 abbrev pub is_optional_row : Option Row → Bool
 is_optional_row None = false

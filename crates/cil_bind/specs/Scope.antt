@@ -40,6 +40,7 @@ AreSpelt (n ∷ parsed) (m ∷ modules) = (n.name.now ≡ m.name) × Spells n.mo
 pub record Declares {A : Type 0} (old new : Scope A) (found : Option (Table × ℕ)) (Says : Form → Type 0) : Type 0 where
   pub namespaces : new.namespaces ≡ old.namespaces
   pub rows : new.rows ≡ old.rows
+  pub kinds : new.kinds ≡ old.kinds
   pub kept : (more : List (List ℕ)) × (new.names ≡ old.names ++ more)
   pub distinct : IsDistinct bytes_eq old.names → IsDistinct bytes_eq new.names
   pub declares : (form : Form) → Says form → IsDeclared new.names found form
@@ -118,6 +119,7 @@ IsSpaced names spaces p found = (n : ℕ) (c : Citation) → slice_get (citation
     × ((name : List ℕ) (statements : Statements) (index : ℕ) (namespace : List (List ℕ)) → Spells p statements
     → IsBlockOf (placed name [] [] statements) index c.block namespace → namespace_at names spaces (slice_index_or found n 0) ≡ namespace)
 
+-- the same of each module
 abbrev pub AreSpaced : {A : Type 0} → List (List ℕ) → List (List ℕ) → List (NamedModule A) → List (List ℕ) → Type 0
 AreSpaced {A} names spaces parsed found = (k : ℕ) (m : NamedModule A) → slice_get parsed k ≡ Some m
     → IsSpaced names spaces m.«module».now (slice_index_or found k [])

@@ -1,10 +1,11 @@
 //! Where each name is declared first.
 
 ghost use Rattle.std.specs.Prelude.{◌≡◌, ◌<◌, ◌∷◌, ◌^◌, ℕ, List, [], true, false, not, ◌&&◌, length, take, slice_get, IfOk, Some};
-ghost use Rattle.cil_bind.specs.Common.{Placed, Word, twice_words, HaveDeclared, AreRows, AreNumbered, IsOnce, IsTaken, DeclareThat, is_optional_row};
+ghost use Rattle.cil_bind.specs.Common.{Placed, Word, twice_words, HaveDeclared, AreRows, AreNumbered, IsOnce, IsTaken, DeclareThat, is_optional_row, kinds_told, declares_name as is_declaring};
 
 use crate::rows::Row;
 use cil_lookup::Key;
+use cil_parse::StatementKind;
 use indexmap::IndexMap;
 use std::alloc::{AllocError, Allocator, Global};
 use std::hash::{BuildHasherDefault, FoldHasher};
@@ -25,18 +26,41 @@ fn are_apart(row: &Row, rows: &[Row], at: usize) -> bool
     }
 }
 
+/// Whether statements of a kind declare a name.
+pub fn declares_name(kind: StatementKind) -> bool
+    ensures { result ≡ is_declaring kind }
+{
+    matches!(
+        kind,
+        StatementKind::Block
+            | StatementKind::Optional
+            | StatementKind::TypeName
+            | StatementKind::TypeAlias
+            | StatementKind::TypeAttribute
+            | StatementKind::Common
+            | StatementKind::Class
+            | StatementKind::ClassPermission
+    )
+}
+
 impl<A: Allocator + Copy> Declarations<A> {
     /// Takes up what the row at a place declares, if it declares a name. True if its name is declared already, but where both are
-    /// optionals.
+    /// optionals. Most rows are of kinds that declare none, and aren't looked at.
     #[inline(always)]
-    fn declare(&mut self, rows: &[Row], i: usize) -> Result<bool, AllocError>
+    fn declare(
+        &mut self,
+        rows: &[Row],
+        kinds: &[StatementKind],
+        i: usize,
+    ) -> Result<bool, AllocError>
+        requires kinds { kinds.now ≡ kinds_told rows.now }
         requires within { i < length rows.now }
         requires few { length rows.now < 2 ^ 32 }
         ensures { IfOk result (λ again. (names spaces : List (List ℕ)) (policy : List Placed) → AreNumbered names spaces → AreRows names spaces rows.now policy
             → HaveDeclared names spaces self.old.first.entries (take i policy) → IsOnce (take i policy)
             → (s : Placed) → slice_get policy i ≡ Some s → IsTaken names spaces (take i policy) s self.new.first.entries again) }
     {
-        if rows[i].declares.is_none() {
+        if !declares_name(kinds[i]) {
             return Ok(false);
         }
         self.declare_name(rows, i)
@@ -76,9 +100,10 @@ pub enum Declared<A: Allocator = Global> {
 }
 
 impl<A: Allocator + Copy> Declarations<A> {
-    /// What rows declare.
-    pub fn of(alloc: A, rows: &[Row]) -> Result<Declared<A>, AllocError>
-        requires { length rows.now < 2 ^ 32 }
+    /// What rows of these kinds declare.
+    pub fn of(alloc: A, rows: &[Row], kinds: &[StatementKind]) -> Result<Declared<A>, AllocError>
+        requires few { length rows.now < 2 ^ 32 }
+        requires kinds { kinds.now ≡ kinds_told rows.now }
         ensures { IfOk result (λ found. (names spaces : List (List ℕ)) (policy : List Placed) → AreNumbered names spaces → AreRows names spaces rows.now policy
             → DeclareThat names spaces policy found) }
     {
@@ -86,16 +111,17 @@ impl<A: Allocator + Copy> Declarations<A> {
             first: IndexMap::new(alloc),
         };
         for i in 0..rows.len() {
-            if declarations.declare(rows, i)? {
+            if declarations.declare(rows, kinds, i)? {
                 return Ok(Declared::Twice(i));
             }
         }
         Ok(Declared::Once(declarations))
     }
 
-    /// What rows declare that are known to declare each name once.
-    pub fn of_once(alloc: A, rows: &[Row]) -> Result<Self, AllocError>
-        requires { length rows.now < 2 ^ 32 }
+    /// What rows of these kinds declare that are known to declare each name once.
+    pub fn of_once(alloc: A, rows: &[Row], kinds: &[StatementKind]) -> Result<Self, AllocError>
+        requires few { length rows.now < 2 ^ 32 }
+        requires kinds { kinds.now ≡ kinds_told rows.now }
         ensures { IfOk result (λ d. (names spaces : List (List ℕ)) (policy : List Placed) → AreNumbered names spaces → AreRows names spaces rows.now policy → IsOnce policy
             → HaveDeclared names spaces d.first.entries policy) }
     {
@@ -103,7 +129,7 @@ impl<A: Allocator + Copy> Declarations<A> {
             first: IndexMap::new(alloc),
         };
         for i in 0..rows.len() {
-            declarations.declare(rows, i)?;
+            declarations.declare(rows, kinds, i)?;
         }
         Ok(declarations)
     }

@@ -17,6 +17,7 @@ mod spaces;
 mod words;
 
 pub use cil_lookup::{Key, Lookup};
+pub use declarations::declares_name;
 pub use joined::{Joined, NamedModule, join};
 pub use known_lists::{KnownLists, PermissionList};
 pub use laws::{
@@ -29,3 +30,4 @@ pub use policy::{Joining, Policy};
 pub use redeclaration::Redeclaration;
 pub use references::References;
 pub use rows::Row;
+pub use scope::is_optional;

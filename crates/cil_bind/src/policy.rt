@@ -1,7 +1,7 @@
 //! A joined policy whose references are bound.
 
 ghost use Rattle.std.specs.Prelude.{◌≡◌, ◌<◌, ◌^◌, [], ℕ, IfOk, OnOk, List, false, filter, bytes_eq, length, slice_index_or};
-ghost use Rattle.cil_bind.specs.Common.{IsDistinct, list_all, AreSpelt, AreFrom, AreAround, StandsFor, HaveDeclared, DeclareThat, IsOnce, Makes, IsBoundTo, AreMarked, TellsAround, AreWorded, IsNumbered, Optionals, AreApart, restricted, bound_of};
+ghost use Rattle.cil_bind.specs.Common.{IsDistinct, list_all, AreSpelt, AreFrom, AreAround, StandsFor, HaveDeclared, DeclareThat, IsOnce, Makes, IsBoundTo, AreMarked, TellsAround, AreWorded, IsNumbered, Optionals, AreApart, restricted, bound_of, kinds_told};
 ghost use Rattle.cil_specs.specs.Joined.{Placed, Module, joined as joined_policy};
 
 use crate::declarations::{Declarations, Declared};
@@ -87,12 +87,14 @@ impl<'m, A: Allocator + Copy> Policy<'m, A> {
     ) -> Result<Joining<'m, A>, AllocError>
         requires stands { (policy : List Placed) × StandsFor scope policy × AreFrom joined.now.modules.items scope.rows.items policy }
         requires numbered { IsNumbered scope.names scope.namespaces joined.now.modules.items numbers }
+        requires kinds { scope.kinds.items ≡ kinds_told scope.rows.items }
         requires few { length scope.rows.items < 2 ^ 32 }
         ensures made { IfOk result (λ made. (policy : List Placed) → StandsFor scope.entry policy → AreFrom joined.now.modules.items scope.entry.rows.items policy
             → Makes joined.now.modules.items policy made) }
         ensures around { IfOk result (λ made. (policy : List Placed) → AreAround policy 0 scope.entry.rows.items policy → TellsAround policy made) }
     {
-        let declared = Declarations::of(alloc, scope.rows.as_slice())?;
+        let rows = scope.rows.as_slice();
+        let declared = Declarations::of(alloc, rows, scope.kinds.as_slice())?;
         Policy::of_declared(alloc, joined, scope, numbers, declared)
     }
 
@@ -107,6 +109,7 @@ impl<'m, A: Allocator + Copy> Policy<'m, A> {
         requires stands { (policy : List Placed) × StandsFor scope policy × AreFrom joined.now.modules.items scope.rows.items policy }
         requires numbered { IsNumbered scope.names scope.namespaces joined.now.modules.items numbers }
         requires declared { (policy : List Placed) → StandsFor scope policy → DeclareThat scope.names scope.namespaces policy declared }
+        requires kinds { scope.kinds.items ≡ kinds_told scope.rows.items }
         requires few { length scope.rows.items < 2 ^ 32 }
         ensures made { IfOk result (λ made. (policy : List Placed) → StandsFor scope.entry policy → AreFrom joined.now.modules.items scope.entry.rows.items policy
             → Makes joined.now.modules.items policy made) }
@@ -164,7 +167,9 @@ impl<'m, A: Allocator + Copy> Policy<'m, A> {
             → AreMarked set kept.now self.old.rows.items policy → IsBoundTo self.new joined.now.modules.items (restricted set policy)) }
     {
         retain_kept(&mut self.rows, kept);
-        let declarations = Declarations::of_once(alloc, self.rows.as_slice())?;
+        let rows = self.rows.as_slice();
+        let kinds = kinds(alloc, rows)?;
+        let declarations = Declarations::of_once(alloc, rows, kinds.as_slice())?;
         self.lookup.declared = declarations.first;
         let leads = leads(
             alloc,
@@ -173,7 +178,6 @@ impl<'m, A: Allocator + Copy> Policy<'m, A> {
             self.words.as_slice(),
             &self.spaces,
         )?;
-        let kinds = kinds(alloc, joined, self.rows.as_slice())?;
         self.leads = leads;
         self.kinds = kinds;
         Ok(())
@@ -188,7 +192,7 @@ impl<'m, A: Allocator + Copy> Policy<'m, A> {
         declarations: Declarations<A>,
     ) -> Result<Self, AllocError>
         requires numbered { IsNumbered scope.names scope.namespaces joined.now.modules.items numbers }
-        requires from { (policy : List Placed) × AreFrom joined.now.modules.items scope.rows.items policy }
+        requires kinds { scope.kinds.items ≡ kinds_told scope.rows.items }
         requires few { length scope.rows.items < 2 ^ 32 }
         ensures made { IfOk result (λ p. (policy : List Placed) → StandsFor scope.entry policy → AreFrom joined.now.modules.items scope.entry.rows.items policy
             → HaveDeclared scope.entry.names scope.entry.namespaces declarations.first.entries policy → IsOnce policy
@@ -199,6 +203,7 @@ impl<'m, A: Allocator + Copy> Policy<'m, A> {
             names,
             namespaces,
             rows,
+            kinds,
         } = scope;
         let lookup = Lookup {
             namespaces,
@@ -206,7 +211,6 @@ impl<'m, A: Allocator + Copy> Policy<'m, A> {
         };
         let Numbers { words, spaces } = numbers;
         let leads = leads(alloc, &lookup, joined, words.as_slice(), &spaces)?;
-        let kinds = kinds(alloc, joined, rows.as_slice())?;
         Ok(Policy {
             names,
             words,

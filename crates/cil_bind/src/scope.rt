@@ -1,7 +1,7 @@
 //! The statements of a joined policy by numbers.
 
 ghost use Rattle.std.specs.Prelude.{◌≡◌, ◌<◌, ◌≤◌, ◌+◌, ◌++◌, ◌∷◌, ◌^◌, ◌⊎◌, ℕ, suc, List, length, take, slice_get, [], IfOk, OnOk, IfNone, IfSome, Some, bytes_eq};
-ghost use Rattle.cil_bind.specs.Common.{Word, IsDistinct, FlatStatement, texts_of, statement_count, Spells, IsShown, IsDeclared, Row};
+ghost use Rattle.cil_bind.specs.Common.{Word, IsDistinct, FlatStatement, texts_of, statement_count, Spells, IsShown, IsDeclared, Row, kinds_told};
 ghost use Rattle.cil_specs.specs.Statements.{Statements, is_optional as is_optional_form};
 ghost use Rattle.cil_specs.specs.Joined.{Placed, Module, placed, joined as joined_policy};
 ghost use Rattle.cil_bind.specs.Scope.{StandsFor, AreSpelt, AreFrom, AreAround, HaveModule, Declares, optional_number, block_word as word_of_block, is_optional_kind};
@@ -15,12 +15,13 @@ use cil_names::{Names, in_32_bits};
 use cil_parse::{ParsedModule, StatementKind, StatementView, Table};
 use std::alloc::{AllocError, Allocator, Global};
 
-/// The words of a policy, its namespaces and its statements, by their numbers.
+/// The words of a policy, its namespaces and its statements, by their numbers, and the kinds of the statements.
 #[derive(Drop)]
 pub struct Scope<'m, A: Allocator = Global> {
     pub names: Names<'m, A>,
     pub namespaces: Namespaces<A>,
     pub rows: Vec<Row, A>,
+    pub kinds: Vec<StatementKind, A>,
 }
 
 /// How many statements modules have together.
@@ -41,6 +42,7 @@ impl<'m, A: Allocator + Copy> Scope<'m, A> {
         ensures kept { IfOk result (λ scope. (more : List (List ℕ)) × (scope.names ≡ names.entry ++ more)) }
         ensures from { IfOk result (λ scope. (modules : List Module) → AreSpelt joined.now.modules.items modules → AreFrom joined.now.modules.items scope.rows.items (joined_policy modules)) }
         ensures around { IfOk result (λ scope. (modules : List Module) → AreSpelt joined.now.modules.items modules → AreAround (joined_policy modules) 0 scope.rows.items (joined_policy modules)) }
+        ensures kinds { IfOk result (λ scope. scope.kinds.items ≡ kinds_told scope.rows.items) }
     {
         let mut scope = Scope::of_names(alloc, names, statement_count(joined))?;
         scope.add_all(joined)?;
@@ -52,12 +54,15 @@ impl<'m, A: Allocator + Copy> Scope<'m, A> {
         ensures names { IfOk result (λ scope. scope.names ≡ names.entry) }
         ensures namespaces { IfOk result (λ scope. scope.namespaces ≡ [] ∷ []) }
         ensures rows { IfOk result (λ scope. scope.rows.items ≡ []) }
+        ensures kinds { IfOk result (λ scope. scope.kinds.items ≡ []) }
     {
         let rows = Vec::with_capacity(alloc, room)?;
+        let kinds = Vec::with_capacity(alloc, room)?;
         Ok(Scope {
             names,
             namespaces: Namespaces::new(alloc),
             rows,
+            kinds,
         })
     }
 
@@ -69,6 +74,8 @@ impl<'m, A: Allocator + Copy> Scope<'m, A> {
         ensures kept { OnOk result ((more : List (List ℕ)) × (self.new.names ≡ self.old.names ++ more)) }
         ensures from { OnOk result ((modules : List Module) → AreSpelt joined.now.modules.items modules → AreFrom joined.now.modules.items self.new.rows.items (joined_policy modules)) }
         ensures around { OnOk result ((modules : List Module) → AreSpelt joined.now.modules.items modules → AreAround (joined_policy modules) 0 self.new.rows.items (joined_policy modules)) }
+        ensures kinds { OnOk result (self.old.kinds.items ≡ kinds_told self.old.rows.items
+            → self.new.kinds.items ≡ kinds_told self.new.rows.items) }
     {
         for i in 0..joined.modules.len() {
             self.add(in_32_bits(i)?, joined.modules[i].module)?;
@@ -87,6 +94,8 @@ impl<'m, A: Allocator + Copy> Scope<'m, A> {
         ensures around { OnOk result ((before behind : List Placed) (name : List ℕ) (statements : Statements) → Spells «module».now statements → length before ≡ length self.old.rows.items
             → AreAround (before ++ (placed name [] [] statements ++ behind)) 0 self.old.rows.items before
             → AreAround (before ++ (placed name [] [] statements ++ behind)) 0 self.new.rows.items (before ++ placed name [] [] statements)) }
+        ensures kinds { OnOk result (self.old.kinds.items ≡ kinds_told self.old.rows.items
+            → self.new.kinds.items ≡ kinds_told self.new.rows.items) }
     {
         let start = in_32_bits(self.rows.len())?;
         for i in 0..module.len() {
@@ -130,6 +139,8 @@ impl<'m, A: Allocator + Copy> Scope<'m, A> {
         ensures around { OnOk result ((before behind : List Placed) (name : List ℕ) (statements : Statements) → Spells «module».now statements → length before ≡ start
             → AreAround (before ++ (placed name [] [] statements ++ behind)) 0 self.old.rows.items (before ++ take i (placed name [] [] statements))
             → AreAround (before ++ (placed name [] [] statements ++ behind)) 0 self.new.rows.items (before ++ take (i + 1) (placed name [] [] statements))) }
+        ensures kinds { OnOk result (self.old.kinds.items ≡ kinds_told self.old.rows.items
+            → self.new.kinds.items ≡ kinds_told self.new.rows.items) }
     {
         let view = module.statement(i);
         let Some(numbers) = numbers_at(start, i, view.optional) else {
@@ -142,12 +153,14 @@ impl<'m, A: Allocator + Copy> Scope<'m, A> {
         self.rows.push(Row {
             module: number,
             index: numbers.0,
+            kind: view.kind,
             namespace,
             inside,
             optional: numbers.1,
             declares,
             is_optional: is_optional(view.kind),
         })?;
+        self.kinds.push(view.kind)?;
         Ok(())
     }
 
@@ -185,8 +198,8 @@ fn block_word(kind: StatementKind, declares: Option<(Table, u32)>) -> Option<u32
     }
 }
 
-/// Whether a statement is an optional.
-fn is_optional(kind: StatementKind) -> bool
+/// Whether statements of a kind are optionals.
+pub fn is_optional(kind: StatementKind) -> bool
     ensures { result ≡ is_optional_kind kind }
 {
     matches!(kind, StatementKind::Optional)

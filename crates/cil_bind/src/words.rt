@@ -68,9 +68,7 @@ fn is_global(text: &[u8]) -> bool
     }
 }
 
-/// Where a text of a module leads from a namespace. The words are the numbers of the module's names. Most texts are looked up again and
-/// again and then remembered, so it isn't inlined.
-#[cold]
+/// Where a text of a module leads from a namespace. The words are the numbers of the module's names.
 #[inline(never)]
 pub fn lead<A: Allocator>(
     lookup: &Lookup<A>,

@@ -5,7 +5,7 @@ ghost use Rattle.cil_optionals.specs.Common.{Placed, word_at, namespace_at, tabl
 ghost use Rattle.cil_parse.specs.declared.table.Table.TheVariants.{Scopes};
 ghost use Rattle.cil_optionals.specs.Providers.{node_of_name, further_out as looked_further, IsReady, AreProviders};
 
-use cil_bind::{Lookup, Policy};
+use cil_bind::{Lookup, Policy, declares_name};
 use cil_needs::Need;
 use cil_parse::Table;
 use std::alloc::{AllocError, Allocator};
@@ -43,7 +43,7 @@ fn is_scopes(table: Table) -> bool
 }
 
 /// Puts what the name that a statement declares needs behind others: the optional around the statement, or what the name leads to further
-/// out. Outside optionals it needs nothing.
+/// out. Outside optionals it needs nothing. Most statements are of kinds that declare no name.
 fn provide<A: Allocator + Copy>(
     policy: &Policy<'_, A>,
     i: usize,
@@ -54,6 +54,9 @@ fn provide<A: Allocator + Copy>(
     ensures { OnOk result ((parsed : List (NamedModule _)) (all : List Placed) → IsReady policy.now parsed all → AreProviders all policy.now.rows.items i needs.old.items
         → AreProviders all policy.now.rows.items (i + 1) needs.new.items) }
 {
+    if !declares_name(policy.kinds[i]) {
+        return Ok(());
+    }
     let row = policy.rows[i];
     if row.optional == 0 {
         return Ok(());

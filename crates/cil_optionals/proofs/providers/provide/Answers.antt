@@ -1,6 +1,30 @@
-use Rattle.cil_optionals.proofs.Common.{◌+◌, ◌∷◌, sym, ap, ◌∙◌, subst, arith, same_Some, option_to_list, rows-length, alternatives, IsDeclaration, AreProviders}
+use Rattle.cil_optionals.proofs.Common.{◌<◌, ◌+◌, ◌∷◌, length, rules, sym, ap, ◌∙◌, subst, arith, is_some, true≢false, same_Some, option_to_list, rows-length, alternatives, IsDeclaration, AreProviders}
+use Rattle.cil_bind.specs.Rows.{declares_name}
+use Rattle.cil_bind.proofs.BindingLemmas.{kind-at}
+use Rattle.cil_bind.proofs.ScopeLemmas.{kind-nothing}
+use Rattle.cil_optionals.specs.Nodes.{declared_table}
+use Rattle.cil_optionals.proofs.AsksLemmas.{kinds-long}
 use Rattle.cil_optionals.proofs.ProviderLemmas.{providers-skip, providers-next, row-nothing, row-scopes, row-of, row-next}
 use Rattle.cil_optionals.proofs.providers.provide.Goals as goal
+
+pub index-requires : goal.index-requires
+index-requires g c =
+    let p = c.args.policy.now in
+    let ready = c.requires.ready.2 in
+    let long = rows-length p.names p.lookup.namespaces p.rows.items c.requires.ready.1 ready.bound.stands.rows_are in
+    let kinds = kinds-long p c.requires.ready.0 c.requires.ready.1 ready in
+    let within = c.requires.within in
+    let low : c.args.i < length p.kinds.items = omega arith in
+    search rules
+
+pub returns-then-not-declares_name : goal.returns-then-not-declares_name
+returns-then-not-declares_name g c = λ parsed all ready are.
+    let p = c.args.policy.now in
+    providers-skip all p.rows.items c.args.i c.args.needs.now.items
+    (λ row s at here declared.
+    let kind = c.index.ensures ∙ kind-at all p.kinds.items c.args.i s _ ready.bound.kinds here in
+    let none = kind-nothing (declared_table s.form) s.form (ap declares_name (sym kind) ∙ sym c.declares_name.ensures ∙ c.if-not-declares_name.true) in
+    absurd (true≢false (sym declared.some ∙ ap is_some none))) are
 
 pub returns-in_default : goal.returns-in_default
 returns-in_default g c = λ parsed all ready are.

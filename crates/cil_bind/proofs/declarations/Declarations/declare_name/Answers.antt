@@ -1,11 +1,12 @@
 use Rattle.cil_bind.proofs.Common.{false, None, get_or, refl, sym, ap, ◌∙◌, subst, lookup, IsDeclared, Key, Row}
 use Rattle.cil_lookup.proofs.LookupLemmas.{derived-key}
+use Rattle.cil_parse.specs.declared.row.StatementKind.TheVariants as kinds
 use Rattle.cil_bind.proofs.DeclareLemmas.{row-here, row-at, taken-nothing, taken-found, taken-new, put-new}
 use Rattle.cil_bind.proofs.declarations.Declarations.declare_name.Goals as goal
 
 -- what is read behind the end of the rows
 abbrev no_row : Row
-no_row = record { «module» = 0; index = 0; namespace = 0; inside = 0; optional = 0; declares = None; is_optional = false }
+no_row = record { «module» = 0; index = 0; kind = kinds.Block; namespace = 0; inside = 0; optional = 0; declares = None; is_optional = false }
 
 pub returns-in_default : goal.returns-in_default
 returns-in_default g c = λ names spaces policy nums are has once s here.

@@ -30,9 +30,6 @@ returns-in-Twice-clause-made g c = λ policy stands from.
     (twice-within scope.names scope.namespaces scope.rows.items policy c.in-Twice.place c.args.declared stands.rows_are that c.in-Twice.is)
     c.of-again.ensures
 
-pub of_scope-requires-clause-from : goal.of_scope-requires-clause-from
-of_scope-requires-clause-from g c = (c.requires.stands.0, c.requires.stands.2)
-
 pub returns-clause-made : goal.returns-clause-made
 returns-clause-made g c = λ policy stands from.
     let scope = c.args.scope in

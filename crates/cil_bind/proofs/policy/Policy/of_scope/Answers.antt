@@ -1,4 +1,5 @@
-use Rattle.cil_bind.proofs.Common.{sym, subst, AreFrom, AreWorded}
+use Rattle.cil_bind.proofs.Common.{sym, ◌∙◌, subst, AreWorded}
+use Rattle.cil_bind.proofs.DeclareLemmas.{kinds-are}
 use Rattle.cil_bind.proofs.PolicyLemmas.{bound-to}
 use Rattle.cil_bind.proofs.policy.Policy.of_scope.Goals as goal
 
@@ -7,11 +8,6 @@ leads-requires-clause-worded g c =
     let scope = c.args.scope in
     (scope.names, subst (λ w. AreWorded scope.names w c.args.joined.now.modules.items) (sym c.as_slice.ensures.value) c.requires.numbered.worded)
 
-pub kinds-requires : goal.kinds-requires
-kinds-requires g c =
-    let from = c.requires.from in
-    record { from = (from.0, subst (λ r. AreFrom c.args.joined.now.modules.items r from.0) (sym c.as_slice-2.ensures.value) from.1) }
-
 pub returns-clause-made : goal.returns-clause-made
 returns-clause-made g c = λ policy stands from declared once.
     let scope = c.args.scope in
@@ -19,4 +15,4 @@ returns-clause-made g c = λ policy stands from declared once.
     let numbered = c.requires.numbered in
     bound-to _ items policy stands from declared once (record { worded = numbered.worded; spaced = numbered.spaced; long = numbered.long }) c.in_ok-leads.ensures.long
     (λ knows. c.in_ok-leads.ensures.led scope.names policy knows (subst (λ w. AreWorded scope.names w items) (sym c.as_slice.ensures.value) numbered.worded))
-    (c.in_ok-kinds.ensures policy (subst (λ r. AreFrom items r policy) (sym c.as_slice-2.ensures.value) from)) c.requires.few
+    (c.requires.kinds ∙ kinds-are scope.names scope.namespaces scope.rows.items policy stands.rows_are) c.requires.few

@@ -10,6 +10,7 @@ loop-i-init g c = record {
   stands = λ before name statements spells long stands. stands-start _ _ _ before _ refl stands;
   from = λ parsed before name statements spells have are. from-start parsed _ before _ refl are;
   around = λ before behind name statements spells long are. around-start _ _ before _ refl are;
+  kinds = λ told. told;
   kept = ([], sym (append-nil _));
 }
 
@@ -18,6 +19,7 @@ loop-i-preserved g c = record {
   stands = λ before name statements spells long stands. c.in_ok-place.ensures.stands before name statements spells long (c.loop-i.invariant.stands before name statements spells long stands);
   from = λ parsed before name statements spells have are. c.in_ok-place.ensures.from parsed before name statements spells have (c.loop-i.invariant.from parsed before name statements spells have are);
   around = λ before behind name statements spells long are. c.in_ok-place.ensures.around before behind name statements spells long (c.loop-i.invariant.around before behind name statements spells long are);
+  kinds = λ told. c.in_ok-place.ensures.kinds (c.loop-i.invariant.kinds told);
   kept = kept-next _ _ _ c.loop-i.invariant.kept c.in_ok-place.ensures.kept;
 }
 
@@ -34,3 +36,6 @@ pub returns-clause-around : goal.returns-clause-around
 returns-clause-around g c = λ before behind name statements spells long are.
     let start : length c.args.self.now.rows.items ≡ c.in_ok-start.start = search rules in
     around-all c.args.«module».now statements name _ _ before c.loop-i.i spells (omega arith) (c.loop-i.invariant.around before behind name statements spells (long ∙ start) are)
+
+pub returns-clause-kinds : goal.returns-clause-kinds
+returns-clause-kinds g c = c.loop-i.invariant.kinds

@@ -9,6 +9,7 @@ loop-i-init g c = record {
   stands = λ modules are stands. stands;
   from = λ modules are. subst (λ r. AreFrom c.args.joined.now.modules.items r []) (sym c.requires.first) tt;
   around = λ modules are. subst (λ r. AreAround (joined modules) 0 r []) (sym c.requires.first) tt;
+  kinds = λ told. told;
   kept = ([], sym (append-nil _));
 }
 
@@ -41,6 +42,7 @@ loop-i-preserved g c = record {
       let items = c.args.joined.now.modules.items in
       let low : c.loop-i.i < length items = search rules in
       around-module items modules c.loop-i.i c.index.result.now c.loop-i.self.rows.items c.add.new.self.rows.items are low c.index.ensures (c.loop-i.invariant.around modules are) c.in_ok-add.ensures.around;
+  kinds = λ told. c.in_ok-add.ensures.kinds (c.loop-i.invariant.kinds told);
   kept = kept-next _ _ _ c.loop-i.invariant.kept c.in_ok-add.ensures.kept;
 }
 
@@ -55,3 +57,6 @@ returns-clause-around g c = λ modules are.
     let items = c.args.joined.now.modules.items in
     let past : length items ≤ c.loop-i.i = search rules in
     around-joined items modules _ c.loop-i.i are past (c.loop-i.invariant.around modules are)
+
+pub returns-clause-kinds : goal.returns-clause-kinds
+returns-clause-kinds g c = c.loop-i.invariant.kinds

@@ -7,6 +7,7 @@ pub returns : goal.returns
 returns g c = record {
   namespaces = refl;
   rows = refl;
+  kinds = refl;
   kept = kept-more _ _ c.text.result.now c.number_word.ensures.kept;
   distinct = λ old. c.in_ok-number.ensures.distinct;
   declares = λ form says.
