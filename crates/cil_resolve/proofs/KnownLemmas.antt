@@ -1,27 +1,51 @@
 -- What is known of the numbers of permissions, as lists come.
-use Rattle.cil_resolve.proofs.Common.{◌≡◌, ◌∙◌, ◌⊎◌, inl, inr, ℕ, zero, suc, List, [], ◌∷◌, ◌++◌, get_or, Option, Some, None, none-some, sym, subst, Placed, known_at, list_at, HaveNumbers, KnowNumbers}
+use Rattle.cil_resolve.proofs.Common.{◌≡◌, ◌∙◌, ◌||◌, ℕ, zero, suc, Bool, map, list_all, first_true, second_true, same_Some, true, false, true≢false, List, [], ◌∷◌, Some, None, none-some, refl, sym, ap, subst, slice_get, bytes_eq, bytes_eq-true, list_any-append, AllByRecursion, contains-first, contains-other, Word, Form, class, common, Placed, components, own_permissions, permissions_in, texts, has_name, listed_names, known_at, list_at, HaveNumbers, IsOneName, KnowNumbers}
+use Rattle.cil_bind.specs.Written.{HaveOneNames}
 use Rattle.cil_resolve.specs.declared.known_permissions.KnownPermissions.{KnownPermissions}
 use Rattle.cil_resolve.specs.declared.lowering.Lowering.{Lowering}
 
--- room for one more list
-pub room-more : {X : Type 0} (xs : List (Option X)) (n : ℕ) (x : X) → get_or (xs ++ None ∷ []) n None ≡ Some x → get_or xs n None ≡ Some x
-room-more [] zero x is = is
-room-more [] (suc n) x is = is
-room-more (y ∷ ys) zero x is = is
-room-more (y ∷ ys) (suc n) x is = room-more ys n x is
+-- what holds of all that a list is mapped to
+pub mapped-passes : {X : Type 0} (p : List ℕ → Bool) (f : X → List ℕ) (xs : List X) (i : ℕ) (x : X) → list_all p (map f xs) ≡ true → slice_get xs i ≡ Some x → p (f x) ≡ true
+mapped-passes p f [] i x all at = absurd (none-some x at)
+mapped-passes p f (y ∷ xs) zero x all at = ap (λ z. p (f z)) (sym (same_Some y x at)) ∙ first_true (p (f y)) (list_all p (map f xs)) all
+mapped-passes p f (y ∷ xs) (suc i) x all at = mapped-passes p f xs i x (second_true (p (f y)) (list_all p (map f xs)) all) at
+
+-- a permission that words name is one name
+one-text : (list : List Word) (name : List ℕ) → AllByRecursion IsOneName list → has_name (texts list) name ≡ true → components name ≡ name ∷ []
+one-text [] name all has = absurd (true≢false (sym has))
+one-text (w ∷ list) name all has = by (one-text list name all.1) (bytes_eq name w.text) refl
+  where
+    by : (has_name (texts list) name ≡ true → components name ≡ name ∷ []) → (b : Bool) → bytes_eq name w.text ≡ b → components name ≡ name ∷ []
+    by more true e = subst (λ t. components t ≡ t ∷ []) (sym (bytes_eq-true name w.text e)) all.0
+    by more false e = more (sym (ap (λ b. b || has_name (texts list) name) e) ∙ has)
+
+own-one : (form : Form) → AllByRecursion IsOneName (permissions_in form) → AllByRecursion IsOneName (own_permissions form)
+own-one (class id permissions) all = all
+own-one (common id permissions) all = all
+own-one _ all = tt
+
+-- a permission that statements list is one name
+pub listed-one : (policy : List Placed) (name : List ℕ) → HaveOneNames policy → has_name (listed_names policy) name ≡ true → components name ≡ name ∷ []
+listed-one [] name all has = absurd (true≢false (sym has))
+listed-one (s ∷ policy) name all has = by (listed-one policy name (λ t there. all t (contains-other s policy t there))) (has_name (texts (own_permissions s.form)) name) refl
+  where
+    by : (has_name (listed_names policy) name ≡ true → components name ≡ name ∷ []) → (b : Bool) → has_name (texts (own_permissions s.form)) name ≡ b → components name ≡ name ∷ []
+    by more true e = one-text (own_permissions s.form) name (own-one s.form (all s (contains-first s policy)).permissions) e
+    by more false e =
+        more
+        (sym (ap (λ b. b || has_name (listed_names policy) name) e) ∙ sym (list_any-append (bytes_eq name) (texts (own_permissions s.form)) (listed_names policy)) ∙ has)
 
 module _ {A : Type 0} where
   -- nothing is known
   pub none-known : (l : Lowering A) (known : KnownPermissions A) (policy : List Placed) → ((m n : ℕ) → known_at known m n ≡ None) → KnowNumbers l known policy
   none-known l known policy none m n numbers found = absurd (none-some numbers (sym (none m n) ∙ found))
 
-  -- the numbers of one more list
-  pub know-more : (l : Lowering A) (old new : KnownPermissions A) (policy : List Placed) (m0 i : ℕ) (v : List ℕ) → KnowNumbers l old policy → HaveNumbers l.numbering.now.names.items policy (list_at l.checker.now.bound.joined.now m0 i) v
-      → ((m n : ℕ) (some : List ℕ) → known_at new m n ≡ Some some → (known_at old m n ≡ Some some) ⊎ ((m ≡ m0) × (n ≡ i) × (some ≡ v))) → KnowNumbers l new policy
-  know-more l old new policy m0 i v knows have kept m n numbers found = elim (kept m n numbers found) [
-    | inl before ↦ knows m n numbers before
-    | inr (here, at, is) ↦
-        subst (λ p. HaveNumbers l.numbering.now.names.items policy (list_at l.checker.now.bound.joined.now p n) numbers) (sym here)
-        (subst (λ k. HaveNumbers l.numbering.now.names.items policy (list_at l.checker.now.bound.joined.now m0 k) numbers) (sym at)
-        (subst (HaveNumbers l.numbering.now.names.items policy (list_at l.checker.now.bound.joined.now m0 i)) (sym is) have))
-  ]
+  -- the numbers of the lists of one module
+  pub know-lists : (l : Lowering A) (known : KnownPermissions A) (policy : List Placed) (m0 : ℕ) (lists : List (List ℕ)) → ((n : ℕ) → known_at known m0 n ≡ slice_get lists n)
+      → ((m n : ℕ) (some : List ℕ) → known_at known m n ≡ Some some → m ≡ m0)
+      → ((n : ℕ) (numbers : List ℕ) → slice_get lists n ≡ Some numbers → HaveNumbers l.numbering.now.names.items policy (list_at l.checker.now.bound.joined.now m0 n) numbers)
+      → KnowNumbers l known policy
+  know-lists l known policy m0 lists here others have m n numbers found =
+      let same = others m n numbers found in
+      subst (λ p. HaveNumbers l.numbering.now.names.items policy (list_at l.checker.now.bound.joined.now p n) numbers) (sym same)
+      (have n numbers (sym (here n) ∙ ap (λ p. known_at known p n) (sym same) ∙ found))

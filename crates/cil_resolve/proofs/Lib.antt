@@ -37,3 +37,4 @@ pub mod SetNameLemmas
 pub mod ApartLemmas
 pub mod EvaluateLemmas
 pub mod NumberOf
+pub mod TextLemmas

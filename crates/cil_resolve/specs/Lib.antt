@@ -18,3 +18,4 @@ pub mod Judged
 pub mod SetOrder
 pub mod Apart
 pub mod Sets
+pub mod Text

@@ -7,7 +7,7 @@ ghost use Rattle.cil_resolve.specs.Dropped.{mark_of, dropped_if, HaveMarks};
 use crate::full_names::{full_name, space_names};
 use crate::numbered::DroppedOptional;
 use crate::text::Text;
-use cil_bind::{Joined, Policy, Row};
+use cil_bind::{Joined, Policy, Row, is_optional as is_optional_kind};
 use std::alloc::{AllocError, Allocator};
 
 /// The optional of a row by its full name; the names of the namespaces are given.
@@ -52,6 +52,9 @@ fn add_dropped<A: Allocator + Copy>(
     ensures { OnOk result ((statements : List Placed) (set : Optionals) (s : Placed) → IsBoundTo policy.now joined.now.modules.items statements → HaveMarks set kept.now statements → slice_get statements i ≡ Some s
         → map (dropped_with (modules_of joined.now)) dropped.new.items ≡ map (dropped_with (modules_of joined.now)) dropped.old.items ++ dropped_if set s) }
 {
+    if !is_optional_kind(policy.kinds[i]) {
+        return Ok(());
+    }
     let row = &policy.rows[i];
     if row.is_optional && !is_marked(kept, i) {
         let optional = dropped_optional(alloc, joined, policy, spaces, row)?;

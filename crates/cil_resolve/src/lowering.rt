@@ -168,7 +168,7 @@ impl<'l, 'p, 'm, A: Allocator + Copy> Lowering<'l, 'p, 'm, A> {
     {
         let count = self.checker.bound.len();
         counted_in_32_bits(count)?;
-        let mut known = KnownPermissions::new(self.alloc);
+        let mut known = KnownPermissions::new();
         let room = &naming.room;
         let permission_sets = self.permission_sets(
             &mut known,

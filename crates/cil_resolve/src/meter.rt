@@ -38,7 +38,7 @@ impl Meter {
     }
 
     /// Counts one evaluation more.
-    pub(crate) fn evaluated(&mut self)
+    pub fn evaluated(&mut self)
         ensures evaluations { evaluations_in self.new ≡ min (evaluations_in self.old + 1) (2 ^ 128 - 1) }
         ensures adjustments { adjustments_in self.new ≡ adjustments_in self.old }
     {

@@ -56,7 +56,7 @@ impl<A: Allocator + Copy> NumberedPermissions<A> {
         let given = held(alloc, permissions, &expression)?;
         Ok(NumberedPermissions {
             class,
-            given: PermissionNumbers::new(alloc, given)?,
+            given: PermissionNumbers::new(alloc, &given)?,
             written: Some(Box::new(alloc, expression)?),
         })
     }

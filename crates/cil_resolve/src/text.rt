@@ -1,22 +1,31 @@
 //! Bytes that are owned: a name, or the text of a module.
 
-ghost use Rattle.std.specs.Prelude.{◌≡◌, length, IfOk};
+ghost use Rattle.std.specs.Prelude.{◌≡◌, IfOk};
 
+use cil_shared::SharedPart;
 use std::alloc::{AllocError, Allocator, Global};
 use std::marker::Model;
 
-/// Bytes of its own. Contracts see it as their list.
+/// Bytes of a text alone, or a part of bytes that several texts own together.
+#[derive(Drop, Debug)]
+enum Bytes<A: Allocator = Global> {
+    Own(Vec<u8, A>),
+    Shared(SharedPart<u8, A>),
+}
+
+/// Bytes that are owned. Contracts see it as their list.
 #[derive(Drop, Debug)]
 pub struct Text<A: Allocator = Global> {
-    bytes: Vec<u8, A>,
+    bytes: Bytes<A>,
 }
 
 impl<A: Allocator> Model for Text<A> {
     ghost use Rattle.std.specs.Prelude.{List, ℕ};
+    ghost use Rattle.cil_resolve.specs.Text.{bytes_of};
 
     ghost Value = { List ℕ };
 
-    ghost view = { λ t. t.bytes.items };
+    ghost view = { λ t. bytes_of t.bytes };
 }
 
 impl<A: Allocator> Text<A> {
@@ -24,21 +33,33 @@ impl<A: Allocator> Text<A> {
     pub fn of(alloc: A, bytes: &[u8]) -> Result<Self, AllocError>
         ensures { IfOk result (λ t. t ≡ bytes.now) }
     {
-        Ok(Text {
-            bytes: Vec::from_slice(alloc, bytes)?,
-        })
+        Ok(Text::from_vec(Vec::from_slice(alloc, bytes)?))
     }
 
     /// The bytes of a vector, which is not copied.
     pub fn from_vec(bytes: Vec<u8, A>) -> Self
         ensures { result ≡ bytes.items }
     {
-        Text { bytes }
+        Text {
+            bytes: Bytes::Own(bytes),
+        }
+    }
+
+    /// The bytes of a part of a vector, which is not copied.
+    pub fn from_part(bytes: SharedPart<u8, A>) -> Self
+        ensures { result ≡ bytes }
+    {
+        Text {
+            bytes: Bytes::Shared(bytes),
+        }
     }
 
     pub fn as_slice(&self) -> &[u8]
         ensures { result.now ≡ self.now }
     {
-        self.bytes.as_slice()
+        match &self.bytes {
+            Bytes::Own(bytes) => bytes.as_slice(),
+            Bytes::Shared(part) => part.as_slice(),
+        }
     }
 }

@@ -1,7 +1,28 @@
-use Rattle.cil_resolve.proofs.Common.{◌≡◌, ◌++◌, [], ◌∷◌, map, sym, ap, ◌∙◌, arith, append-nil, map-append, rows-length, there-at, dropped_if, modules_of, dropped_with}
+use Rattle.cil_resolve.proofs.Common.{◌<◌, length, length-map, rules, is_optional, ◌≡◌, ◌++◌, [], ◌∷◌, map, sym, ap, ◌∙◌, arith, append-nil, map-append, rows-length, there-at, dropped_if, modules_of, dropped_with}
+use Rattle.cil_parse.specs.Forms.{kind_of}
+use Rattle.cil_bind.specs.Scope.{is_optional_kind}
+use Rattle.cil_bind.proofs.BindingLemmas.{kind-at}
+use Rattle.cil_bind.proofs.ScopeLemmas.{kind-optional}
 use Rattle.cil_resolve.proofs.DroppedLemmas.{row-here, row-optional, one-dropped, kept-none, other-none}
 use Rattle.cil_resolve.proofs.dropped.add_dropped.Goals as goal
 use Rattle.cil_resolve.proofs.dropped.add_dropped.Goals.{else-row-via-then-row+else-not-is_marked, else-row-via-else-row}
+
+pub index-requires : goal.index-requires
+index-requires g c =
+    let (policy, bound) = c.requires.is in
+    let p = c.args.policy.now in
+    let long = rows-length p.names p.lookup.namespaces p.rows.items policy bound.stands.rows_are in
+    let kinds = ap length bound.kinds ∙ length-map policy (λ s. kind_of s.form) in
+    let within = c.requires.within in
+    let low : c.args.i < length p.kinds.items = omega arith in
+    search rules
+
+pub returns-then-not-is_optional : goal.returns-then-not-is_optional
+returns-then-not-is_optional g c = λ policy set s bound marks at.
+    let old = map (dropped_with (modules_of c.args.joined.now)) c.args.dropped.now.items in
+    let kind = c.index.ensures ∙ kind-at policy c.args.policy.now.kinds.items c.args.i s _ bound.kinds at in
+    let other = sym (kind-optional s.form) ∙ ap is_optional_kind (sym kind) ∙ sym c.is_optional.ensures ∙ c.if-not-is_optional.true in
+    sym (append-nil old) ∙ ap (λ d. old ++ d) (sym (other-none set s other))
 
 pub dropped_optional-requires-clause-is : goal.dropped_optional-requires-clause-is
 dropped_optional-requires-clause-is g c =

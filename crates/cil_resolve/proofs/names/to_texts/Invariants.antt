@@ -1,5 +1,10 @@
-use Rattle.std.proofs.Common.{◌≡◌, map, take}
+use Rattle.std.proofs.Common.{◌≡◌, length, map, take}
+use Rattle.cil_resolve.proofs.TextLemmas.{bytes_in}
 use Rattle.cil_resolve.proofs.names.to_texts.Given as goal
 
+-- so many names are copied, and the next one stands behind their bytes
 abbrev pub invariant-loop-name : goal.invariant-loop-name
-invariant-loop-name g l = l.copies.items ≡ map (λ name. name.text.now) (take l.name-index l.name-items)
+invariant-loop-name g l = record {
+  copies : l.copies.items ≡ map (λ name. name.text.now) (take l.name-index l.name-items);
+  start : l.start ≡ length (bytes_in (take l.name-index (map (λ name. name.text.now) l.name-items)));
+}

@@ -1,0 +1,6 @@
+//! Parts of vectors that several own together.
+#![tactic(auto)]
+
+mod shared_part;
+
+pub use shared_part::SharedPart;
