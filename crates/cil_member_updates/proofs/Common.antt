@@ -4,7 +4,7 @@ pub use Rattle.cil_lines.specs.Line.{IsPresence, hit}
 pub use Rattle.cil_matching.specs.Matching.{AreMatched, AreSameAt, Matched}
 pub use Rattle.cil_member_rows.specs.Rows.{count_before, count_now}
 pub use Rattle.cil_member_rows.specs.Words.{IsOutside}
-pub use Rattle.cil_member_updates.specs.Bits.{AreBits, AreHeld, Cover, CoverAmong}
+pub use Rattle.cil_member_updates.specs.Bits.{AreBits, AreHeld, Cover, CoverAmong, is_set}
 pub use Rattle.cil_member_updates.specs.Counts.{gives_count, gives_member, one_if}
 pub use Rattle.cil_member_updates.specs.Evaluated.{AreUnsettledAt, Comes, Goes, HasTurned, InWord, IsHeld, IsKept, IsMovedAt, IsTurnedAt, IsUnsettled, MayGo, MayTurn, is_asked}
 pub use Rattle.cil_member_updates.specs.Given.{IsUnchanged, Tell, gives, of_name}
@@ -15,7 +15,7 @@ pub use Rattle.cil_member_updates.specs.Passes.{gave_in, given_by, gives_in, gon
 pub use Rattle.cil_member_updates.specs.Places.{no_declared, no_set, set_at}
 pub use Rattle.cil_member_updates.specs.Policy.{AreCounts, counts_at}
 unfoldable pub use Rattle.cil_member_updates.specs.Policy.{given}
-pub use Rattle.cil_member_updates.specs.Reading.{AreVisits, CoversStayed, EvaluatesWord, HasStayed, MayHold, MayMove, MustHold, MustMove, Reads, Stays, given_of, held_by, is_given, is_held, lowered, lowered_by, new_in, old_in, raised, raised_by, set_of, was_given, was_held}
+pub use Rattle.cil_member_updates.specs.Reading.{AreVisits, CoversStayed, EvaluatesWord, HasStayed, HoldsTypes, KnowsTypes, MayHold, MayMove, MustHold, MustMove, Reads, Stays, given_of, held_by, is_given, is_held, name_holds, named_by, lowered, lowered_by, new_in, old_in, raised, raised_by, set_of, was_given, was_held}
 pub use Rattle.cil_member_updates.specs.Steps.{AreLowered, AreRenewed, ComesIn, EvaluatesGone, EvaluatesNew, GoesIn, MayGoIn, MayTurnIn, new_sets, old_sets}
 pub use Rattle.cil_parse.specs.Lexicon.{AreNumbersOf}
 pub use Rattle.cil_resolve.specs.Meter.{adjustments_in, evaluations_in}

@@ -10,7 +10,8 @@ is_among symbols types t = of_name (λ name. list_any (λ d. bytes_eq name d.nam
 abbrev pub AreAmong : List (List ℕ) → List Declared → List ℕ → Type 0
 AreAmong symbols types words = (w : ℕ) → AreBits (is_among symbols types) w (get_or words w 0)
 
-zero-in : (n i : ℕ) → ◌≡◌ {A = ℕ} (get_or (replicate n 0) i 0) 0
+-- words of nothing
+pub zero-in : (n i : ℕ) → ◌≡◌ {A = ℕ} (get_or (replicate n 0) i 0) 0
 zero-in zero i = refl
 zero-in (suc n) zero = refl
 zero-in (suc n) (suc i) = zero-in n i

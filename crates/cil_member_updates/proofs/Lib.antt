@@ -11,6 +11,7 @@ pub mod MovedLemmas
 pub mod NameLemmas
 pub mod PassLemmas
 pub mod PlaceLemmas
+pub mod PlainLemmas
 pub mod RenewLemmas
 pub mod SideLemmas
 pub mod StayLemmas

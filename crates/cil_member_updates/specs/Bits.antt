@@ -1,7 +1,11 @@
 -- Symbols by the bits of words of 64.
-use Rattle.std.specs.Prelude.{◌≡◌, ◌==◌, ◌<◌, ◌*◌, ◌+◌, ◌&&◌, ℕ, Bool, false}
+use Rattle.std.specs.Prelude.{◌≡◌, ◌==◌, ◌<◌, ◌*◌, ◌/◌, ◌%◌, ◌+◌, ◌&&◌, ℕ, Bool, false, List, slice_index}
 use Rattle.std.specs.Int.{bit_at}
 use Rattle.cil_member_updates.specs.Counts.{one_if}
+
+-- whether the bit of a symbol is set in words
+abbrev pub is_set : List ℕ → ℕ → Bool
+is_set words t = bit_at (slice_index words (t / 64)) (t % 64) == 1
 
 -- the bits of a word tell at which of its symbols a test holds
 abbrev pub AreBits : (ℕ → Bool) → ℕ → ℕ → Type 0

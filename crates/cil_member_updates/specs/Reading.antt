@@ -1,5 +1,5 @@
 -- Set statements of a policy, and of two.
-use Rattle.std.specs.Prelude.{◌≡◌, ◌<◌, ◌+◌, ◌-◌, ◌^◌, ℕ, Bool, IsTrue, List, Some, length, min, nat_lt, slice_get, slice_index}
+use Rattle.std.specs.Prelude.{◌≡◌, ◌<◌, ◌+◌, ◌-◌, ◌^◌, ℕ, Bool, IfSome, IsTrue, List, Some, length, min, nat_lt, slice_get, slice_index}
 use Rattle.cil_expression.specs.declared.expression.Element as numbered
 use Rattle.cil_matching.specs.Matching.{AreMatched, Matched}
 use Rattle.cil_member_rows.specs.Rows.{count_before, count_now, rows_in}
@@ -15,7 +15,7 @@ use Rattle.cil_resolve.specs.declared.resolved.Resolved.{Resolved}
 use Rattle.cil_specs.specs.Rule.{Element, IsSameSet, SetStatement}
 use Rattle.cil_specs.specs.Sets.{differ}
 use Rattle.cil_sums.specs.Rises.{RisesWithin}
-use Rattle.cil_member_updates.specs.Bits.{Cover}
+use Rattle.cil_member_updates.specs.Bits.{Cover, is_set}
 use Rattle.cil_member_updates.specs.Evaluated.{AreTurnedAt, AreUnsettledAt, InWord, IsHeld, IsKept, IsMovedAt, IsTurnedAt, IsUnsettled}
 use Rattle.cil_member_updates.specs.Given.{element_holds, holds, IsUnchanged, Tell}
 use Rattle.cil_member_updates.specs.Moved.{nothing}
@@ -80,6 +80,14 @@ MayHold r = IsKept r.symbols.now (meaning_in r.side.now.resolved.now)
 
 abbrev pub MustHold : {A : Type 0} → Reading A → ℕ → Type 0
 MustHold r = IsHeld r.symbols.now (meaning_in r.side.now.resolved.now) (set_of r)
+
+-- The bits of words tell of each kept type whether it holds it.
+abbrev pub HoldsTypes : {A : Type 0} → Reading A → List ℕ → Type 0
+HoldsTypes r words = (t : ℕ) → MayHold r t → is_set words t ≡ held_by r t
+
+-- so do those that are known, if any are
+abbrev pub KnowsTypes : {A : Type 0} → Reading A → Type 0
+KnowsTypes r = IfSome r.held (λ words. HoldsTypes r words.now)
 
 -- it is evaluated once
 abbrev pub EvaluatesOnce : (before after : Meter) → Type 0

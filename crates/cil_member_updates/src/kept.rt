@@ -4,6 +4,7 @@ ghost use Rattle.std.specs.Prelude.{◌≡◌, ◌<◌, ◌≤◌, ℕ, length, 
 ghost use Rattle.cil_member_updates.specs.Common.{meaning_in, IsOutside, AreKept, IsNumbering};
 ghost use Rattle.cil_member_updates.specs.Places.{no_declared};
 
+use crate::held::word_of;
 use cil_member_rows::Words;
 use cil_resolve::Resolved;
 use cil_symbols::{Numbering, Symbols};
@@ -70,10 +71,7 @@ impl<A: Allocator> KeptTypes<A> {
     pub fn word(&self, word: usize) -> u64
         ensures { result ≡ slice_index self.now word }
     {
-        match self.words.get(word) {
-            Some(bits) => *bits,
-            None => 0,
-        }
+        word_of(&self.words, word)
     }
 }
 

@@ -1,10 +1,12 @@
 //! The members of attributes, brought from an old policy to a new one in place.
 #![tactic(auto)]
 
+mod held;
 mod kept;
 mod loading;
 mod masks;
 mod passes;
+mod plain_list;
 mod sets;
 mod side;
 mod visits;

@@ -41,6 +41,7 @@ fn load_sets<'p, A: Allocator + Copy>(
             side,
             when: When::Now,
             place,
+            held: None,
         };
         give_set(rows, alloc, &is, meter)?;
         rows.settle_many();

@@ -2,10 +2,11 @@
 
 ghost use Rattle.std.specs.Prelude.{◌≡◌, ◌*◌, ◌%◌, ◌<◌, ◌≤◌, ◌^◌, ℕ, slice_index};
 ghost use Rattle.std.specs.Int.{bit_at};
-ghost use Rattle.cil_member_updates.specs.Common.{adjustments_in, evaluations_in, held_by, EvaluatesOnce, MayHold, Reads, TellsMember, AreHeld, is_asked};
+ghost use Rattle.cil_member_updates.specs.Common.{adjustments_in, evaluations_in, held_by, EvaluatesOnce, KnowsTypes, MayHold, Reads, TellsMember, AreHeld, is_asked};
 ghost use Rattle.cil_member_updates.specs.Counts.{one_if};
 ghost use Rattle.cil_sums.specs.Rises.{RisesBy};
 
+use crate::held::has_bit;
 use crate::side::Reading;
 use crate::when::is_member;
 use cil_member_rows::MemberRows;
@@ -30,8 +31,8 @@ fn is_known<A: Allocator>(
     }
 }
 
-/// Whether a set statement holds a kept type.
-fn is_held<A: Allocator>(
+/// Whether a set statement holds a kept type, by its expression.
+fn evaluated<A: Allocator>(
     reading: &Reading<'_, A>,
     rows: &MemberRows<A>,
     t: usize,
@@ -55,6 +56,29 @@ fn is_held<A: Allocator>(
     )
 }
 
+/// Whether a set statement holds a kept type.
+fn is_held<A: Allocator>(
+    reading: &Reading<'_, A>,
+    rows: &MemberRows<A>,
+    t: usize,
+    meter: &mut Meter,
+) -> bool
+    requires reads { Reads reading.now rows.now }
+    requires known { KnowsTypes reading.now }
+    requires kept { MayHold reading.now t }
+    ensures held { result ≡ held_by reading.now t }
+    ensures evaluations { EvaluatesOnce meter.old meter.new }
+    ensures adjustments { adjustments_in meter.new ≡ adjustments_in meter.old }
+{
+    match reading.held {
+        Some(types) => {
+            meter.evaluated();
+            has_bit(types, t)
+        }
+        None => evaluated(reading, rows, t, meter),
+    }
+}
+
 /// The bit of a symbol of a word, if a set statement holds its type.
 fn held_bit<A: Allocator>(
     reading: &Reading<'_, A>,
@@ -63,6 +87,7 @@ fn held_bit<A: Allocator>(
     meter: &mut Meter,
 ) -> u64
     requires reads { Reads reading.now rows.now }
+    requires known { KnowsTypes reading.now }
     requires kept { MayHold reading.now t }
     ensures bit { result ≡ one_if (held_by reading.now t) * 2 ^ (t % 64) }
     ensures evaluations { EvaluatesOnce meter.old meter.new }
@@ -102,6 +127,7 @@ pub fn masked<A: Allocator>(
     meter: &mut Meter,
 ) -> u64
     requires reads { Reads reading.now rows.now }
+    requires known { KnowsTypes reading.now }
     requires word { word < 2 ^ 58 }
     ensures held { AreHeld visits (held_by reading.now) word result }
     ensures evaluations { RisesBy (is_asked visits (slice_index reading.now.side.now.kept.now word))

@@ -41,6 +41,7 @@ fn lower_gone_set<A: Allocator + Copy>(
                 side: policies.old,
                 when: When::Before,
                 place: i,
+                held: None,
             };
             give_set(rows, alloc, &was, meter)
         }
@@ -99,6 +100,7 @@ fn renew_set<A: Allocator + Copy>(
                 side: policies.new,
                 when: When::Now,
                 place: j,
+                held: None,
             };
             give_set(rows, alloc, &is, meter)
         }

@@ -1,8 +1,9 @@
 //! One set statement at all types.
 
 ghost use Rattle.std.specs.Prelude.{◌≤◌, length, OnOk};
-ghost use Rattle.cil_member_updates.specs.Common.{count_now, rows_in, AreAtLeast, AreMoved, ArePolicies, EvaluatesSet, HasStayed, is_given, lowered_by, MovesSet, raised_by, Reads, Stays, was_given};
+ghost use Rattle.cil_member_updates.specs.Common.{count_now, rows_in, AreAtLeast, AreMoved, ArePolicies, EvaluatesSet, HasStayed, HoldsTypes, KnowsTypes, is_given, lowered_by, MovesSet, raised_by, Reads, Stays, was_given};
 
+use crate::plain_list::plain_list;
 use crate::side::{Reading, Stayed};
 use crate::visits::turned_words;
 use crate::words::{give_word, move_word};
@@ -14,14 +15,15 @@ use std::alloc::{AllocError, Allocator};
 const WORD: usize = 64;
 
 /// Lowers the counters by what a set statement gave, if it is read as it was, or raises them by
-/// what it gives now.
-pub fn give_set<A: Allocator + Copy>(
+/// what it gives now, word by word.
+fn give_words<A: Allocator + Copy>(
     rows: &mut MemberRows<A>,
     alloc: A,
     reading: &Reading<'_, A>,
     meter: &mut Meter,
 ) -> Result<(), AllocError>
     requires reads { Reads reading.now rows.old }
+    requires known { KnowsTypes reading.now }
     requires room { length reading.now.symbols.now ≤ rows_in rows.old }
     requires above { AreAtLeast (lowered_by reading.now) (count_now rows.old) }
     ensures now { OnOk result (AreMoved (lowered_by reading.now) (raised_by reading.now)
@@ -34,6 +36,56 @@ pub fn give_set<A: Allocator + Copy>(
         give_word(rows, alloc, reading, word, meter)?;
     }
     Ok(())
+}
+
+/// The same, where the types that it holds are known.
+fn give_known<A: Allocator + Copy>(
+    rows: &mut MemberRows<A>,
+    alloc: A,
+    reading: &Reading<'_, A>,
+    types: &[u64],
+    meter: &mut Meter,
+) -> Result<(), AllocError>
+    requires reads { Reads reading.now rows.old }
+    requires types { HoldsTypes reading.now types.now }
+    requires room { length reading.now.symbols.now ≤ rows_in rows.old }
+    requires above { AreAtLeast (lowered_by reading.now) (count_now rows.old) }
+    ensures now { OnOk result (AreMoved (lowered_by reading.now) (raised_by reading.now)
+        (count_now rows.old) (count_now rows.new)) }
+    ensures stays { Stays rows.old rows.new meter.old meter.new }
+    ensures evaluations { OnOk result (EvaluatesSet reading.now meter.old meter.new) }
+{
+    let known = Reading {
+        symbols: reading.symbols,
+        side: reading.side,
+        when: reading.when,
+        place: reading.place,
+        held: Some(types),
+    };
+    give_words(rows, alloc, &known, meter)
+}
+
+/// Lowers the counters by what a set statement gave, if it is read as it was, or raises them by
+/// what it gives now.
+pub fn give_set<A: Allocator + Copy>(
+    rows: &mut MemberRows<A>,
+    alloc: A,
+    reading: &Reading<'_, A>,
+    meter: &mut Meter,
+) -> Result<(), AllocError>
+    requires reads { Reads reading.now rows.old }
+    requires known { KnowsTypes reading.now }
+    requires room { length reading.now.symbols.now ≤ rows_in rows.old }
+    requires above { AreAtLeast (lowered_by reading.now) (count_now rows.old) }
+    ensures now { OnOk result (AreMoved (lowered_by reading.now) (raised_by reading.now)
+        (count_now rows.old) (count_now rows.new)) }
+    ensures stays { Stays rows.old rows.new meter.old meter.new }
+    ensures evaluations { OnOk result (EvaluatesSet reading.now meter.old meter.new) }
+{
+    match plain_list(alloc, reading, rows)? {
+        Some(types) => give_known(rows, alloc, reading, &types, meter),
+        None => give_words(rows, alloc, reading, meter),
+    }
 }
 
 /// Moves the counters from what a set statement gave in the old policy to what it gives in the new

@@ -28,13 +28,14 @@ pub struct Sides<'p, A: Allocator = Global> {
 }
 
 /// The set statement of a policy at a place. Its expression is read by who was a member before the
-/// steps, or is one now.
+/// steps, or is one now. The types that it holds may be known, as bits, 64 a word.
 #[derive(Clone, Copy)]
 pub struct Reading<'p, A: Allocator = Global> {
     pub symbols: &'p Symbols<A>,
     pub side: &'p Side<'p, A>,
     pub when: When,
     pub place: usize,
+    pub held: Option<&'p [u64]>,
 }
 
 /// Two policies with their set statements matched, and words outside which they keep the same

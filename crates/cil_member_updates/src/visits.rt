@@ -1,9 +1,10 @@
 //! Where a set statement may hold a type, word by word.
 
 ghost use Rattle.std.specs.Prelude.{◌<◌, ◌==◌, ℕ, Contains, length};
-ghost use Rattle.cil_member_updates.specs.Common.{sets_in, IsOutside, IsSide, AreNamesTurned, AreNamesUnchanged, ArePolicies, AreVisits, CoversNames, CoversStayed, HasStayed, IsNameIn, IsNameTurned, IsNameUnchanged, Reads, held_by, name_holds, named_by, set_of, Cover, CoverAmong};
+ghost use Rattle.cil_member_updates.specs.Common.{sets_in, IsOutside, IsSide, AreNamesTurned, AreNamesUnchanged, ArePolicies, AreVisits, CoversNames, CoversStayed, HasStayed, IsNameIn, IsNameTurned, IsNameUnchanged, KnowsTypes, Reads, held_by, name_holds, named_by, set_of, Cover, CoverAmong};
 ghost use Rattle.cil_specs.specs.Expr.{leaves};
 
+use crate::held::word_of;
 use crate::side::{Reading, Stayed};
 use crate::when::{When, members};
 use cil_member_rows::{MemberRows, Words};
@@ -63,8 +64,12 @@ fn name_bits<A: Allocator>(reading: &Reading<'_, A>, rows: &MemberRows<A>, word:
     bits
 }
 
-/// The types of a word that a set statement may hold.
-pub fn reached<A: Allocator>(reading: &Reading<'_, A>, rows: &MemberRows<A>, word: usize) -> u64
+/// The types of a word that a set statement may hold, by its expression.
+fn reached_by_names<A: Allocator>(
+    reading: &Reading<'_, A>,
+    rows: &MemberRows<A>,
+    word: usize,
+) -> u64
     requires { Reads reading.now rows.now }
     ensures { Cover (held_by reading.now) word result }
 {
@@ -73,6 +78,18 @@ pub fn reached<A: Allocator>(reading: &Reading<'_, A>, rows: &MemberRows<A>, wor
         reading.side.kept.word(word)
     } else {
         name_bits(reading, rows, word)
+    }
+}
+
+/// The types of a word that a set statement may hold.
+pub fn reached<A: Allocator>(reading: &Reading<'_, A>, rows: &MemberRows<A>, word: usize) -> u64
+    requires reads { Reads reading.now rows.now }
+    requires known { KnowsTypes reading.now }
+    ensures { Cover (held_by reading.now) word result }
+{
+    match reading.held {
+        Some(types) => word_of(types, word),
+        None => reached_by_names(reading, rows, word),
     }
 }
 
@@ -91,7 +108,7 @@ fn reached_among<A: Allocator>(
     if kept == 0 {
         return 0;
     }
-    reached(reading, rows, word)
+    reached_by_names(reading, rows, word)
 }
 
 /// The types of a word that became members of the attribute of a name of an expression, or are none
@@ -153,6 +170,7 @@ fn touched<A: Allocator>(stayed: &Stayed<'_, A>, rows: &MemberRows<A>, word: usi
         side: new,
         when: When::Now,
         place: stayed.j,
+        held: None,
     };
     let changed = changed_by_names(&is, rows, word);
     changed | (old.kept.word(word) ^ new.kept.word(word))
@@ -173,12 +191,14 @@ pub fn unsettled<A: Allocator>(stayed: &Stayed<'_, A>, rows: &MemberRows<A>, wor
         side: stayed.policies.old,
         when: When::Before,
         place: stayed.i,
+        held: None,
     };
     let is = Reading {
         symbols: stayed.policies.symbols,
         side: stayed.policies.new,
         when: When::Now,
         place: stayed.j,
+        held: None,
     };
     let reached_was = reached_among(&was, rows, word, bits);
     let reached_is = reached_among(&is, rows, word, bits);
@@ -235,6 +255,7 @@ pub fn turned_words<A: Allocator>(stayed: &Stayed<'_, A>, rows: &MemberRows<A>) 
         side: new,
         when: When::Now,
         place: stayed.j,
+        held: None,
     };
     stayed.policies.unlike.joined(words_of_names(&is, rows))
 }

@@ -1,7 +1,7 @@
 //! One set statement at the types of a word.
 
 ghost use Rattle.std.specs.Prelude.{◌<◌, ◌≤◌, ◌^◌, length, OnOk};
-ghost use Rattle.cil_member_updates.specs.Common.{count_now, rows_in, IsAtLeast, IsMoved, EvaluatesWord, HasStayed, is_given, lowered_by, MovesWord, raised_by, Reads, Stays, was_given};
+ghost use Rattle.cil_member_updates.specs.Common.{count_now, rows_in, IsAtLeast, IsMoved, EvaluatesWord, HasStayed, KnowsTypes, is_given, lowered_by, MovesWord, raised_by, Reads, Stays, was_given};
 
 use crate::masks::masked;
 use crate::side::{Reading, Stayed, row_of};
@@ -21,6 +21,7 @@ pub fn give_word<A: Allocator + Copy>(
     meter: &mut Meter,
 ) -> Result<(), AllocError>
     requires reads { Reads reading.now rows.old }
+    requires known { KnowsTypes reading.now }
     requires word { word < 2 ^ 58 }
     requires room { length reading.now.symbols.now ≤ rows_in rows.old }
     requires above { IsAtLeast word (lowered_by reading.now) (count_now rows.old) }
@@ -68,12 +69,14 @@ pub fn move_word<A: Allocator + Copy>(
         side: stayed.policies.old,
         when: When::Before,
         place: stayed.i,
+        held: None,
     };
     let is = Reading {
         symbols: stayed.policies.symbols,
         side: stayed.policies.new,
         when: When::Now,
         place: stayed.j,
+        held: None,
     };
     let row = row_of(&is);
     let was_mask = masked(&was, rows, word, visits, meter);

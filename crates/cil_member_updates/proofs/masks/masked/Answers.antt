@@ -1,4 +1,4 @@
-use Rattle.cil_member_updates.proofs.Common.{◌≡◌, ◌≤◌, ◌<◌, ◌+◌, ◌*◌, ◌==◌, ◌&&◌, ◌∙◌, ℕ, Bool, false, ap, bit_and, arith, refl, subst, sym, bit_at, eq-eqb, ne_eqb, adjustments_in, evaluations_in, meaning_in, up_to, RisesBy, up_to-add, up_to-first, AreBits, is_asked, held_by, keeps, set_of}
+use Rattle.cil_member_updates.proofs.Common.{◌≡◌, ◌≤◌, ◌<◌, ◌+◌, ◌*◌, ◌==◌, ◌∙◌, ℕ, Bool, false, ap, bit_and, arith, refl, subst, sym, bit_at, eq-eqb, ne_eqb, evaluations_in, meaning_in, up_to, RisesBy, up_to-add, up_to-first, AreBits, is_asked, held_by, keeps, set_of}
 use Rattle.cil_sums.proofs.RiseLemmas.{rises-same}
 use Rattle.cil_member_updates.proofs.BitLemmas.{answer-bit, answer-other, held-add, held-none, held-past, looked-kept, looked-past, looked-visit, up_to-past, HeldBelow}
 use Rattle.cil_member_updates.proofs.NameLemmas.{holds-kept}

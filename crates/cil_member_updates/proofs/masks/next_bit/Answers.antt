@@ -1,4 +1,4 @@
-use Rattle.cil_member_updates.proofs.Common.{arith, ◌≡◌, ◌≢◌, ◌<◌, ◌/◌, ◌^◌}
+use Rattle.cil_member_updates.proofs.Common.{arith}
 use Rattle.cil_member_updates.proofs.BitLemmas.{first-clear, first-set, first-within, none-behind}
 use Rattle.cil_member_updates.proofs.masks.next_bit.Goals as goal
 

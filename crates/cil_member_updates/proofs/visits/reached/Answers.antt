@@ -1,17 +1,12 @@
-use Rattle.cil_member_updates.proofs.Common.{◌∙◌, sym, subst, meaning_in, set_of, AreBits, keeps}
-use Rattle.cil_member_updates.proofs.PlaceLemmas.{set-there}
-use Rattle.cil_member_updates.proofs.NameLemmas.{cover-kept, cover-reach}
+use Rattle.std.proofs.Common.{IfSome}
+use Rattle.cil_member_updates.proofs.Common.{sym, subst, meaning_in, set_of, Cover, HoldsTypes, held_by, keeps}
+use Rattle.cil_member_updates.proofs.NameLemmas.{holds-kept}
+use Rattle.cil_member_updates.proofs.PlainLemmas.{cover-set}
 use Rattle.cil_member_updates.proofs.visits.reached.Goals as goal
 
-pub returns-then-may_hold_any : goal.returns-then-may_hold_any
-returns-then-may_hold_any g c =
-    let r = c.args.reading.now.side.now.resolved.now in
-    cover-kept c.args.reading.now.symbols.now (meaning_in r) (set_of c.args.reading.now) c.args.word c.word.result
-    (subst (AreBits (keeps c.args.reading.now.symbols.now (meaning_in r)) c.args.word) (sym c.word.ensures) (c.requires.side.kept c.args.word))
-
-pub returns-else-may_hold_any : goal.returns-else-may_hold_any
-returns-else-may_hold_any g c =
-    let r = c.args.reading.now.side.now.resolved.now in
-    cover-reach c.args.reading.now.symbols.now (meaning_in r) (set_of c.args.reading.now) c.args.word c.name_bits.result
-    (λ t fails. c.reach_is_a_bound.ensures (meaning_in r) (set_of c.args.reading.now).expr t (sym (c.may_hold_any.ensures.value (set_of c.args.reading.now) (set-there r c.args.reading.now.place c.requires.within)) ∙ c.if-may_hold_any.false) fails)
-    c.name_bits.ensures
+pub returns-in-Some : goal.returns-in-Some
+returns-in-Some g c =
+    let r = c.args.reading.now in
+    let meaning = meaning_in r.side.now.resolved.now in
+    let told = subst (λ held. IfSome held (λ words. HoldsTypes r words.now)) c.in-Some.is c.requires.known in
+    subst (Cover (held_by r) c.args.word) (sym c.word_of.ensures) (cover-set (keeps r.symbols.now meaning) (held_by r) (holds-kept r.symbols.now meaning (set_of r)) c.in-Some.types.now told c.args.word)

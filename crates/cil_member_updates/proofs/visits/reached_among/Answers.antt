@@ -13,4 +13,4 @@ returns-then-kept-eq0 g c = λ b within set none.
     (omega (arith, set, ap (λ n. bit_at n b) c.if-kept-eq0.true, bit_at-zero b, bit_at_and c.args.among c.word.result b, bit_at-lt c.word.result b)))
 
 pub returns : goal.returns
-returns g c = λ b within set none. c.reached.ensures b within none
+returns g c = λ b within set none. c.reached_by_names.ensures b within none

@@ -2,7 +2,7 @@ use Rattle.cil_member_updates.proofs.Common.{arith, count_now, evaluations_in, m
 use Rattle.cil_member_updates.proofs.EvaluatedLemmas.{holds-within, words-all, words-first, words-next}
 use Rattle.cil_member_updates.proofs.MovedLemmas.{moved-all, moved-more, moved-none, none-given, stays-first, stays-next}
 use Rattle.cil_member_updates.proofs.SideLemmas.{given-past, reads-still}
-use Rattle.cil_member_updates.proofs.sets.give_set.Goals as goal
+use Rattle.cil_member_updates.proofs.sets.give_words.Goals as goal
 
 pub give_word-requires-clause-reads : goal.give_word-requires-clause-reads
 give_word-requires-clause-reads g c =

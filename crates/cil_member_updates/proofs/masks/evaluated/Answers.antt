@@ -2,7 +2,7 @@ use Rattle.cil_member_updates.proofs.Common.{◌≡◌, ◌∙◌, ℕ, Some, ge
 use Rattle.cil_member_updates.proofs.PlaceLemmas.{set-there}
 use Rattle.cil_member_updates.proofs.NameLemmas.{holds-named, keeps-name, keeps-named}
 use Rattle.cil_member_updates.proofs.SymbolLemmas.{number-some, symbol-name, symbol-some, symbol-within}
-use Rattle.cil_member_updates.proofs.masks.is_held.Goals as goal
+use Rattle.cil_member_updates.proofs.masks.evaluated.Goals as goal
 
 pub unwrap-ty-requires : goal.unwrap-ty-requires
 unwrap-ty-requires g c =

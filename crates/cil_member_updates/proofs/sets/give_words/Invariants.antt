@@ -1,7 +1,7 @@
 use Rattle.cil_member_updates.proofs.Common.{count_now, evaluations_in, MayHold, MustHold, RisesWithin, Stays, lowered_by, raised_by}
 use Rattle.cil_member_updates.proofs.EvaluatedLemmas.{Beneath}
 use Rattle.cil_member_updates.proofs.MovedLemmas.{MovedBelow}
-use Rattle.cil_member_updates.proofs.sets.give_set.Given as goal
+use Rattle.cil_member_updates.proofs.sets.give_words.Given as goal
 
 -- the words so far are done
 abbrev pub invariant-loop-word : goal.invariant-loop-word

@@ -1,0 +1,149 @@
+//! Set statements whose expression is a plain list of names, which is gone along once.
+
+ghost use Rattle.std.specs.Prelude.{◌≡◌, ◌||◌, ◌==◌, ◌<◌, ◌/◌, ◌+◌, ℕ, List, Contains, IfOk, IfSome, IsTrue, length, nat_lt};
+ghost use Rattle.cil_expression.specs.Spelling.{nodes_of};
+ghost use Rattle.cil_expression.specs.declared.expression.Element.{Element};
+ghost use Rattle.cil_parse.specs.Forms.{is_plain};
+ghost use Rattle.cil_specs.specs.Expr.{leaves, listed};
+ghost use Rattle.cil_member_updates.specs.Common.{sets_in, HoldsTypes, MayHold, Reads, IsNameIn, held_by, is_set, name_holds, named_by, set_of};
+ghost use Rattle.cil_member_updates.specs.Policy.{counts_at};
+
+use crate::side::Reading;
+use crate::when::{When, members};
+use cil_member_rows::MemberRows;
+use cil_parse::SetNode;
+use cil_resolve::{Element, SetExpression};
+use std::alloc::{AllocError, Allocator};
+
+// How many symbols a word has.
+const WORD: usize = 64;
+
+// How many names a list has at least that is gone along once. One of fewer is evaluated at each type.
+const MANY: usize = 16;
+
+/// The nodes of a plain list of so many names.
+fn list_nodes<A: Allocator + Copy>(alloc: A, names: usize) -> Result<Vec<SetNode, A>, AllocError>
+    ensures { IfOk result (λ nodes. (l : List Element) → length l ≡ names
+        → nodes.items ≡ nodes_of (listed l)) }
+{
+    let mut nodes = Vec::new(alloc);
+    for _ in 0..names {
+        nodes.push(SetNode::Element)?;
+        nodes.push(SetNode::Name)?;
+    }
+    nodes.push(SetNode::Nothing)?;
+    Ok(nodes)
+}
+
+/// Whether the expression of a set statement is a plain list of names. It is compared with the list
+/// of its names.
+fn is_plain_list<A: Allocator + Copy>(
+    alloc: A,
+    reading: &Reading<'_, A>,
+) -> Result<bool, AllocError>
+    requires { reading.now.place < length (sets_in reading.now.side.now.resolved.now) }
+    ensures { IfOk result (λ is. is ≡ is_plain (set_of reading.now).expr) }
+{
+    let expression = &reading
+        .side
+        .resolved
+        .numbered_set(reading.place)
+        .unwrap()
+        .expression;
+    let names = expression.names();
+    let nodes = list_nodes(alloc, names.len())?;
+    let list = SetExpression::new(nodes, names.to_vec(alloc)?);
+    Ok(expression.is_same(
+        &list,
+        |_, _|
+            ensures { IsTrue result }
+        { true },
+    ))
+}
+
+/// Sets the bit of a symbol.
+fn add_symbol(words: &mut [u64], symbol: usize)
+    requires { symbol / 64 < length words.old }
+    ensures long { length words.new ≡ length words.old }
+    ensures set { (t : ℕ) → is_set words.new t ≡ (is_set words.old t || (symbol == t)) }
+{
+    let bits = words[symbol / WORD];
+    words[symbol / WORD] = bits | 1 << (symbol % WORD);
+}
+
+/// Sets the bits of the members of the attribute of a row.
+fn add_members<A: Allocator>(words: &mut [u64], rows: &MemberRows<A>, when: &When, row: usize)
+    ensures long { length words.new ≡ length words.old }
+    ensures set { (t : ℕ) → t / 64 < length words.old
+        → is_set words.new t ≡ (is_set words.old t || nat_lt 0 (counts_at when.now rows.now row t)) }
+{
+    for word in 0..words.len() {
+        words[word] |= members(rows, when, row, word);
+    }
+}
+
+/// Sets the bits of the types that a name of an expression holds.
+fn add_name<A: Allocator>(
+    words: &mut [u64],
+    reading: &Reading<'_, A>,
+    rows: &MemberRows<A>,
+    element: Element,
+)
+    requires reads { Reads reading.now rows.now }
+    requires below { IsNameIn reading.now element }
+    requires named { Contains (leaves (set_of reading.now).expr) (named_by reading.now element) }
+    requires long { length words.old ≡ length reading.now.symbols.now / 64 + 1 }
+    ensures long { length words.new ≡ length words.old }
+    ensures set { (t : ℕ) → MayHold reading.now t
+        → is_set words.new t ≡ (is_set words.old t || name_holds reading.now element t) }
+{
+    let numbering = reading.side.numbering;
+    match element {
+        Element::Type(ty) => add_symbol(words, numbering.symbol(ty as usize).unwrap()),
+        Element::Attribute(attribute) => add_members(
+            words,
+            rows,
+            &reading.when,
+            numbering.symbol(attribute as usize).unwrap(),
+        ),
+    }
+}
+
+/// The types that a set statement holds whose expression is a plain list of names: those that one
+/// of the names holds.
+fn listed_types<A: Allocator + Copy>(
+    alloc: A,
+    reading: &Reading<'_, A>,
+    rows: &MemberRows<A>,
+) -> Result<Vec<u64, A>, AllocError>
+    requires reads { Reads reading.now rows.now }
+    requires plain { IsTrue (is_plain (set_of reading.now).expr) }
+    ensures { IfOk result (λ words. HoldsTypes reading.now words.items) }
+{
+    let names = reading.side.resolved.set_names(reading.place);
+    let mut words = vec![in alloc; 0; reading.symbols.len() / WORD + 1]?;
+    for k in 0..names.len() {
+        add_name(&mut words, reading, rows, names[k]);
+    }
+    Ok(words)
+}
+
+/// The types that a set statement holds, as bits, 64 a word, where its expression is a plain list
+/// of many names. The time goes with the names, and for each name of an attribute with the types
+/// too. Where it answers none, no contract says.
+pub fn plain_list<A: Allocator + Copy>(
+    alloc: A,
+    reading: &Reading<'_, A>,
+    rows: &MemberRows<A>,
+) -> Result<Option<Vec<u64, A>>, AllocError>
+    requires { Reads reading.now rows.now }
+    ensures { IfOk result (λ found. IfSome found (λ words. HoldsTypes reading.now words.items)) }
+{
+    if reading.side.resolved.set_names(reading.place).len() < MANY {
+        return Ok(None);
+    }
+    if !is_plain_list(alloc, reading)? {
+        return Ok(None);
+    }
+    Ok(Some(listed_types(alloc, reading, rows)?))
+}
