@@ -6,6 +6,8 @@ use Rattle.cil_check.specs.Image.{PolicyFaultIs}
 use Rattle.cil_check.specs.declared.fault.PolicyFault.{PolicyFault}
 use Rattle.cil_check.specs.declared.fault.PolicyFault.TheVariants.{Memory, Found}
 use Rattle.cil_store.specs.Admitted.{admitted_edit, IsAdmitted}
+use Rattle.cil_resolve.specs.declared.meter.Meter.{Meter}
+use Rattle.cil_store.specs.Counted.{AreCountedBetween}
 use Rattle.cil_store.specs.declared.refusal.Refusal as code
 use Rattle.cil_store.specs.declared.admitted.Admitted.{Admitted}
 use Rattle.cil_store.specs.declared.admitted.Admitted.TheVariants.{Install, Remove, Enable, Disable}
@@ -66,3 +68,10 @@ made-step store new edits before after changes short taken meant means are =
       means = means;
       are_changes = are;
     })
+
+-- so was one that was prepared, by the store that came of it
+pub prepared-step : (store new prepared : Store) (edits : List Edit) (after : Meaning) (changes : Changes) (first last : Meter) → is_too_long edits ≡ false → AreTaken store edits prepared → (before : Meaning) × IsMeaningOf store before
+    → IsMeaningOf prepared after → new ≡ prepared → AreCountedBetween store new first last changes → Step store (a_batch edits) (changed_by changes) new
+prepared-step store new prepared edits after changes first last short taken (before, meant) means same are =
+    subst (λ s. Step store (a_batch edits) (changed_by changes) s) (sym same)
+    (made-step store prepared edits before after changes short taken meant means (are before after meant (means-at (sym same) means)).are_changes)

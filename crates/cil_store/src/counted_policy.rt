@@ -23,20 +23,16 @@ use std::alloc::{AllocError, Allocator, Global};
 use std::marker::Model;
 use std::rc::Rc;
 
-/// A resolved policy that can be shared, with the optionals that drop. Contracts see it as the
-/// resolved policy.
+/// A resolved policy that can be shared. Contracts see it as the resolved policy.
 #[derive(Drop)]
 pub struct SharedPolicy<A: Allocator = Global> {
     resolved: Rc<Resolved<A>, A>,
-    dropped: Dropped<A>,
 }
 
 impl<A: Allocator> Model for SharedPolicy<A> {
-    ghost use Rattle.std.specs.Prelude.{◌≡◌};
     ghost use Rattle.std.specs.Coded.{codes};
     ghost use Rattle.std.specs.Rc.{rc_value};
     ghost use Rattle.std.proofs.Props.{props};
-    ghost use Rattle.cil_resolve.specs.Resolved.{meaning_in};
     ghost use Rattle.cil_resolve.specs.declared.resolved.Resolved.{Resolved};
 
     ghost Value = { Resolved A };
@@ -44,29 +40,25 @@ impl<A: Allocator> Model for SharedPolicy<A> {
     ghost coded = { Prim.hlevel (codes, props) };
 
     ghost view = { λ p. rc_value p.resolved };
-
-    ghost invariant = { λ p. p.dropped ≡ (meaning_in (rc_value p.resolved)).dropped };
 }
 
 impl<A: Allocator + Copy> SharedPolicy<A> {
-    /// A resolved policy with the optionals that drop.
+    /// A resolved policy.
     pub fn of(alloc: A, resolved: Resolved<A>) -> Result<Self, AllocError>
         ensures { IfOk result (λ policy. policy ≡ resolved) }
     {
-        let dropped = Dropped::of(alloc, &resolved)?;
-        let resolved = Rc::new(alloc, resolved)?;
-        Ok(SharedPolicy { resolved, dropped })
+        Ok(SharedPolicy {
+            resolved: Rc::new(alloc, resolved)?,
+        })
     }
 
-    /// The same policy, which is shared. Out of memory stands also where no more owners can be
+    /// The same policy, for one more owner. Out of memory stands where no more owners can be
     /// counted.
-    pub fn share(&self, alloc: A) -> Result<Self, AllocError>
+    pub fn share(&self) -> Result<Self, AllocError>
         ensures { IfOk result (λ policy. policy ≡ self.now) }
     {
-        let dropped = self.dropped.copied(alloc)?;
         Ok(SharedPolicy {
             resolved: self.resolved.clone()?,
-            dropped,
         })
     }
 
@@ -74,7 +66,7 @@ impl<A: Allocator + Copy> SharedPolicy<A> {
     fn dropped(&self, alloc: A) -> Result<Dropped<A>, AllocError>
         ensures { IfOk result (λ dropped. dropped ≡ (meaning_in self.now).dropped) }
     {
-        self.dropped.copied(alloc)
+        Dropped::of(alloc, &self.resolved)
     }
 }
 
@@ -212,7 +204,7 @@ impl<A: Allocator + Copy> CountedPolicy<A> {
     pub fn load_anew(alloc: A, seed: Seed, next: &SharedPolicy<A>) -> Result<Self, AllocError>
         ensures { IfOk result (λ policy. policy ≡ next.now) }
     {
-        let next = next.share(alloc)?;
+        let next = next.share()?;
         let CountedPolicy {
             mut policy,
             mut counters,

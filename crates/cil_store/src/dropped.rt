@@ -89,17 +89,6 @@ impl<A: Allocator + Copy> Dropped<A> {
         }
         Ok(Dropped { names })
     }
-
-    /// A copy of them.
-    pub(crate) fn copied(&self, alloc: A) -> Result<Self, AllocError>
-        ensures { IfOk result (λ dropped. dropped ≡ self.now) }
-    {
-        let mut names = Vec::with_capacity(alloc, self.names.len())?;
-        for name in &self.names {
-            names.push(OwnedName::of(alloc, name.as_view())?)?;
-        }
-        Ok(Dropped { names })
-    }
 }
 
 impl<A: Allocator> Dropped<A> {

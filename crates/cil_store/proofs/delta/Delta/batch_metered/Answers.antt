@@ -1,5 +1,5 @@
-use Rattle.cil_store.proofs.Common.{map, refl, sym, subst, err_from_is_err_and, meaning_in, Step, a_batch, changed_by, out_of_memory, Store, edit_of, refusal_of}
-use Rattle.cil_store.proofs.StepLemmas.{made-step, means-at, refused-step}
+use Rattle.cil_store.proofs.Common.{map, refl, err_from_is_err_and, meaning_in, out_of_memory, edit_of, refusal_of}
+use Rattle.cil_store.proofs.StepLemmas.{prepared-step, refused-step}
 use Rattle.cil_store.proofs.delta.Delta.batch_metered.Goals as goal
 
 pub returns-in_err-prepared-clause-step : goal.returns-in_err-prepared-clause-step
@@ -17,13 +17,6 @@ replace-requires g c = c.in_ok-prepared.ensures.means
 
 pub returns-clause-step : goal.returns-clause-step
 returns-clause-step g c =
-    let store : Store = c.args.self.now in
-    let edits = map edit_of c.args.edits.now in
     let prepared = c.in_ok-prepared.ensures in
-    let to : Store = c.in_ok-prepared.prepared.store in
-    let (before, meant) = prepared.meant in
-    let after = meaning_in c.in_ok-prepared.prepared.policy in
-    let changes = c.in_ok-changes.changes in
-    let are = c.in_ok-changes.ensures.changes before after meant (means-at (sym c.in_ok-changes.ensures.ok) prepared.means) in
-    let step = made-step store to edits before after changes prepared.short prepared.taken meant prepared.means are.are_changes in
-    subst (λ (s : Store). Step store (a_batch edits) (changed_by changes) s) (sym c.in_ok-changes.ensures.ok) step
+    prepared-step c.args.self.now c.replace.new.self c.in_ok-prepared.prepared.store (map edit_of c.args.edits.now) (meaning_in c.in_ok-prepared.prepared.policy) c.in_ok-changes.changes _ _
+    prepared.short prepared.taken prepared.meant prepared.means c.in_ok-changes.ensures.ok c.in_ok-changes.ensures.changes

@@ -1,5 +1,5 @@
 use Rattle.cil_store.proofs.Common.{◌∙◌, map, refl, sym, subst, err_from_is_err_and, meaning_in, IsMeaningOf, Step, a_batch, changed_by, out_of_memory, Store, edit_of, refusal_of, IsRefusedBatch}
-use Rattle.cil_store.proofs.StepLemmas.{made-step, means-at, refused-step}
+use Rattle.cil_store.proofs.StepLemmas.{means-at, prepared-step, refused-step}
 use Rattle.cil_store.proofs.plain.PlainCompiled.batch.Goals as goal
 
 pub returns-in_err-prepared : goal.returns-in_err-prepared
@@ -29,16 +29,11 @@ put-requires g c =
 
 pub returns : goal.returns
 returns g c =
-    let store : Store = c.args.self.now in
     let inside : Store = c.self.inside.delta in
     let edits = map edit_of c.args.edits.now in
     let prepared = c.in_ok-prepared.ensures in
-    let to : Store = c.in_ok-prepared.prepared.store in
-    let (before, meant) = prepared.meant in
-    let after = meaning_in c.in_ok-prepared.prepared.policy in
     let changes = c.in_ok-changes.changes in
-    let are = c.in_ok-changes.ensures.changes before after meant (means-at (sym c.in_ok-changes.ensures.ok) prepared.means) in
-    let step = made-step inside to edits before after changes prepared.short prepared.taken meant prepared.means are.are_changes in
     subst (λ (s : Store). Step s (a_batch edits) (changed_by changes) c.put.new.self) c.self.view_is
     (subst (λ (s : Store). Step inside (a_batch edits) (changed_by changes) s) (sym c.put.ensures)
-    (subst (λ (s : Store). Step inside (a_batch edits) (changed_by changes) s) (sym c.in_ok-changes.ensures.ok) step))
+    (prepared-step inside c.replace.new.self c.in_ok-prepared.prepared.store edits (meaning_in c.in_ok-prepared.prepared.policy) changes _ _
+    prepared.short prepared.taken prepared.meant prepared.means c.in_ok-changes.ensures.ok c.in_ok-changes.ensures.changes))
