@@ -1,5 +1,5 @@
 -- The counters of a policy, when names come and when nothing has a name.
-use Rattle.cil_counters.proofs.Common.{◌≡◌, ◌↔◌, ◌||◌, inl, inr, true≢false, ℕ, ◌+◌, ◌<◌, ◌≤◌, ◌&&◌, Bool, true, false, List, [], ◌∷◌, length, cond, count_by, bytes_eq, nat_lt, slice_get, refl, sym, ap, ◌∙◌, subst, arith, zero-add, IsTrue, cases_lt, sum_by-cons, slice_get-get_or, slice_get_past, AreTheSame, HasSoundSets, SetStatement, AreNumbersOf, SymbolKey, meaning_in, sets_in, Resolved, AreCounts, atom_of, is_named, name_at, AreMembersOf, count_named, symbols_now, AreReset, AreSettled, AreSymbolsOf, AreTakenBack, IsCounted, IsCountedBy, IsNow, WasBefore}
+use Rattle.cil_counters.proofs.Common.{◌≡◌, ◌↔◌, ◌||◌, inl, inr, true≢false, ℕ, ◌+◌, ◌<◌, ◌≤◌, ◌^◌, ◌&&◌, Bool, true, false, List, [], ◌∷◌, length, cond, count_by, bytes_eq, nat_lt, slice_get, refl, sym, ap, ◌∙◌, subst, arith, zero-add, IsDistinct, IsTrue, cases_lt, sum_by-cons, slice_get-get_or, slice_get_past, AreTheSame, HasSoundSets, SetStatement, AreNumbersOf, SymbolKey, meaning_in, sets_in, Resolved, AreCounts, atom_of, is_named, name_at, AreMembersOf, count_named, symbols_now, AreReset, AreSettled, AreSymbolsOf, AreTakenBack, IsCounted, IsCountedBy, IsNow, WasBefore}
 use Rattle.std.proofs.Math.Bool.{and-false}
 use Rattle.cil_specs.specs.Meaning.{Meaning, is_in, gives as rule_gives}
 use Rattle.cil_member_updates.specs.Counts.{gives_member}
@@ -7,6 +7,7 @@ use Rattle.cil_member_updates.proofs.CountLemmas.{counted-member}
 use Rattle.cil_member_updates.specs.Given.{gives, holds, is_of, of_name}
 use Rattle.cil_member_rows.specs.Rows as member_rows
 use Rattle.cil_keyed_lines.specs.Keyed as access_tables
+use Rattle.cil_rule_reach.specs.Named.{AreMembersBy}
 use Rattle.cil_counters.specs.declared.counters.Counters.{Counters}
 use Rattle.cil_counters.specs.declared.policy_symbols.PolicySymbols.{PolicySymbols}
 use Rattle.std.specs.Prelude.{unwrap_or}
@@ -42,6 +43,10 @@ module _ {A : Type 0} (names : List (List ℕ)) (r : Resolved A) (sound : HasSou
     no_type = λ a t past. are a t ∙ none-counted (gives names (meaning_in r) a t) (sets_in r) (no-type names (meaning_in r) a t past);
   }
 
+  -- and so it is by the symbols of the policy's names
+  pub members-by : (symbols : List ℕ) (counts : ℕ → ℕ → ℕ) → IsDistinct bytes_eq names → length names < 2 ^ 64 → AreNumbersOf names symbols r.names.items → AreCounts names r counts → AreMembersBy r symbols counts
+  members-by symbols counts distinct short numbers are = record { names = names; distinct = distinct; short = short; numbers = numbers; are = members-counted counts are }
+
 -- no rule gives an access where there is none
 pub count-none : (names : List (List ℕ)) (meaning : Meaning) (key : SymbolKey) (t : ℕ) → meaning.rules ≡ [] → count_named names meaning key t ≡ 0
 count-none names meaning key t no_rules = ap (λ rules. cond (is_named names key t) (count_by (λ rule. rule_gives meaning rule (atom_of names key t)) rules) 0) no_rules ∙ either (is_named names key t)
@@ -74,6 +79,19 @@ either-steps false b m n one other = (
     | inr none ↦ other.1 (omega (arith, some, none))
   ],
 )
+
+-- a policy has the symbols and the counters that it is shown to have
+pub counted-with : {A B : Type 0} (r : Resolved A) (names : List (List ℕ)) (s : PolicySymbols B) (members : ℕ → ℕ → ℕ) (counts : SymbolKey → ℕ → ℕ) → AreSymbolsOf names r s → AreCounts names r members
+    → ((key : SymbolKey) (t : ℕ) → counts key t ≡ count_named names (meaning_in r) key t) → IsCountedBy names r s members counts
+counted-with r names s members counts symbols are_members are_counts = record {
+  symbols = symbols;
+  counted = record { symbols = s.numbering.symbols; numbers = symbols.numbers; are_members = are_members; are_counts = are_counts };
+}
+
+-- what is counted of accesses stays where the access tables and the names do
+pub accesses-stay : {A B : Type 0} (r : Resolved A) (old new : Counters B) → new.tables ≡ old.tables → new.names ≡ old.names → ((key : SymbolKey) (t : ℕ) → access_tables.count_now old.tables key t ≡ count_named old.names (meaning_in r) key t)
+    → (key : SymbolKey) (t : ℕ) → access_tables.count_now new.tables key t ≡ count_named new.names (meaning_in r) key t
+accesses-stay r old new same_tables same_names are key t = ap (λ tables. access_tables.count_now tables key t) same_tables ∙ are key t ∙ ap (λ l. count_named l (meaning_in r) key t) (sym same_names)
 
 -- what is counted of a policy stays where the names, its symbols and the counters do
 pub counted-by-alike : {A B : Type 0} (r : Resolved A) (names others : List (List ℕ)) (s t : PolicySymbols B) (members new_members : ℕ → ℕ → ℕ) (counts new_counts : SymbolKey → ℕ → ℕ) → IsCountedBy names r s members counts → others ≡ names → t ≡ s

@@ -1,8 +1,12 @@
 -- An access that is in the table of one policy alone has a counter that isn't what it was.
-use Rattle.cil_counters.proofs.Common.{◌≡◌, ◌≢◌, ℕ, true, List, [], bytes_eq, length, nat_lt, Option, None, Some, position, refl, sym, ap, ◌∙◌, list_all, get_or_from_slice_get, has_name, count_of, is_in_table, keeps_type, Atom, rule_kind_of, RuleKind, Allow, AuditAllow, DontAudit, NeverAllow, SymbolKey, is_rule_below, meaning_in, Resolved, found-name, atom_of, name_at, atom_with, count_at, IsCounted}
+use Rattle.cil_counters.proofs.Common.{◌≡◌, ◌≢◌, ℕ, true, List, [], bytes_eq, length, nat_lt, Option, None, Some, position, refl, sym, ap, ◌∙◌, subst, list_all, get_or_from_slice_get, has_name, count_of, is_in_table, keeps_type, Atom, rule_kind_of, RuleKind, Allow, AuditAllow, DontAudit, NeverAllow, SymbolKey, is_rule_below, meaning_in, AreChanges, Resolved, found-name, atom_of, name_at, atom_with, count_at, IsCounted}
 use Rattle.cil_specs.specs.Statements as spec
 use Rattle.cil_specs.specs.Statements.{allow, auditallow, dontaudit, neverallow}
-use Rattle.cil_table_updates.specs.Adjusted.{Counter}
+use Rattle.cil_specs.specs.Report.{Changes}
+use Rattle.cil_resolve.specs.declared.numbered.NumberedRule.{NumberedRule}
+use Rattle.cil_delta_specs.specs.Work.{AdjustsFew}
+use Rattle.cil_table_updates.specs.Adjusted.{AdjustsAtLeast, AdjustsAtMost, Counter}
+use Rattle.cil_table_updates.proofs.FewLemmas.{adjusts-few}
 use Rattle.cil_counters.proofs.ToldLemmas.{told-accesses}
 
 -- a kind of rules as the code has it
@@ -25,6 +29,10 @@ number (Some n) = n
 
 abbrev key_of : RuleKind → Option ℕ → Option ℕ → Option ℕ → SymbolKey
 key_of kind source class permission = record { kind = kind; source = number source; class = number class; permission = number permission }
+
+-- the rules of a policy name what it has
+pub rules-below : {A : Type 0} (r : Resolved A) (rules : List (NumberedRule A)) → rules ≡ r.rules.items → list_all (is_rule_below (length r.names.items)) rules ≡ true → list_all (is_rule_below (length r.names.items)) r.rules.items ≡ true
+rules-below r rules is = subst (λ l. list_all (is_rule_below (length r.names.items)) l ≡ true) is
 
 module _ (names : List (List ℕ)) where
   abbrev place : List ℕ → Option ℕ
@@ -64,3 +72,8 @@ module _ (names : List (List ℕ)) where
         let there = by-places kind was is a.source a.target a.the_class a.permission (place a.source) (place a.target) (place a.the_class) (place a.permission) refl refl refl refl
         (λ same. other (ap (nat_lt 0) (sym old_told ∙ same ∙ new_told))) in
         (there.0 ∙ whole, there.1)
+
+    -- so the adjustments are few
+    pub adjusts : (changes : Changes) → AreChanges (is_in_table (meaning_in old)) (is_in_table (meaning_in new)) changes → (before after : ℕ) → AdjustsAtMost (meaning_in old) (meaning_in new) before after → AdjustsAtLeast was is before after
+        → AdjustsFew (meaning_in old) (meaning_in new) changes before after
+    adjusts = adjusts-few names (meaning_in old) (meaning_in new) was is found tells

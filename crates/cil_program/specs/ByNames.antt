@@ -21,6 +21,7 @@ use Rattle.cil_program.specs.Wanted.{Wanted, compiled, in_folder, kinds, project
 use Rattle.cil_program.specs.declared.command_line.compile.Report.{Report}
 use Rattle.cil_program.specs.declared.command_line.reason.Reason.{Reason}
 use Rattle.cil_program.specs.declared.command_line.foreign.Projected.{Projected}
+use Rattle.cil_program.specs.declared.command_line.notes.ModuleFault.{ModuleFault}
 use Rattle.cil_program.specs.declared.command_line.foreign.NotProjected.{NotProjected}
 use Rattle.cil_program.specs.declared.command_line.foreign.NotProjected.TheVariants.{AtFault, TooLong, Memory}
 
@@ -72,6 +73,10 @@ pub data IsNotProjected (name text : List ℕ) (refusal : Refusal) (hint : List 
 abbrev pub note_line : Counts → List ℕ
 note_line counts =
     codes "note: " ++ (decimal counts.statements ++ (codes " statements of " ++ (decimal (length counts.keywords) ++ codes " kinds taken by their names alone\n")))
+
+-- the refusal of a module for a fault of its text
+abbrev pub refusal_for : ModuleFault → Refusal
+refusal_for fault = at_place (text_fault.code_of (kind_of fault.kind)) fault.name.now (place_of fault.at) (shown fault.word)
 
 -- the refusal that tells why files aren't projected
 abbrev pub IsRefusalBy : NotProjected → Refusal → Type 0

@@ -29,6 +29,9 @@ pub record Written : Type 0 where
   pub flushed : Option (List ℕ)
   pub failures : ℕ
 
+abbrev pub told_by : {W : Type 0} → (W → Option (List ℕ)) → (W → Option (List ℕ)) → (W → ℕ) → W → Written
+told_by taken flushed failures w = record { taken = taken w; flushed = flushed w; failures = failures w }
+
 -- What is meant is written on two sinks, which tell what they took and how often they failed, and this is the exit status; or one failed,
 -- and beginnings were written.
 pub record WritesBoth {W E : Type 0} (taken : W → Option (List ℕ)) (failures : W → ℕ) (out new_out : W) (err_taken : E → Option (List ℕ))
@@ -64,6 +67,17 @@ LacksMemory out new_out err new_err status =
     × (((status ≡ 1) × Gains err.taken new_err.taken (refusal_line for_memory))
     ⊎ ((status ≡ 3) × GainsFront err.taken new_err.taken (refusal_line for_memory)
     × (HasFailed out.failures new_out.failures ⊎ HasFailed err.failures new_err.failures)))
+
+-- it is answered, or memory ran out
+abbrev pub OrLacks : (Written → Written → Written → Written → ℕ → Type 0) → Written → Written → Written → Written → ℕ → Type 0
+OrLacks IsAnswered out new_out err new_err status = IsAnswered out new_out err new_err status ⊎ LacksMemory out new_out err new_err status
+
+-- so it is by what two sinks tell
+abbrev pub OrLacksMemory : {W E : Type 0} → (W → Option (List ℕ)) → (W → Option (List ℕ)) → (W → ℕ) → W → W → (E → Option (List ℕ)) → (E → Option (List ℕ)) → (E → ℕ) → E → E
+    → (Written → Written → Written → Written → ℕ → Type 0) → ℕ → Type 0
+OrLacksMemory taken flushed failures out new_out err_taken err_flushed err_failures err new_err IsAnswered =
+    OrLacks IsAnswered (told_by taken flushed failures out) (told_by taken flushed failures new_out)
+    (told_by err_taken err_flushed err_failures err) (told_by err_taken err_flushed err_failures new_err)
 
 -- what is printed and told where `clap` answers in place of what it finds, and the exit status
 abbrev pub IsTold : ErrorKind → List ℕ → List ℕ → ℕ → Type 0

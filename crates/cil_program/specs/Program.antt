@@ -3,6 +3,7 @@ use Rattle.std.specs.Prelude.{◌≡◌, ◌⊎◌, ℕ, List, [], Bool, true, f
 use Rattle.cil_stream.specs.Device.{Gains, GainsFront, HasFailed}
 use Rattle.clap.specs.Lexer.{usize_max}
 use Rattle.clap.specs.Walk.{Row, Rule, Text, all_of, first_of, one_of}
+use Rattle.clap.specs.Words.{subcommand_of, takes}
 use Rattle.clap.specs.declared.builder.command.Command.{Command}
 use Rattle.clap.specs.declared.builder.command.Command.TheViews.{out-Command}
 use Rattle.clap.specs.Simple.{App, app_of, new_app, new_rule, on_top, with_rule, with_subcommand}
@@ -53,6 +54,11 @@ bare_program = on_top (λ s. record s { has_version = true; subcommand_required 
 
 abbrev pub program_app : App
 program_app = with_subcommand (with_subcommand (with_subcommand bare_program session_app.top) compile_app.top) project_app.top
+
+-- where the words ask for a subcommand, this is so with what was found behind it
+abbrev pub WhereAsked : List Text → Text → (List Row → Type 0) → Type 0
+WhereAsked words name IsSo =
+    (rows : List Row) → takes program_app words ≡ true → subcommand_of program_app words ≡ Some (name, rows) → IsSo rows
 
 -- the files among what was found behind `compile`
 abbrev pub files_asked : List Row → List Text

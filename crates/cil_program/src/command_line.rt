@@ -1,7 +1,7 @@
 //! The command line: what its words ask for, and the exit status.
 
-ghost use Rattle.std.specs.Prelude.{◌≡◌, ◌≢◌, ◌⊎◌, ◌≤◌, true, List, Some, codes, map, IfOk, OnErr, OnOk};
-ghost use Rattle.cil_program.specs.Common.{Row, kind_of, subcommand_of, takes, HasFailed, AsksSession, AnswersSession, LacksMemory, untold, AnswersCompile, AnswersProject, WritesBoth, IsTold, program_app};
+ghost use Rattle.std.specs.Prelude.{◌≡◌, ◌≢◌, ◌⊎◌, ◌≤◌, codes, map, IfOk, OnErr, OnOk};
+ghost use Rattle.cil_program.specs.Common.{kind_of, HasFailed, AsksSession, AnswersSession, OrLacksMemory, told_by, untold, AnswersCompile, AnswersProject, WhereAsked, WritesBoth, IsTold};
 
 mod by_names;
 pub mod compile;
@@ -45,8 +45,8 @@ pub fn answer_session<S: Source, W: Sink, A: Allocator + Copy>(
     out: &mut W,
 ) -> u8
     ensures { AnswersSession (S.account source.old) (S.account source.new)
-        (record { taken = W.taken out.old; flushed = W.flushed out.old; failures = W.failures out.old })
-        (record { taken = W.taken out.new; flushed = W.flushed out.new; failures = W.failures out.new }) result }
+        (told_by W.taken W.flushed W.failures out.old)
+        (told_by W.taken W.flushed W.failures out.new) result }
 {
     let mut engine = Delta::with_seed(alloc, seed);
     exit_status(session(alloc, source, out, &mut engine))
@@ -120,39 +120,16 @@ pub fn command<R: Files + RandomSource, T: AsStr, S: Source, W: Sink, E: Sink>(
 ) -> u8
     ensures status { result ≤ 3 }
     ensures session { AsksSession (map T.text words.now) →
-        (AnswersSession (S.account source.old) (S.account source.new)
-        (record { taken = W.taken out.old; flushed = W.flushed out.old; failures = W.failures out.old })
-        (record { taken = W.taken out.new; flushed = W.flushed out.new; failures = W.failures out.new }) result
-        × (err.new ≡ err.old))
-        ⊎ LacksMemory
-        (record { taken = W.taken out.old; flushed = W.flushed out.old; failures = W.failures out.old })
-        (record { taken = W.taken out.new; flushed = W.flushed out.new; failures = W.failures out.new })
-        (record { taken = E.taken err.old; flushed = E.flushed err.old; failures = E.failures err.old })
-        (record { taken = E.taken err.new; flushed = E.flushed err.new; failures = E.failures err.new }) result }
-    ensures compile { (rows : List Row) → takes program_app (map T.text words.now) ≡ true
-        → subcommand_of program_app (map T.text words.now) ≡ Some (codes "compile", rows) →
-        AnswersCompile (λ _. untold) rows
-        (record { taken = W.taken out.old; flushed = W.flushed out.old; failures = W.failures out.old })
-        (record { taken = W.taken out.new; flushed = W.flushed out.new; failures = W.failures out.new })
-        (record { taken = E.taken err.old; flushed = E.flushed err.old; failures = E.failures err.old })
-        (record { taken = E.taken err.new; flushed = E.flushed err.new; failures = E.failures err.new }) result
-        ⊎ LacksMemory
-        (record { taken = W.taken out.old; flushed = W.flushed out.old; failures = W.failures out.old })
-        (record { taken = W.taken out.new; flushed = W.flushed out.new; failures = W.failures out.new })
-        (record { taken = E.taken err.old; flushed = E.flushed err.old; failures = E.failures err.old })
-        (record { taken = E.taken err.new; flushed = E.flushed err.new; failures = E.failures err.new }) result }
-    ensures project { (rows : List Row) → takes program_app (map T.text words.now) ≡ true
-        → subcommand_of program_app (map T.text words.now) ≡ Some (codes "project", rows) →
-        AnswersProject (λ _. untold) rows
-        (record { taken = W.taken out.old; flushed = W.flushed out.old; failures = W.failures out.old })
-        (record { taken = W.taken out.new; flushed = W.flushed out.new; failures = W.failures out.new })
-        (record { taken = E.taken err.old; flushed = E.flushed err.old; failures = E.failures err.old })
-        (record { taken = E.taken err.new; flushed = E.flushed err.new; failures = E.failures err.new }) result
-        ⊎ LacksMemory
-        (record { taken = W.taken out.old; flushed = W.flushed out.old; failures = W.failures out.old })
-        (record { taken = W.taken out.new; flushed = W.flushed out.new; failures = W.failures out.new })
-        (record { taken = E.taken err.old; flushed = E.flushed err.old; failures = E.failures err.old })
-        (record { taken = E.taken err.new; flushed = E.flushed err.new; failures = E.failures err.new }) result }
+        OrLacksMemory W.taken W.flushed W.failures out.old out.new
+        E.taken E.flushed E.failures err.old err.new
+        (λ before after _ _ status. AnswersSession (S.account source.old) (S.account source.new)
+        before after status × (err.new ≡ err.old)) result }
+    ensures compile { WhereAsked (map T.text words.now) (codes "compile") (λ rows.
+        OrLacksMemory W.taken W.flushed W.failures out.old out.new
+        E.taken E.flushed E.failures err.old err.new (AnswersCompile (λ _. untold) rows) result) }
+    ensures project { WhereAsked (map T.text words.now) (codes "project") (λ rows.
+        OrLacksMemory W.taken W.flushed W.failures out.old out.new
+        E.taken E.flushed E.failures err.old err.new (AnswersProject (λ _. untold) rows) result) }
     ensures flushed { result ≢ 3 → W.flushed out.new ≡ W.taken out.new }
     ensures either { (err.new ≡ err.old) ⊎ (source.new ≡ source.old) }
 {

@@ -1,9 +1,10 @@
 -- What answers an edit and a batch.
-use Rattle.cil_session.proofs.Common.{◌≡◌, ◌++◌, ℕ, List, length, codes, decimal, Option, Some, Result, Ok, Err, IfOk, IfErr, refl, ap, sym, ◌∙◌, subst, Changes, Store, a_batch, an_edit, changed_by, refused, Step, makes, commits, install, Answer, Answers, IsLeftAside, batch_behind, answer_aside, answer_of, a_line, Batch, HeldEdits, all_held, IsHeld, makes_all, state_of, by_the_edit, by_holding, by_the_batch, edit_of, refusal_of, counts_line, Does, AnswersBatch, Makes}
+use Rattle.cil_session.proofs.Common.{◌≡◌, ◌++◌, ℕ, List, length, codes, decimal, Option, None, Some, Result, Ok, Err, IfOk, IfErr, refl, ap, sym, ◌∙◌, subst, Changes, Store, a_batch, an_edit, changed_by, refused, Step, makes, commits, install, Answer, Answers, IsLeftAside, batch_behind, answer_aside, answer_of, a_line, Batch, HeldEdits, all_held, IsHeld, makes_all, state_of, by_the_edit, by_holding, by_the_batch, edit_of, refusal_of, counts_line, Does, AnswersBatch, Makes}
 use Rattle.cil_counters.specs.ChangeCounts.{AreCountsOf, CountsSome}
 use Rattle.cil_symbol_changes.specs.declared.counted_changes.ChangeCounts.{ChangeCounts}
 use Rattle.cil_store_specs.specs.Next as spec
 use Rattle.cil_store_specs.specs.Answers as answers
+use Rattle.cil_store_specs.specs.Answers.{IsCommitted}
 use Rattle.cil_store.specs.Edits.{name_of}
 use Rattle.cil_store.specs.declared.edit.Edit.{Edit}
 use Rattle.cil_store.specs.declared.edit.Edit.TheVariants.{Install, Remove, Enable, Disable}
@@ -32,6 +33,11 @@ pub batch-made : {A : Type 0} (old new : Store) (batch : Option Batch) (b : Batc
     → Does (record { store = old; batch = batch }) commits (state_of new) answer
 batch-made old new batch b edits (Ok counts) answer found held some is = λ number. by_the_batch b (changed_by some.changes) new refl found (makes_all edits held some.those) (is ∙ counted-line some.changes counts some.are_counts) refl
 batch-made old new batch b edits (Err refusal) answer found held step is = λ number. by_the_batch b (refused (refusal_of refusal)) new refl found (makes_all edits held step) is refl
+
+-- or the open batch holds no edits any more, and is refused
+pub batch-refused : (store : Store) (batch new : Option Batch) (b : Batch) (refusal : spec.Refusal) (answer : Answer) → batch ≡ Some b → IsCommitted store b.held (refused refusal) store → new ≡ None → answer ≡ answer_of (refused refusal)
+    → Does (record { store = store; batch = batch }) commits (record { store = store; batch = new }) answer
+batch-refused store batch new b refusal answer found committed closed is = λ number. by_the_batch b (refused refusal) store refl found committed is (ap (λ o. record { store = store; batch = o }) closed)
 
 -- a batch of the same edits
 pub makes-same : {A : Type 0} (old new : Store) (edits others : List spec.Edit) (made : Result ChangeCounts (Refusal A)) → edits ≡ others → IfOk made (CountsSome (λ changes. Step old (a_batch edits) (changed_by changes) new))

@@ -1,9 +1,17 @@
 -- The lines of reports, one after another.
-use Rattle.cil_session.proofs.Common.{◌≡◌, ℕ, zero, suc, ◌+◌, ◌<◌, List, [], ◌∷◌, ◌++◌, length, map, codes, take, Option, Some, None, Result, Ok, Err, IsErr, ◌≤◌, sym, ap, ◌∙◌, subst, length-append, arith, slice_get, length-map, flat_map-map, HasFailed, Gains, GainsFront, Store, install_of, disable, makes, commits, command_bytes, end_line, dump_edits, dump_commands, dump_text, gains-both, gains-then_front, front-longer, gains-pieces_more, gains-pieces_front, failed-later, Writes, edit_command, install_command, disable_command}
+use Rattle.cil_session.proofs.Common.{◌≡◌, ℕ, zero, suc, ◌+◌, ◌<◌, List, [], ◌∷◌, ◌++◌, length, map, codes, decimal, take, Option, Some, None, Result, Ok, Err, IsErr, ◌≤◌, sym, ap, ◌∙◌, subst, append_assoc, length-append, arith, slice_get, length-map, flat_map-map, HasFailed, Gains, GainsFront, Store, install_of, disable, makes, commits, command_bytes, end_line, dump_edits, dump_commands, dump_text, gains-both, gains-then_front, front-longer, gains-pieces_more, gains-pieces_front, failed-later, Writes, edit_command, install_command, disable_command}
 use Rattle.std.proofs.Common.{flat_map}
 use Rattle.std.proofs.lemmas.Grind.{flat_map-append}
 use Rattle.std.proofs.lemmas.Option.{slice_get_within, get_or_from_slice_get}
 use Rattle.cil_stream.specs.declared.sink.SinkFault.{SinkFault}
+
+-- a word, two numbers and a word, with what stands between them, as they are written and in a row
+pub in-row : (word other a b c end first second : List ℕ) (m n : ℕ) → first ≡ decimal m → second ≡ decimal n
+    → word ++ (a ++ (first ++ (b ++ (second ++ (c ++ (other ++ end)))))) ≡ word ++ a ++ decimal m ++ b ++ decimal n ++ c ++ other ++ end
+in-row word other a b c end first second m n one two = (λ i. word ++ (a ++ (one i ++ (b ++ (two i ++ (c ++ (other ++ end))))))) ∙ sym (regroup (decimal m) (decimal n))
+  where
+    regroup : (x y : List ℕ) → word ++ a ++ x ++ b ++ y ++ c ++ other ++ end ≡ word ++ (a ++ (x ++ (b ++ (y ++ (c ++ (other ++ end))))))
+    regroup x y = simp append_assoc
 
 -- the line of the next one
 pub line-more : {X : Type 0} (f : X → List ℕ) (old mid new : Option (List ℕ)) (xs : List X) (i : ℕ) (x : X) → Some x ≡ slice_get xs i → Gains old mid (flat_map f (take i xs)) → Gains mid new (f x) → Gains old new (flat_map f (take (i + 1) xs))

@@ -260,30 +260,36 @@ by-write first now before after given written gives gains sound cut = record {
 abbrev pub begun : Standing → Progress
 begun start = record { state = state_of start.store; taken = start.taken }
 
+-- what a session writes of which all was done
+abbrev text-of : List Answer → Progress → End → List ℕ
+text-of answers last end = flat_map (λ a. a.bytes) answers ++ last_line (last_end end last.state.batch)
+
+-- all was done that a session does
+session-done : (first now : Moment) (start finish : Standing) (between : Progress) (status : Status) (end : End) (last : spec.Status) → (done : AllDone first now (begun start) between status end) → finish.store ≡ between.state.store
+    → last ≡ spec.status_of done.answers (last_end end between.state.batch) → IsSession done.bytes (has_ended now.account) start.store finish.store (text-of done.answers between end) last
+session-done first now start finish between status end last done same status_is = record {
+  commands = done.commands;
+  answers = done.answers;
+  end = end;
+  last = between.state;
+  are_commands = done.are_commands;
+  answered = done.answered;
+  store_is = same;
+  are_written = refl;
+  status_is = status_is;
+}
+
 -- all was done, and then the last line was written
 pub leaves : (first now : Moment) (start finish : Standing) (between : Progress) (status last : Status) (end : End) → (done : AllDone first now (begun start) between status end) → finish.store ≡ between.state.store
     → Gains between.taken finish.taken (last_line (last_end end between.state.batch)) → status_of last ≡ spec.status_of done.answers (last_end end between.state.batch) → IsSound now.account → Leaves first.account now.account start finish last
 leaves first now start finish between status last end done same gains status_is sound =
-    let line = last_line (last_end end between.state.batch) in
-    let text = flat_map (λ a. a.bytes) done.answers ++ line in
-    let session : IsSession done.bytes (has_ended now.account) start.store finish.store text (status_of last) =
-    record {
-      commands = done.commands;
-      answers = done.answers;
-      end = end;
-      last = between.state;
-      are_commands = done.are_commands;
-      answered = done.answered;
-      store_is = same;
-      are_written = refl;
-      status_is = status_is;
-    }
-    in
+    let text = text-of done.answers between end in
+    let session = session-done first now start finish between status end (status_of last) done same status_is in
     record {
       given = done.bytes;
       written = text;
       gives = done.gives;
-      gains = gains-both start.taken between.taken finish.taken (flat_map (λ a. a.bytes) done.answers) line done.written gains;
+      gains = gains-both start.taken between.taken finish.taken (flat_map (λ a. a.bytes) done.answers) (last_line (last_end end between.state.batch)) done.written gains;
       session = session;
       whole = λ rest left.
           let more = left-given first.account now.account done.bytes rest sound done.gives left in
@@ -293,23 +299,14 @@ leaves first now start finish between status last end done same gains status_is 
 -- or a beginning of it
 pub cut-in_last_line : (first now : Moment) (start finish : Standing) (between : Progress) (status : Status) (end : End) → AllDone first now (begun start) between status end → finish.store ≡ between.state.store
     → GainsFront between.taken finish.taken (last_line (last_end end between.state.batch)) → IsSound now.account → LeavesByWrite first.account now.account start finish
+unfolding session-done
 cut-in_last_line first now start finish between status end done same (n, within, gains) sound =
     let line = last_line (last_end end between.state.batch) in
     let bytes = flat_map (λ a. a.bytes) done.answers in
     by-write first.account now.account start finish done.bytes (bytes ++ take n line) done.gives (gains-both start.taken between.taken finish.taken bytes (take n line) done.written gains) sound (inr (record {
       status = spec.status_of done.answers (last_end end between.state.batch);
-      text = bytes ++ line;
-      session = record {
-        commands = done.commands;
-        answers = done.answers;
-        end = end;
-        last = between.state;
-        are_commands = done.are_commands;
-        answered = done.answered;
-        store_is = same;
-        are_written = refl;
-        status_is = refl;
-      };
+      text = text-of done.answers between end;
+      session = session-done first now start finish between status end (spec.status_of done.answers (last_end end between.state.batch)) done same refl;
       front = take n line;
       rest = drop n line;
       line_is = sym (take-append-drop n line);

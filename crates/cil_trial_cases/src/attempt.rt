@@ -48,21 +48,7 @@ pub fn set_up<T: Engine>(alloc: Global, engine: &mut T, case: &Case<'_>) -> Resu
     }
 }
 
-/// Has the entries of a case compiled at once, and asks what the case asks after that.
-fn ask_to_compile<T: Engine>(
-    sink: &mut MemorySink,
-    alloc: Global,
-    engine: &mut T,
-    case: &Case<'_>,
-) -> Result<(), Fault> {
-    engine.compile(case.script, sink)?;
-    if case.then.is_empty() {
-        return Ok(());
-    }
-    write_answer(sink, alloc, engine, case.then)
-}
-
-/// Asks an engine what a case tries, and writes its answer.
+/// Asks an engine what a case tries, and writes its answer. Behind entries that are compiled at once, it asks what the case asks then.
 fn ask<T: Engine>(
     sink: &mut MemorySink,
     alloc: Global,
@@ -72,7 +58,13 @@ fn ask<T: Engine>(
     match case.way {
         Way::Session => write_answer(sink, alloc, engine, case.script),
         Way::Run => engine.run(case.script, sink),
-        Way::AtOnce => ask_to_compile(sink, alloc, engine, case),
+        Way::AtOnce => {
+            engine.compile(case.script, sink)?;
+            if case.then.is_empty() {
+                return Ok(());
+            }
+            write_answer(sink, alloc, engine, case.then)
+        }
         Way::Work => engine.work(case.script, sink),
     }
 }

@@ -2,7 +2,8 @@
 
 ghost use Rattle.std.specs.Prelude.{◌≡◌, ◌≤◌, ◌++◌, ◌∷◌, [], List, ℕ, length, map, IfOk, IfErr, OnOk};
 ghost use Rattle.cil_projection.specs.Conditions.{Collects, settings_of};
-ghost use Rattle.cil_projection.specs.Statements.{Projects, Tallies};
+ghost use Rattle.cil_projection.specs.Statements.{IsProjectionFault, Projects, Tallies};
+ghost use Rattle.cil_text.specs.Image.{FaultIs};
 ghost use Rattle.cil_program.specs.ByNames.{AreHindered, AreProjected, AreProjections, InTurn, IsGiven, IsKnown};
 ghost use Rattle.cil_program.specs.Conditionals.{conditionals_in, setting_in};
 
@@ -69,6 +70,18 @@ fn text_of<'m, 'p: 'm>(file: &'m ReadFile<'p, Global>) -> Result<&'m [u8], NotPr
     }
 }
 
+/// Why a file isn't projected whose text has a fault.
+fn at_fault<'m, 'p: 'm>(file: &'m ReadFile<'p, Global>, fault: TextFault<'m>) -> NotProjected<'m>
+    ensures { FaultIs fault.entry (IsProjectionFault file.entry.now.text.items) →
+        AreHindered ((file.entry.now.path.now, file.entry.now.text.items) ∷ []) result }
+{
+    NotProjected::AtFault {
+        path: file.path,
+        fault,
+        packed: packed_of(file.text.as_slice()),
+    }
+}
+
 /// Gives booleans their values.
 fn set_all<'m>(booleans: &mut Booleans<'m>, settings: &'m [Setting<'m>]) -> Result<(), AllocError>
     ensures { OnOk result (InTurn IsGiven (map setting_in settings.entry.now) booleans.old booleans.new) }
@@ -91,11 +104,7 @@ fn collect_file<'m, 'p: 'm>(
     let text = text_of(file)?;
     match booleans.collect(alloc, text) {
         Ok(()) => Ok(()),
-        Err(fault) => Err(NotProjected::AtFault {
-            path: file.path,
-            fault,
-            packed: packed_of(text),
-        }),
+        Err(fault) => Err(at_fault(file, fault)),
     }
 }
 
@@ -159,11 +168,7 @@ fn project_file<'m, 'p: 'm>(
             projected.shrink_to_fit();
             Ok(projected)
         }
-        Err(fault) => Err(NotProjected::AtFault {
-            path: file.path,
-            fault,
-            packed: packed_of(text),
-        }),
+        Err(fault) => Err(at_fault(file, fault)),
     }
 }
 

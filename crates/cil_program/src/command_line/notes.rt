@@ -2,14 +2,12 @@
 
 ghost use Rattle.std.specs.Prelude.{◌≡◌, ◌<◌, ◌++◌, true, List, ℕ, flat_map};
 ghost use Rattle.cil_specs.specs.Bytes.{hex, hex_digit};
-ghost use Rattle.cil_text.specs.Image.{place_of, kind_of, shown};
-ghost use Rattle.cil_specs.specs.TextFault.{code_of};
 ghost use Rattle.cil_store_specs.specs.Next.{Refusal};
-ghost use Rattle.cil_program.specs.Common.{Writes, at_place, by_store, refusal_line};
+ghost use Rattle.cil_program.specs.Common.{Writes, by_store, refusal_line};
 ghost use Rattle.cil_program.specs.CommandLine.{NamesModule};
 ghost use Rattle.cil_program.specs.Meanings.{refusal_text};
 ghost use Rattle.cil_program.specs.Packed.{packed_text};
-ghost use Rattle.cil_program.specs.ByNames.{IsRefusalBy, hint_by, note_line};
+ghost use Rattle.cil_program.specs.ByNames.{IsRefusalBy, hint_by, note_line, refusal_for};
 ghost use Rattle.cil_program.specs.declared.command_line.foreign.NotProjected.TheVariants.{AtFault};
 
 use crate::command_line::files::{ReadFile, module_name};
@@ -39,17 +37,26 @@ fn hex(b: u8) -> [u8; 2]
     [hex_digit(b / 16), hex_digit(b % 16)]
 }
 
-/// Writes the line of the refusal of a module for a fault of its text.
-fn write_fault_line<E: Sink>(
-    err: &mut E,
-    name: &[u8],
+/// A fault of the text of a module.
+#[derive(Clone, Copy)]
+struct ModuleFault<'m> {
+    name: &'m [u8],
     kind: TextFaultKind,
     at: Place,
-    word: ShownWord<'_>,
-) -> Result<(), SinkFault>
-    ensures { Writes E.taken E.failures err.old err.new (refusal_line
-        (at_place (code_of (kind_of kind)) name.now (place_of at) (shown word.entry))) result }
+    word: ShownWord<'m>,
+}
+
+/// Writes the line of the refusal of a module for a fault of its text.
+fn write_fault_line<E: Sink>(err: &mut E, fault: ModuleFault<'_>) -> Result<(), SinkFault>
+    ensures { Writes E.taken E.failures err.old err.new
+        (refusal_line (refusal_for fault.entry)) result }
 {
+    let ModuleFault {
+        name,
+        kind,
+        at,
+        word,
+    } = fault;
     match word {
         ShownWord::Text(text) => reply::write_place(err, kind.code(), name, at, text),
         ShownWord::Byte(b) => reply::write_place(err, kind.code(), name, at, &hex(b)),
@@ -57,18 +64,12 @@ fn write_fault_line<E: Sink>(
 }
 
 /// Writes the refusal of a module for a fault of its text, and what it means.
-fn write_fault<E: Sink>(
-    err: &mut E,
-    name: &[u8],
-    kind: TextFaultKind,
-    at: Place,
-    word: ShownWord<'_>,
-) -> Result<(), SinkFault>
-    ensures { Writes E.taken E.failures err.old err.new (refusal_text true
-        (at_place (code_of (kind_of kind)) name.now (place_of at) (shown word.entry))) result }
+fn write_fault<E: Sink>(err: &mut E, fault: ModuleFault<'_>) -> Result<(), SinkFault>
+    ensures { Writes E.taken E.failures err.old err.new
+        (refusal_text true (refusal_for fault.entry)) result }
 {
-    write_fault_line(err, name, kind, at, word)?;
-    write_meaning(err, kind.code())
+    write_fault_line(err, fault)?;
+    write_meaning(err, fault.kind.code())
 }
 
 /// Writes what converts a package, where a text looks like one.
@@ -79,6 +80,19 @@ fn write_packed<E: Sink>(err: &mut E, packed: Option<Packed>) -> Result<(), Sink
         write_all(err, packed.line())?;
     }
     Ok(())
+}
+
+/// Writes the refusal of a module for a fault of its text, what it means, and what converts a package, where the text looks like one.
+fn write_found<E: Sink>(
+    err: &mut E,
+    fault: ModuleFault<'_>,
+    packed: Option<Packed>,
+) -> Result<(), SinkFault>
+    ensures { Writes E.taken E.failures err.old err.new
+        (refusal_text true (refusal_for fault.entry) ++ packed_text packed) result }
+{
+    write_fault(err, fault)?;
+    write_packed(err, packed)
 }
 
 /// Writes the refusal of the module in the file at a path for a fault of its text, or since memory ran out for it, and what it means.
@@ -94,8 +108,14 @@ fn write_text_fault<E: Sink>(
 {
     match fault {
         TextFault::Found { kind, at, word } => {
-            write_fault(err, module_name(path), kind, at, word)?;
-            write_packed(err, packed)
+            let name = module_name(path);
+            let fault = ModuleFault {
+                name,
+                kind,
+                at,
+                word,
+            };
+            write_found(err, fault, packed)
         }
         TextFault::Memory => write_no_memory(err, true),
     }

@@ -1,12 +1,9 @@
 use Rattle.std.proofs.Common.{append_assoc}
+use Rattle.std.proofs.lemmas.List.{nil_from_length}
 use Rattle.std.specs.Vec.Iter.{into_iter_items}
-use Rattle.cil_program.proofs.Common.{◌≡◌, ◌∙◌, [], ◌∷◌, List, ap, append-nil, arith, length, refl, sym, subst, AllZip, owned_entry, IsEntryFor}
+use Rattle.cil_program.proofs.Common.{◌≡◌, ◌∙◌, [], ◌∷◌, ap, append-nil, arith, length, sym, subst, AllZip, owned_entry, IsEntryFor}
 use Rattle.cil_program.proofs.ZipLemmas.{all_zip-more}
 use Rattle.cil_program.proofs.command_line.files.entries_of.Goals as goal
-
-nothing_left : {X : Type 0} (l : List X) → length l ≡ 0 → l ≡ []
-nothing_left [] h = refl
-nothing_left (x ∷ xs) h = absurd (omega arith)
 
 pub loop-file-preserved : goal.loop-file-preserved
 loop-file-preserved g c =
@@ -26,6 +23,6 @@ pub returns : goal.returns
 returns g c =
     let at = c.loop-file in
     let none = c.in-None.ensures.steps in
-    let nothing : into_iter_items at.file-iterator ≡ [] = nothing_left _ (sym at.invariant.2 ∙ none.0) in
+    let nothing : into_iter_items at.file-iterator ≡ [] = nil_from_length _ (sym at.invariant.2 ∙ none.0) in
     let all = sym (append-nil at.yielded) ∙ rw nothing at at.invariant.0 ∙ c.into_iter-file-iterator.ensures.into_iter_gives.0 in
     subst (λ l. AllZip (λ file entry. IsEntryFor file.path.now file.text.items (owned_entry entry)) l at.entries.items) all at.invariant.1

@@ -1,36 +1,21 @@
 use Rattle.cil_program.proofs.Common.{◌++◌, at_place, for_memory, refl, subst, sym, true, Writes}
 use Rattle.cil_program.proofs.MeaningLemmas.{writes-no_more}
-use Rattle.cil_session.proofs.ReplyLemmas.{writes-both, writes-first}
 use Rattle.cil_specs.specs.TextFault.{code_of}
 use Rattle.cil_text.specs.Image.{place_of, kind_of, shown}
 use Rattle.cil_program.specs.ByNames.{IsRefusalBy, hint_by}
 use Rattle.cil_program.specs.Meanings.{refusal_text}
-use Rattle.cil_program.specs.Packed.{packed_text}
 use Rattle.cil_program.specs.declared.command_line.foreign.NotProjected.TheVariants.{AtFault}
 use Rattle.cil_program.proofs.command_line.notes.write_text_fault.Goals as goal
 
-pub returns-in_err-write_fault-in-Found : goal.returns-in_err-write_fault-in-Found
-returns-in_err-write_fault-in-Found g c =
+pub returns-in-Found : goal.returns-in-Found
+returns-in-Found g c =
     let E = g.E.Sink in
     let found = c.in-Found in
-    let name = c.module_name.result.now in
-    let refusal = at_place (code_of (kind_of found.kind)) name (place_of found.at) (shown found.word) in
-    let written = writes-first E.taken E.failures c.args.err.now c.write_fault.new.err (refusal_text true refusal) (packed_text c.args.packed) _ c.from_residual.result c.from_residual.ensures.0 c.in_err-write_fault-in-Found.ensures in (
+    let name = c.module_name-name.result.now in
+    let refusal = at_place (code_of (kind_of found.kind)) name (place_of found.at) (shown found.word) in (
       refusal,
-      subst (λ f. IsRefusalBy (AtFault c.args.path f c.args.packed) refusal) (sym found.is) (name, c.module_name.ensures, refl),
-      subst (λ f. Writes E.taken E.failures c.args.err.now c.write_fault.new.err (refusal_text true refusal ++ hint_by (AtFault c.args.path f c.args.packed)) c.from_residual.result) (sym found.is) written,
-    )
-
-pub returns-in_ok-write_fault-in-Found : goal.returns-in_ok-write_fault-in-Found
-returns-in_ok-write_fault-in-Found g c =
-    let E = g.E.Sink in
-    let found = c.in-Found in
-    let name = c.module_name.result.now in
-    let refusal = at_place (code_of (kind_of found.kind)) name (place_of found.at) (shown found.word) in
-    let written = writes-both E.taken E.failures c.args.err.now c.write_fault.new.err c.write_packed.new.err (refusal_text true refusal) (packed_text c.args.packed) _ c.write_packed.result c.in_ok-write_fault-in-Found.ensures c.write_packed.ensures in (
-      refusal,
-      subst (λ f. IsRefusalBy (AtFault c.args.path f c.args.packed) refusal) (sym found.is) (name, c.module_name.ensures, refl),
-      subst (λ f. Writes E.taken E.failures c.args.err.now c.write_packed.new.err (refusal_text true refusal ++ hint_by (AtFault c.args.path f c.args.packed)) c.write_packed.result) (sym found.is) written,
+      subst (λ f. IsRefusalBy (AtFault c.args.path f c.args.packed) refusal) (sym found.is) (name, c.module_name-name.ensures, refl),
+      subst (λ f. Writes E.taken E.failures c.args.err.now c.write_found.new.err (refusal_text true refusal ++ hint_by (AtFault c.args.path f c.args.packed)) c.write_found.result) (sym found.is) c.write_found.ensures,
     )
 
 pub returns-in-Memory : goal.returns-in-Memory
