@@ -48,8 +48,10 @@ pub fn keys_of<A: Allocator + Copy>(
     requires sources { AreSources sources }
     ensures { IfOk result (λ keys. AreKeysOf (is_among sources.entry) head.entry keys.items) }
 {
-    let room = sources_len(sources).saturating_mul(head.permits.len());
-    let mut keys = Vec::with_capacity(alloc, room)?;
+    // (most rules have one source, which takes longer to count than to list)
+    let words = sources.was.sources.places_len() | sources.is.sources.places_len();
+    let count = if words > 1 { sources_len(sources) } else { 1 };
+    let mut keys = Vec::with_capacity(alloc, count.saturating_mul(head.permits.len()))?;
     let mut from = 0;
     while let Some(source) = next_source(sources, from) {
         push_keys(&mut keys, source, head)?;
