@@ -165,9 +165,6 @@ abbrev pub Beneath : ℕ → (ℕ → Type 0) → ℕ → Type 0
 Beneath word P t = (t / 64 < word) × P t
 
 module _ (May Must : ℕ → Type 0) where
-  pub words-first : (count : ℕ) → RisesWithin (Beneath 0 May) (Beneath 0 Must) count count
-  words-first count = within-none (Beneath 0 May) (Beneath 0 Must) count (λ t must. let low = must.0 in omega (arith, low))
-
   -- in the first words nothing has to be asked
   pub words-from : (word count : ℕ) → ((t : ℕ) → t / 64 < word → Must t → ⊥) → RisesWithin (Beneath word May) (Beneath word Must) count count
   words-from word count none = within-none (Beneath word May) (Beneath word Must) count (λ t must. none t must.0 must.1)

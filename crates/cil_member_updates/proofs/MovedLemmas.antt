@@ -31,12 +31,6 @@ pub record MovedBelow (word : ℕ) (was is : ℕ → ℕ → ℕ) (old new : ℕ
   pub behind : (a t : ℕ) → word ≤ t / 64 → new a t ≡ old a t
 
 module _ (was is : ℕ → ℕ → ℕ) where
-  pub moved-none : (old : ℕ → ℕ → ℕ) → MovedBelow 0 was is old old
-  moved-none old = record {
-    below = λ a t low. absurd (omega (arith, low));
-    behind = λ a t high. refl;
-  }
-
   -- nothing has to move in the first words
   pub moved-from : (word : ℕ) (old : ℕ → ℕ → ℕ) → ((a t : ℕ) → t / 64 < word → was a t ≡ is a t) → MovedBelow word was is old old
   moved-from word old same = record {

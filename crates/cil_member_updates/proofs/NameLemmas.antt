@@ -1,5 +1,5 @@
 -- Names by their symbols.
-use Rattle.cil_member_updates.proofs.Common.{◌≡◌, ◌≢◌, ◌==◌, ◌+◌, ◌-◌, ◌*◌, ◌<◌, ◌&&◌, ℕ, zero, suc, Bool, true, false, List, [], ◌∷◌, length, Option, None, Some, IsTrue, below_more, bit_or, bytes_eq, min, nat_lt, slice_get, refl, sym, ap, ◌∙◌, subst, inl, inr, arith, AllByRecursion, IsDistinct, bit_at, and-false, cases_Bool, cases_eq, cases_lt, eq-eqb, ne_eqb, lt-ltb, le-ltb, bit_at_or, none-some, same_Some, bytes_eq-Decides, Expr, leaves, Meaning, is_in, keeps_type, is_member, Element, a_type, an_attribute, SetStatement, differ, holds_with, mentions, is_the_attribute, contains-middle, IsPresence, one_if, AreBits, Cover, of_name, keeps, holds, is_of, element_holds, IsUnchanged, Tell}
+use Rattle.cil_member_updates.proofs.Common.{◌≡◌, ◌≢◌, ◌==◌, ◌+◌, ◌-◌, ◌*◌, ◌/◌, ◌<◌, ◌&&◌, ℕ, zero, suc, Bool, true, false, List, [], ◌∷◌, length, Option, None, Some, IsTrue, below_more, bit_or, bytes_eq, min, nat_lt, slice_get, refl, sym, ap, ◌∙◌, subst, inl, inr, arith, AllByRecursion, IsDistinct, bit_at, and-false, cases_Bool, cases_eq, cases_lt, eq-eqb, ne_eqb, lt-ltb, le-ltb, bit_at_or, none-some, same_Some, slice_get_past, bytes_eq-Decides, Expr, leaves, Meaning, is_in, keeps_type, is_member, Element, a_type, an_attribute, SetStatement, differ, holds_with, mentions, is_the_attribute, contains-middle, IsOutside, IsPresence, one_if, AreBits, Cover, of_name, keeps, holds, is_of, element_holds, IsUnchanged, Tell}
 use Rattle.std.proofs.Common.{Contains, true≢false}
 use Rattle.cil_specs.specs.Meaning as meanings
 use Rattle.cil_specs.proofs.DependsLemmas.{any-contained}
@@ -89,6 +89,11 @@ module _ (symbols : List (List ℕ)) where
     pub holds-past : (s : SetStatement) (t : ℕ) → slice_get symbols t ≡ None → holds symbols meaning s t ≡ false
     unfolding holds
     holds-past s t none = ap (of_name (is_in meaning s.expr)) none
+
+    -- nor is one behind the words of all symbols
+    pub cover-outside : (s : SetStatement) (len : ℕ) → len ≡ length symbols → (word : ℕ) → IsOutside (record { first = 0; end = len / 64 + 1 }) word → Cover (holds symbols meaning s) word 0
+    cover-outside s len same word (inl low) b within none = absurd (omega (arith, low))
+    cover-outside s len same word (inr high) b within none = holds-past s (64 * word + b) (slice_get_past symbols (64 * word + b) (omega (arith, high, same, within)))
 
     -- a type holds itself alone
     pub cover-type : IsDistinct bytes_eq symbols → (symbol word bits : ℕ) (name : List ℕ) → slice_get symbols symbol ≡ Some name → Cover (λ t. symbol == t) word bits → Cover (element_holds symbols meaning (a_type name)) word bits

@@ -1,7 +1,8 @@
 -- Plain lists of names, and the types that they hold.
-use Rattle.cil_member_updates.proofs.Common.{◌≡◌, ◌≢◌, ◌==◌, ◌+◌, ◌*◌, ◌/◌, ◌%◌, ◌^◌, ◌<◌, ◌≤◌, ◌&&◌, ◌||◌, ◌++◌, ℕ, zero, suc, Bool, true, false, List, [], ◌∷◌, length, map, take, replicate, set, Some, bytes_eq, bit_or, get_or, nat_lt, slice_get, refl, sym, ap, ◌∙◌, inl, inr, arith, w64, get_or-set_same, get_or-set_other, length-set, list_any, min, IsDistinct, bit_at, or-true, or-false, take_all, cases_Bool, cases_eq, cases_lt, eq-eqb, ne_eqb, le-ltb, lt-ltb, bit_at_or, bit_at-lt, bit_at-zero, bit_at_set_same, bit_at_set_other, IsPresence, Expr, leaves, IsTrue, named, same_Some, bytes_eq-Decides, Meaning, SetStatement, a_type, an_attribute, Element, mentions, is_member, keeps_type, holds_with, Cover, is_set, Tell, of_name, element_holds, holds, keeps}
-use Rattle.std.proofs.Common.{append-nil, drop}
+use Rattle.cil_member_updates.proofs.Common.{◌≡◌, ◌≢◌, ◌==◌, ◌+◌, ◌*◌, ◌/◌, ◌%◌, ◌^◌, ◌<◌, ◌≤◌, ◌&&◌, ◌||◌, ◌++◌, ℕ, zero, suc, Bool, true, false, List, [], ◌∷◌, length, map, take, replicate, set, Some, bytes_eq, bit_or, get_or, nat_lt, slice_get, refl, sym, ap, ◌∙◌, subst, inl, inr, arith, w64, get_or-set_same, get_or-set_other, length-set, list_any, min, IsDistinct, bit_at, or-true, or-false, take_all, cases_Bool, cases_eq, cases_lt, eq-eqb, ne_eqb, le-ltb, lt-ltb, bit_at_or, bit_at-lt, bit_at-zero, bit_at_set_same, bit_at_set_other, IsPresence, Expr, leaves, IsTrue, named, same_Some, bytes_eq-Decides, Meaning, SetStatement, a_type, an_attribute, Element, mentions, is_member, keeps_type, holds_with, Cover, is_set, Tell, of_name, element_holds, holds, keeps}
+use Rattle.std.proofs.Common.{append-nil, drop, Contains}
 use Rattle.std.proofs.lemmas.List.{drop_all}
+use Rattle.cil_expression.proofs.HoldsLemmas.{holds-agree}
 use Rattle.cil_expression.proofs.ListedLemmas.{holds-listed, listed-mapped, plain-listed, plain-mapped}
 use Rattle.cil_expression.proofs.SameExprLemmas.{mapped-same, same-mapped}
 use Rattle.cil_expression.specs.Same.{are_same}
@@ -190,11 +191,37 @@ module _ (symbols : List (List ℕ)) (meaning : Meaning) (t : ℕ) (kept : keeps
       let (n, here, keeps_it) = keeps-name symbols meaning t kept in
       ap (of_name (meanings.holds meaning (an_attribute attribute))) here ∙ sym (tell a t attribute n at here mentioned)
 
-  -- a plain list holds what one of its names does
-  pub list-holds : {leaf : Type 0} (s : SetStatement) (f : leaf → Element) (names : List leaf) → map f names ≡ leaves s.expr → is_plain s.expr ≡ true → list_any (λ e. element_holds symbols meaning (f e) t) names ≡ holds symbols meaning s t
-  list-holds s f names are plain =
+  -- an expression that holds what one of its names does
+  pub list-holds : {leaf : Type 0} (s : SetStatement) (f : leaf → Element) (names : List leaf) → map f names ≡ leaves s.expr → ((value : Element → Bool) → holds_by value s.expr ≡ list_any value (leaves s.expr))
+      → list_any (λ e. element_holds symbols meaning (f e) t) names ≡ holds symbols meaning s t
+  list-holds s f names are joins =
       let (n, here, keeps_it) = keeps-name symbols meaning t kept in
       let test = λ (e : Element). sets.element_holds (λ a. sets.attribute_holds meaning.sets (length meaning.attributes) a n) e n in
       ap (λ p. list_any p names) (λ i e. element-named (f e) n here keeps_it i)
-      ∙ sym (any-mapped f test names) ∙ ap (list_any test) are ∙ sym (holds-listed test (leaves s.expr)) ∙ sym (ap (λ e. holds_by test e) (plain-listed s.expr plain))
+      ∙ sym (any-mapped f test names) ∙ ap (list_any test) are ∙ sym (joins test)
       ∙ sym (ap (λ b. b && holds_with meaning.sets (length meaning.attributes) s.expr n) keeps_it) ∙ sym (holds-named symbols meaning s t n here)
+
+-- ---- expressions that hold what one of their names does
+
+-- a plain list
+pub plain-joins : {leaf : Type 0} (e : Expr leaf) → is_plain e ≡ true → (value : leaf → Bool) → holds_by value e ≡ list_any value (leaves e)
+plain-joins e plain value = ap (holds_by value) (plain-listed e plain) ∙ holds-listed value (leaves e)
+
+-- one of one name that holds something with it and nothing without
+pub one-joins : {leaf : Type 0} (e : Expr leaf) → length (leaves e) ≡ 1 → holds_by (λ l. false) e ≡ false → holds_by (λ l. true) e ≡ true → (value : leaf → Bool) → holds_by value e ≡ list_any value (leaves e)
+one-joins {leaf = leaf} e long none all value = by (leaves e) refl long
+  where
+    agreed : (b : Bool) → holds_by (λ l. b) e ≡ b
+    agreed true = all
+    agreed false = none
+
+    by : (names : List leaf) → leaves e ≡ names → length names ≡ 1 → holds_by value e ≡ list_any value (leaves e)
+    by [] are one = absurd (omega (arith, one))
+    by (x ∷ []) are one =
+        holds-agree e value (λ l. value x) (λ l there. ap value (only l (subst (λ names. Contains names l) are there))) ∙ agreed (value x)
+        ∙ sym (ap (list_any value) are ∙ or-false (value x))
+      where
+        only : (l : leaf) → Contains (x ∷ []) l → l ≡ x
+        only l (zero, low, same) = sym same
+        only l (suc k, low, same) = absurd (omega (arith, low))
+    by (x ∷ y ∷ more) are one = absurd (omega (arith, one))

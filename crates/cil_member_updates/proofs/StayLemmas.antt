@@ -1,5 +1,6 @@
--- A set statement of two policies that holds the same in both.
-use Rattle.cil_member_updates.proofs.Common.{◌≡◌, ◌+◌, ◌*◌, ◌/◌, ◌<◌, ◌%◌, ◌&&◌, ℕ, false, List, length, Some, bytes_eq, slice_get, sym, ap, ◌∙◌, arith, IsDistinct, true≢false, bit_at-zero, Meaning, an_attribute, SetStatement, differ, one_if, Cover, CoversStayed, IsMovedAt, IsSameSet, IsUnchanged, MustMove, given, gives, holds, is_given, is_of, meaning_in, new_in, of_name, old_in, set_at, was_given}
+-- A set statement of two policies that holds the same in both, and one that holds nothing in a word.
+use Rattle.cil_member_updates.proofs.Common.{◌≡◌, ◌+◌, ◌*◌, ◌/◌, ◌<◌, ◌%◌, ◌&&◌, ℕ, false, List, length, Some, bytes_eq, slice_get, sym, ap, ◌∙◌, arith, IsDistinct, true≢false, and-false, bit_at-zero, Meaning, an_attribute, SetStatement, differ, one_if, Cover, CoversStayed, IsMovedAt, IsSameSet, IsUnchanged, MustHold, MustMove, given, given_of, gives, held_by, holds, is_given, is_of, meaning_in, new_in, of_name, old_in, set_at, set_of, was_given}
+use Rattle.cil_member_updates.specs.declared.side.Reading.{Reading}
 use Rattle.cil_member_updates.specs.declared.side.Stayed.{Stayed}
 use Rattle.cil_member_updates.proofs.BitLemmas.{alike}
 use Rattle.cil_member_updates.proofs.EvaluatedLemmas.{moved-within}
@@ -40,3 +41,18 @@ module _ {A : Type 0} (s : Stayed A) where
     unfolding given
     stayed-gives same = stay-gives s.policies.now.symbols.now (meaning_in (old_in s.policies.now)) (meaning_in (new_in s.policies.now)) (set_at (old_in s.policies.now) s.i) (set_at (new_in s.policies.now) s.j) word covers
         (same-attribute (set_at (old_in s.policies.now) s.i) (set_at (new_in s.policies.now) s.j) same)
+
+-- A set statement that holds no type of a word.
+module _ {A : Type 0} (r : Reading A) (word : ℕ) (covers : Cover (held_by r) word 0) where
+  none-held : (t : ℕ) → t / 64 ≡ word → held_by r t ≡ false
+  none-held t at =
+      let here : 64 * word + t % 64 ≡ t = omega (arith, at) in
+      sym (ap (held_by r) here) ∙ covers (t % 64) (omega arith) (bit_at-zero (t % 64))
+
+  pub unheld : (t : ℕ) → t / 64 ≡ word → MustHold r t → ⊥
+  unheld t at held = true≢false (sym held ∙ none-held t at)
+
+  -- gives none
+  pub given-unheld : (a t : ℕ) → t / 64 ≡ word → given_of r a t ≡ 0
+  unfolding given
+  given-unheld a t at = ap (λ h. one_if (is_of r.symbols.now (set_of r) a && h)) (none-held t at) ∙ ap one_if (and-false (is_of r.symbols.now (set_of r) a))

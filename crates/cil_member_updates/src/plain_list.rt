@@ -1,10 +1,13 @@
-//! Set statements whose expression is a plain list of names, which is gone along once.
+//! Set statements that hold what one of their names does, which are gone along once: those of one
+//! name, and those whose expression is a plain list.
 
-ghost use Rattle.std.specs.Prelude.{◌≡◌, ◌||◌, ◌==◌, ◌<◌, ◌/◌, ◌+◌, ℕ, List, Contains, IfOk, IfSome, IsTrue, length, nat_lt};
+ghost use Rattle.std.specs.Prelude.{◌≡◌, ◌||◌, ◌==◌, ◌<◌, ◌/◌, ◌+◌, ℕ, Bool, List, Contains, IfOk, IfSome, IsTrue, length, nat_lt};
 ghost use Rattle.cil_expression.specs.Spelling.{nodes_of};
 ghost use Rattle.cil_expression.specs.declared.expression.Element.{Element};
 ghost use Rattle.cil_parse.specs.Forms.{is_plain};
-ghost use Rattle.cil_specs.specs.Expr.{leaves, listed};
+ghost use Rattle.std.specs.List.{list_any};
+ghost use Rattle.cil_specs.specs.Expr.{holds_by, leaves, listed};
+ghost use Rattle.cil_specs.specs.Rule as meant;
 ghost use Rattle.cil_member_updates.specs.Common.{sets_in, HoldsTypes, MayHold, Reads, IsNameIn, held_by, is_set, name_holds, named_by, set_of};
 ghost use Rattle.cil_member_updates.specs.Policy.{counts_at};
 
@@ -18,7 +21,8 @@ use std::alloc::{AllocError, Allocator};
 // How many symbols a word has.
 const WORD: usize = 64;
 
-// How many names a list has at least that is gone along once. One of fewer is evaluated at each type.
+// How many names of types a list has at least that is gone along once. One of fewer is evaluated at
+// each of these types.
 const MANY: usize = 16;
 
 /// The nodes of a plain list of so many names.
@@ -59,6 +63,39 @@ fn is_plain_list<A: Allocator + Copy>(
             ensures { IsTrue result }
         { true },
     ))
+}
+
+/// Whether a set statement has one name and holds what that holds.
+fn holds_its_name<A: Allocator>(reading: &Reading<'_, A>) -> bool
+    requires { reading.now.place < length (sets_in reading.now.side.now.resolved.now) }
+    ensures { IsTrue result → (value : meant.Element → Bool)
+        → holds_by value (set_of reading.now).expr
+        ≡ list_any value (leaves (set_of reading.now).expr) }
+{
+    let resolved = reading.side.resolved;
+    let names = resolved.set_names(reading.place);
+    if names.len() != 1 || resolved.may_hold_any(reading.place) {
+        return false;
+    }
+    let expression = &resolved.numbered_set(reading.place).unwrap().expression;
+    expression.holds(
+        |_|
+            ensures { IsTrue result }
+        { true },
+    )
+}
+
+/// Whether a set statement is told to hold what one of its names does.
+fn holds_names<A: Allocator + Copy>(alloc: A, reading: &Reading<'_, A>) -> Result<bool, AllocError>
+    requires { reading.now.place < length (sets_in reading.now.side.now.resolved.now) }
+    ensures { IfOk result (λ is. IsTrue is → (value : meant.Element → Bool)
+        → holds_by value (set_of reading.now).expr
+        ≡ list_any value (leaves (set_of reading.now).expr)) }
+{
+    if holds_its_name(reading) {
+        return Ok(true);
+    }
+    is_plain_list(alloc, reading)
 }
 
 /// Sets the bit of a symbol.
@@ -109,15 +146,15 @@ fn add_name<A: Allocator>(
     }
 }
 
-/// The types that a set statement holds whose expression is a plain list of names: those that one
-/// of the names holds.
+/// The types that a set statement holds that holds what one of its names does.
 fn listed_types<A: Allocator + Copy>(
     alloc: A,
     reading: &Reading<'_, A>,
     rows: &MemberRows<A>,
 ) -> Result<Vec<u64, A>, AllocError>
     requires reads { Reads reading.now rows.now }
-    requires plain { IsTrue (is_plain (set_of reading.now).expr) }
+    requires joins { (value : meant.Element → Bool) → holds_by value (set_of reading.now).expr
+        ≡ list_any value (leaves (set_of reading.now).expr) }
     ensures { IfOk result (λ words. HoldsTypes reading.now words.items) }
 {
     let names = reading.side.resolved.set_names(reading.place);
@@ -128,9 +165,14 @@ fn listed_types<A: Allocator + Copy>(
     Ok(words)
 }
 
-/// The types that a set statement holds, as bits, 64 a word, where its expression is a plain list
-/// of many names. The time goes with the names, and for each name of an attribute with the types
-/// too. Where it answers none, no contract says.
+/// Whether some names are few, and all of types.
+fn are_few_types(names: &[Element]) -> bool {
+    names.len() < MANY && names.iter().all(|name| matches!(name, Element::Type(_)))
+}
+
+/// The types that a set statement holds, as bits, 64 a word, where it holds what one of its names
+/// does, and these are many, or one is an attribute. The time goes with the names, and for each name
+/// of an attribute with the types too. Where it answers none, no contract says.
 pub fn plain_list<A: Allocator + Copy>(
     alloc: A,
     reading: &Reading<'_, A>,
@@ -139,10 +181,10 @@ pub fn plain_list<A: Allocator + Copy>(
     requires { Reads reading.now rows.now }
     ensures { IfOk result (λ found. IfSome found (λ words. HoldsTypes reading.now words.items)) }
 {
-    if reading.side.resolved.set_names(reading.place).len() < MANY {
+    if are_few_types(reading.side.resolved.set_names(reading.place)) {
         return Ok(None);
     }
-    if !is_plain_list(alloc, reading)? {
+    if !holds_names(alloc, reading)? {
         return Ok(None);
     }
     Ok(Some(listed_types(alloc, reading, rows)?))

@@ -5,7 +5,7 @@ ghost use Rattle.cil_member_updates.specs.Common.{count_now, rows_in, AreAtLeast
 
 use crate::plain_list::plain_list;
 use crate::side::{Reading, Stayed};
-use crate::visits::turned_words;
+use crate::visits::{reached_words, turned_words};
 use crate::words::{give_word, move_word};
 use cil_member_rows::MemberRows;
 use cil_resolve::{Meter, resolved_sets_are_in_order};
@@ -15,7 +15,7 @@ use std::alloc::{AllocError, Allocator};
 const WORD: usize = 64;
 
 /// Lowers the counters by what a set statement gave, if it is read as it was, or raises them by
-/// what it gives now, word by word.
+/// what it gives now, word by word. Only the words are gone over in which it may hold a type.
 fn give_words<A: Allocator + Copy>(
     rows: &mut MemberRows<A>,
     alloc: A,
@@ -32,7 +32,9 @@ fn give_words<A: Allocator + Copy>(
     ensures evaluations { OnOk result (EvaluatesSet reading.now meter.old meter.new) }
 {
     resolved_sets_are_in_order(reading.side.resolved);
-    for word in 0..reading.symbols.len() / WORD + 1 {
+    let reached = reached_words(reading);
+    let end = reached.end.min(reading.symbols.len() / WORD + 1);
+    for word in reached.first..end {
         give_word(rows, alloc, reading, word, meter)?;
     }
     Ok(())

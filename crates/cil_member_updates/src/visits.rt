@@ -1,6 +1,6 @@
 //! Where a set statement may hold a type, word by word.
 
-ghost use Rattle.std.specs.Prelude.{◌<◌, ◌==◌, ℕ, Contains, length};
+ghost use Rattle.std.specs.Prelude.{◌<◌, ◌==◌, ℕ, Contains, IfSome, length};
 ghost use Rattle.cil_member_updates.specs.Common.{sets_in, IsOutside, IsSide, AreNamesTurned, AreNamesUnchanged, ArePolicies, AreVisits, CoversNames, CoversStayed, HasStayed, IsNameIn, IsNameTurned, IsNameUnchanged, KnowsTypes, Reads, held_by, name_holds, named_by, set_of, Cover, CoverAmong};
 ghost use Rattle.cil_specs.specs.Expr.{leaves};
 
@@ -90,6 +90,58 @@ pub fn reached<A: Allocator>(reading: &Reading<'_, A>, rows: &MemberRows<A>, wor
     match reading.held {
         Some(types) => word_of(types, word),
         None => reached_by_names(reading, rows, word),
+    }
+}
+
+/// The word of a name of an expression, if it is that of a type.
+fn word_of_type<A: Allocator>(reading: &Reading<'_, A>, element: Element) -> Option<Words>
+    requires side { IsSide reading.now.symbols.now reading.now.side.now }
+    requires below { IsNameIn reading.now element }
+    ensures { IfSome result (λ words. (w : ℕ) → IsOutside words w
+        → Cover (name_holds reading.now element) w 0) }
+{
+    match element {
+        Element::Type(ty) => {
+            let symbol = reading.side.numbering.symbol(ty as usize).unwrap();
+            Some(Words::one(symbol / WORD))
+        }
+        Element::Attribute(_) => None,
+    }
+}
+
+/// Words outside which no name of a set statement holds a type, if its names are all of types: those
+/// of the names, and what stands between them.
+fn words_of_types<A: Allocator>(reading: &Reading<'_, A>) -> Option<Words>
+    requires side { IsSide reading.now.symbols.now reading.now.side.now }
+    requires within { reading.now.place < length (sets_in reading.now.side.now.resolved.now) }
+    ensures { IfSome result (λ words. (w : ℕ) → IsOutside words w → CoversNames reading.now w 0) }
+{
+    let names = reading.side.resolved.set_names(reading.place);
+    let mut words = Words::none();
+    for k in 0..names.len() {
+        words = words.joined(word_of_type(reading, names[k])?);
+    }
+    Some(words)
+}
+
+/// Words outside which a set statement holds no type: where its names are all of types their words
+/// and what stands between them, and else the words of all symbols.
+pub fn reached_words<A: Allocator>(reading: &Reading<'_, A>) -> Words
+    requires side { IsSide reading.now.symbols.now reading.now.side.now }
+    requires within { reading.now.place < length (sets_in reading.now.side.now.resolved.now) }
+    ensures { (w : ℕ) → IsOutside result w → Cover (held_by reading.now) w 0 }
+{
+    let all = Words {
+        first: 0,
+        end: reading.symbols.len() / WORD + 1,
+    };
+    if reading.side.resolved.may_hold_any(reading.place) {
+        return all;
+    }
+    reach_is_a_bound();
+    match words_of_types(reading) {
+        Some(words) => words,
+        None => all,
     }
 }
 

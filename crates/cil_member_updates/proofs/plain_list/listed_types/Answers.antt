@@ -37,4 +37,4 @@ returns g c t may =
     c.loop-k.invariant.told t may
     ∙ ap (list_any (λ e. name_holds c.args.reading.now e t)) (take_all c.loop-k.k names c.loop-k-test.false)
     ∙ list-holds c.args.reading.now.symbols.now (meaning_in r) t may s (element_of r.names.items) names
-    (c.set_names-names.ensures.names s (set-there r c.args.reading.now.place c.requires.reads.within)) c.requires.plain
+    (c.set_names-names.ensures.names s (set-there r c.args.reading.now.place c.requires.reads.within)) c.requires.joins
