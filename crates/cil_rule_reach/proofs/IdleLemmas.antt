@@ -1,13 +1,10 @@
 -- Rules that reach nothing.
 use Rattle.std.proofs.Common.{◌≡◌, ℕ, ◌&&◌, Bool, true, false, Option, None, Some, is_none, refl, sym, ap, ◌∙◌, arith, true≢false, eq-eqb}
 use Rattle.std.proofs.Math.Bool.{and-false}
-use Rattle.std.specs.Prelude.{MatchOption}
-use Rattle.cil_lines.specs.Line.{count_of, IsNextPresent, NonePresent}
-use Rattle.cil_rule_shifts.specs.Reach.{has_source, is_present, reaches, takes, IsFirstWord}
+use Rattle.cil_rule_shifts.specs.Reach.{has_source, reaches, takes, IsFirstWord}
 use Rattle.cil_rule_shifts.specs.declared.reach.Reach.{Reach}
 use Rattle.cil_rule_shifts.specs.declared.targets.Targets.{Targets}
 use Rattle.cil_rule_shifts.specs.declared.targets.Targets.TheVariants.{Nothing, Itself, These}
-use Rattle.cil_rule_shifts.proofs.ReachLemmas.{present-word}
 
 -- what has no first word holds nowhere
 none-from : (test : ℕ → Bool) (found : Option ℕ) → is_none found ≡ true → IsFirstWord test 0 found → (t : ℕ) → test t ≡ false
@@ -19,11 +16,11 @@ no-target : {A : Type 0} (targets : Targets A) → ((t : ℕ) → takes targets 
 unfolding takes
 no-target Nothing none s t = refl
 no-target Itself none s t = absurd (true≢false (sym (eq-eqb 0 0 refl) ∙ none 0))
-no-target (These line) none s t = none t
+no-target (These types) none s t = none t
 
 module _ {A : Type 0} (reach : Reach A) where
-  pub idle-sources : (found : Option ℕ) → is_none found ≡ true → MatchOption found (NonePresent (count_of reach.sources) 0) (IsNextPresent (count_of reach.sources) 0) → (s t : ℕ) → reaches reach s t ≡ false
-  idle-sources found is none s t = ap (λ b. b && takes reach.targets s t) (none-from (has_source reach) found is (present-word reach.sources 0 found none) s)
+  pub idle-sources : (found : Option ℕ) → is_none found ≡ true → IsFirstWord (has_source reach) 0 found → (s t : ℕ) → reaches reach s t ≡ false
+  idle-sources found is none s t = ap (λ b. b && takes reach.targets s t) (none-from (has_source reach) found is none s)
 
   pub idle-targets : (found : Option ℕ) → is_none found ≡ true → IsFirstWord (takes reach.targets 0) 0 found → (s t : ℕ) → reaches reach s t ≡ false
   idle-targets found is none s t = ap (λ b. has_source reach s && b) (no-target reach.targets (none-from (takes reach.targets 0) found is none) s t) ∙ and-false (has_source reach s)

@@ -1,14 +1,12 @@
--- Members of a row as a line, word by word.
-use Rattle.std.proofs.Common.{◌≡◌, ℕ, ◌+◌, ◌*◌, ◌/◌, ◌%◌, ◌^◌, ◌<◌, ◌≤◌, ◌==◌, ◌&&◌, Bool, true, false, List, length, get_or, min, nat_lt, refl, sym, ap, ◌∙◌, inl, inr, arith, zero-add}
-use Rattle.std.proofs.Math.Bool.{and-false}
+-- Types alone, and members of a row as a line, word by word.
+use Rattle.std.proofs.Common.{◌≡◌, ℕ, ◌+◌, ◌*◌, ◌/◌, ◌%◌, ◌<◌, ◌≤◌, ◌==◌, Bool, true, false, List, length, get_or, min, nat_lt, refl, sym, ap, ◌∙◌, inl, inr, arith}
 use Rattle.std.proofs.Math.ListN.{get_or-eq_default}
-use Rattle.std.proofs.lemmas.Bool.{cases_eq, cases_lt, eq-eqb, lt-ltb, le-ltb, ne_eqb}
+use Rattle.std.proofs.lemmas.Bool.{cases_lt, lt-ltb, le-ltb, ne_eqb}
 use Rattle.std.proofs.lemmas.Nat.Bits.{bit_at-zero}
 use Rattle.std.specs.Int.{bit_at}
 use Rattle.std.specs.Prelude.{slice_index}
-use Rattle.cil_lines.specs.Line.{Counters, count_of, hit, IsPresence}
+use Rattle.cil_lines.specs.Line.{Counters, count_of, IsPresence}
 use Rattle.cil_rule_shifts.specs.Reach.{is_present, one_if}
-use Rattle.cil_rule_shifts.proofs.ReachLemmas.{bit-here}
 
 one-if-some : (n : ℕ) → min 1 n ≡ one_if (nat_lt 0 n)
 one-if-some n =
@@ -35,22 +33,10 @@ words-all line counts words symbols n t all none few are is =
     positive true = refl
     positive false = refl
 
--- one type alone
-pub type-alone : (line old : Counters) (ty t : ℕ) → count_of old t ≡ 0 → count_of line t ≡ count_of old t + hit (ty / 64) (2 ^ (ty % 64)) t → is_present line t ≡ (ty == t)
-unfolding is_present
-type-alone line old ty t none added =
-    ap (nat_lt 0) (added ∙ ap (λ n. n + hit (ty / 64) (2 ^ (ty % 64)) t) none ∙ zero-add (hit (ty / 64) (2 ^ (ty % 64)) t) ∙ bit-here ty (ty / 64) t refl)
-    ∙ elim (cases_eq ty t) [
-      | inl same ↦
-          ap (λ b. nat_lt 0 (one_if (b && (ty == t)))) (eq-eqb (t / 64) (ty / 64) (ap (λ n. n / 64) (sym same))) ∙ ap (λ b. nat_lt 0 (one_if b)) (eq-eqb ty t same) ∙ sym (eq-eqb ty t same)
-      | inr other ↦
-          ap (λ b. nat_lt 0 (one_if ((t / 64 == ty / 64) && b))) (ne_eqb ty t other) ∙ ap (λ b. nat_lt 0 (one_if b)) (and-false (t / 64 == ty / 64)) ∙ sym (ne_eqb ty t other)
-    ]
-
 -- no type has a number behind those of the code
-pub type-short : (line : Counters) (ty symbols : ℕ) → ty < symbols → symbols ≤ 18446744073709551615 → ((t : ℕ) → is_present line t ≡ (ty == t)) → (t : ℕ) → 18446744073709551615 ≤ t → is_present line t ≡ false
-type-short line ty symbols low few is t past = is t ∙ ne_eqb ty t (λ e. omega (arith, e, low, few, past))
+pub one-short : (f : ℕ → Bool) (ty symbols : ℕ) → ty < symbols → symbols ≤ 18446744073709551615 → ((t : ℕ) → f t ≡ (ty == t)) → (t : ℕ) → 18446744073709551615 ≤ t → f t ≡ false
+one-short f ty symbols low few is t past = is t ∙ ne_eqb ty t (λ e. omega (arith, e, low, few, past))
 
-pub members-short : (line : Counters) (counts : ℕ → ℕ) (symbols : ℕ) → symbols ≤ 18446744073709551615 → ((t : ℕ) → symbols ≤ t → counts t ≡ 0) → ((t : ℕ) → is_present line t ≡ nat_lt 0 (counts t))
-    → (t : ℕ) → 18446744073709551615 ≤ t → is_present line t ≡ false
-members-short line counts symbols few none is t past = is t ∙ ap (nat_lt 0) (none t (omega (arith, few, past)))
+pub many-short : (f : ℕ → Bool) (counts : ℕ → ℕ) (symbols : ℕ) → symbols ≤ 18446744073709551615 → ((t : ℕ) → symbols ≤ t → counts t ≡ 0) → ((t : ℕ) → f t ≡ nat_lt 0 (counts t))
+    → (t : ℕ) → 18446744073709551615 ≤ t → f t ≡ false
+many-short f counts symbols few none is t past = is t ∙ ap (nat_lt 0) (none t (omega (arith, few, past)))

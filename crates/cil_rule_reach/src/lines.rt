@@ -1,6 +1,6 @@
 //! Types as lines.
 
-ghost use Rattle.std.specs.Prelude.{◌≡◌, ◌≤◌, ◌==◌, ℕ, nat_lt, IfOk};
+ghost use Rattle.std.specs.Prelude.{◌≡◌, ◌≤◌, ℕ, nat_lt, IfOk};
 ghost use Rattle.cil_rule_shifts.specs.Reach.{is_present};
 ghost use Rattle.cil_rule_reach.specs.Reaches.{members_of};
 
@@ -23,13 +23,4 @@ pub fn members_line<A: Allocator + Copy>(
     let count = members.symbols / WORD + 1;
     let words = members.words(alloc, row, count)?;
     Ok(Line::of_words(alloc, words))
-}
-
-/// A type alone.
-pub fn type_line<A: Allocator + Copy>(alloc: A, ty: usize) -> Result<Line<A>, AllocError>
-    ensures { IfOk result (λ line. (t : ℕ) → is_present line t ≡ (ty == t)) }
-{
-    let mut line = Line::new(alloc);
-    line.add(alloc, ty / WORD, 1 << (ty % WORD))?;
-    Ok(line)
 }

@@ -101,7 +101,7 @@ pub fn rule_permits<A: Allocator + Copy>(
 fn is_idle<A: Allocator>(reach: &Reach<A>) -> bool
     ensures { result ≡ true → (s t : ℕ) → reaches reach.now s t ≡ false }
 {
-    let source = reach.sources.next_present_word(0);
+    let source = reach.sources.next_word(0);
     let target = reach.targets.next_word(0, 0);
     source.is_none() | target.is_none()
 }

@@ -2,39 +2,38 @@
 
 ghost use Rattle.std.specs.Prelude.{◌≡◌, ◌≤◌, ◌-◌, ◌^◌, ℕ, IsTrue, false, length, IfOk};
 ghost use Rattle.cil_resolve.specs.Below.{is_element_below, is_rule_below, is_target_below};
-ghost use Rattle.cil_rule_shifts.specs.Reach.{has_source, is_present, takes, AreShort, IsShort};
+ghost use Rattle.cil_rule_shifts.specs.Reach.{has_source, has_type, takes, AreShort, IsShort};
 ghost use Rattle.cil_rule_reach.specs.Reaches.{aims_by, has_by, members_of};
 
-use crate::lines::{members_line, type_line};
+use crate::lines::members_line;
 use crate::permits::symbol_of;
 use crate::symbol_members::SymbolMembers;
-use cil_lines::Line;
 use cil_resolve::{Element, NumberedRule, ResolvedTarget};
-use cil_rule_shifts::{Reach, Targets};
+use cil_rule_shifts::{Reach, Targets, Types};
 use cil_symbols::Numbering;
 use std::alloc::{AllocError, Allocator};
 
-/// The types that an element stands for, as those whose counters are above 0.
+/// The types that an element stands for.
 fn types_of<A: Allocator + Copy>(
     alloc: A,
     members: &SymbolMembers<'_, A>,
     numbering: &Numbering<A>,
     element: Element,
-) -> Result<Line<A>, AllocError>
+) -> Result<Types<A>, AllocError>
     requires below { IsTrue (is_element_below (length numbering.now.symbols) element) }
     requires symbols { numbering.now.count ≤ members.now.symbols }
     requires known { (a t : ℕ) → members.now.symbols ≤ t → members_of members.now a t ≡ 0 }
-    ensures types { IfOk result (λ line. (t : ℕ) → is_present line t ≡ has_by (members_of members.now) numbering.now.symbols element t) }
-    ensures short { IfOk result (λ line. (t : ℕ) → 2 ^ 64 - 1 ≤ t → is_present line t ≡ false) }
+    ensures types { IfOk result (λ types. (t : ℕ) → has_type types t ≡ has_by (members_of members.now) numbering.now.symbols element t) }
+    ensures short { IfOk result (λ types. (t : ℕ) → 2 ^ 64 - 1 ≤ t → has_type types t ≡ false) }
 {
     members.symbols_len();
     match element {
-        Element::Type(ty) => type_line(alloc, symbol_of(numbering, ty as usize)),
-        Element::Attribute(attribute) => members_line(
-            alloc,
-            members,
-            symbol_of(numbering, attribute as usize),
-        ),
+        Element::Type(ty) => Ok(Types::One(symbol_of(numbering, ty as usize))),
+        Element::Attribute(attribute) => {
+            let row = symbol_of(numbering, attribute as usize);
+            let line = members_line(alloc, members, row)?;
+            Ok(Types::Many(line))
+        }
     }
 }
 
@@ -54,8 +53,8 @@ fn targets_of<A: Allocator + Copy>(
     match target {
         ResolvedTarget::Itself => Ok(Targets::Itself),
         ResolvedTarget::Element(element) => {
-            let line = types_of(alloc, members, numbering, element)?;
-            Ok(Targets::These(line))
+            let types = types_of(alloc, members, numbering, element)?;
+            Ok(Targets::These(types))
         }
     }
 }

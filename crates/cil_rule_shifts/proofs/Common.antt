@@ -10,13 +10,14 @@ pub use Rattle.cil_rule_shifts.specs.Groups.{AreKeysOf, AreMovesOf, AreSources, 
 pub use Rattle.cil_rule_shifts.specs.Moves.{differs, moves_where}
 pub use Rattle.cil_rule_shifts.specs.Permits.{AreInOrder, has_permit, is_permit, permit_cmp}
 pub use Rattle.cil_rule_shifts.specs.Reach.{AreShort, IsMask, IsNext, IsNextWord, NoneFrom, NoneFromWord, gives, grants, has_head, has_source, head_of, is_line, one_if, reaches}
-unfoldable pub use Rattle.cil_rule_shifts.specs.Reach.{is_present, takes}
+unfoldable pub use Rattle.cil_rule_shifts.specs.Reach.{has_type, is_present, takes}
 pub use Rattle.cil_rule_shifts.specs.declared.head.RuleHead.{RuleHead}
 pub use Rattle.cil_rule_shifts.specs.declared.permit.Permit.{Permit}
 pub use Rattle.cil_rule_shifts.specs.declared.reach.Part.{Part}
 pub use Rattle.cil_rule_shifts.specs.declared.reach.Reach.{Reach}
 pub use Rattle.cil_rule_shifts.specs.declared.reach.Sources.{Sources}
 pub use Rattle.cil_rule_shifts.specs.declared.targets.Targets.{Targets}
+pub use Rattle.cil_rule_shifts.specs.declared.types.Types.{Types}
 pub use Rattle.cil_sums.proofs.RiseLemmas.{rises-added, rises-bits, rises-both, rises-map, rises-more, rises-none, rises-same, same-from_counts}
 pub use Rattle.cil_sums.specs.Rises.{RisesBy}
 pub use Rattle.std.proofs.Common.{if◌then◌else◌, ◌⊎◌, Bool, List, MatchOption, None, Option, Some, [], add-zero, ap, arith, bit_and, cond, count_ones, div-add-mod', div-le_self, false, get_or, inl, inr, length, min, mod-lt, nat_eq, nat_lt, not, pow_pos, refl, subst, sym, take, true, true≢false, vec_len, w64, zero-add, ℕ, ◌%◌, ◌&&◌, ◌*◌, ◌++◌, ◌+◌, ◌-◌, ◌/◌, ◌<◌, ◌==◌, ◌^◌, ◌||◌, ◌∙◌, ◌∷◌, ◌≡◌, ◌≢◌, ◌≤◌}

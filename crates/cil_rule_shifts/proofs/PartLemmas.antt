@@ -1,7 +1,7 @@
 -- Counters moved at the sources that a rule lost, at those that it kept and at those that it got.
-use Rattle.cil_rule_shifts.proofs.Common.{◌≡◌, ℕ, ◌+◌, ◌-◌, ◌^◌, ◌&&◌, ◌||◌, Bool, true, false, min, refl, sym, ap, ◌∙◌, arith, AreTargetsOf, SymbolKey, differs, gives, gives_part, gives_to, has_head, has_source, in_part, is_among, moves_where, one_if, reaches, takes, Reach, RuleHead, Sources, Part, Permit, Targets, RisesBy, rises-more, rises-none, has_permit, is_kind, length, List, [], ◌∷◌}
+use Rattle.cil_rule_shifts.proofs.Common.{add-zero, ◌≡◌, ℕ, ◌+◌, ◌-◌, ◌^◌, ◌&&◌, ◌||◌, Bool, true, false, min, refl, sym, ap, ◌∙◌, arith, AreTargetsOf, SymbolKey, differs, gives, gives_part, gives_to, has_head, has_source, in_part, is_among, moves_where, one_if, reaches, takes, Reach, RuleHead, Sources, Part, Permit, Targets, RisesBy, rises-more, rises-none, has_permit, is_kind, length, List, [], ◌∷◌}
 use Rattle.std.proofs.Math.Bool.{and-false}
-use Rattle.cil_rule_shifts.proofs.ReachLemmas.{no-first, no-second}
+use Rattle.cil_rule_shifts.proofs.ReachLemmas.{and-no, no-first, no-second}
 use Rattle.cil_rule_shifts.specs.declared.group.Group.{Group}
 use Rattle.cil_rule_shifts.specs.declared.reach.Part.TheVariants.{Lost, Kept, Got}
 
@@ -67,6 +67,13 @@ module _ {A : Type 0} (none is : Reach A) (nowhere : (s : ℕ) → has_source no
       by : (b x h : Bool) → (in_part Got false b && ((b && x) && h)) ≡ ((b && x) && h)
       by true x h = refl
       by false x h = refl
+
+  pub got-raised : (k : SymbolKey) (t old new : ℕ)
+      → new + one_if (in_part Got (has_source none k.source) (has_source is k.source) && gives none head k t) ≡ old + one_if (in_part Got (has_source none k.source) (has_source is k.source) && gives is head k t)
+      → new ≡ old + one_if (gives is head k t)
+  got-raised k t old new moved =
+      let part = in_part Got (has_source none k.source) (has_source is k.source) in
+      sym (ap (λ b. new + one_if (part && b)) (gives-none none head k t (nowhere k.source)) ∙ ap (λ n. new + n) (and-no part) ∙ add-zero new) ∙ moved ∙ ap (λ b. old + one_if b) (got-gives k t)
 
   pub got-moves : (p : SymbolKey × ℕ) → (in_part Got (has_source none p.0.source) (has_source is p.0.source) && moves_where none is head p) ≡ gives is head p.0 p.1
   got-moves p =

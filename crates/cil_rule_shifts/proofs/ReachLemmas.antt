@@ -1,25 +1,21 @@
 -- What rules reach, word by word and source by source.
-use Rattle.cil_rule_shifts.proofs.Common.{◌≡◌, ◌≢◌, ℕ, ◌+◌, ◌-◌, ◌*◌, ◌/◌, ◌%◌, ◌^◌, ◌<◌, ◌≤◌, ◌==◌, ◌&&◌, ◌||◌, Bool, true, false, nat_lt, Option, None, Some, MatchOption, w64, refl, sym, ap, ◌∙◌, subst, inl, inr, arith, true≢false, min, div-add-mod', div-le_self, mod-lt, pow_pos, bit_at, trailing_zeros, cases_eq, cases_lt, eq-eqb, ne_eqb, lt-ltb, leb-true, leb-false, bit_at-pow_same, bit_at-pow_other, bit_at_cat_high, bit_at-trailing_zeros, bit_at_above, bit_at-zero, Counters, count_of, hit, IsPresence, NonePresent, IsNextPresent, hit-here, hit-there, hit-none, one_if, is_present, takes, IsMask, IsNext, NoneFrom, IsNextWord, NoneFromWord, Targets}
+use Rattle.cil_rule_shifts.proofs.Common.{◌≡◌, ◌≢◌, ℕ, ◌+◌, ◌-◌, ◌*◌, ◌/◌, ◌%◌, ◌^◌, ◌<◌, ◌≤◌, ◌==◌, ◌&&◌, ◌||◌, Bool, true, false, nat_lt, Option, None, Some, MatchOption, w64, refl, sym, ap, ◌∙◌, subst, inl, inr, arith, true≢false, min, div-add-mod', div-le_self, mod-lt, pow_pos, bit_at, trailing_zeros, cases_eq, cases_lt, eq-eqb, ne_eqb, lt-ltb, leb-true, leb-false, bit_at-pow_same, bit_at-pow_other, bit_at_cat_high, bit_at-trailing_zeros, bit_at_above, bit_at-zero, Counters, count_of, hit, NonePresent, IsNextPresent, hit-here, hit-there, hit-none, one_if, has_type, is_present, takes, IsMask, IsNext, NoneFrom, IsNextWord, NoneFromWord, Targets, Types, nat_eq}
 use Rattle.cil_rule_shifts.specs.Reach.{AreNoneBefore, IsMaybeWord}
 use Rattle.std.specs.Bool.{then_some}
 use Rattle.std.proofs.Math.Dec.{leb}
 use Rattle.cil_rule_shifts.specs.declared.targets.Targets.TheVariants.{Nothing, Itself, These}
+use Rattle.cil_rule_shifts.specs.declared.types.Types.TheVariants.{One, Many}
 
 -- the bit of a number in its word
-pub bit-here : (number word t : ℕ) → number / 64 ≡ word → hit word (2 ^ (number % 64)) t ≡ one_if ((t / 64 == word) && (number == t))
-bit-here number word t at =
-    elim (cases_eq (t / 64) word) [
-      | inl same ↦
-          hit-here word (2 ^ (number % 64)) t same
-          ∙ elim (cases_eq number t) [
-            | inl is ↦
-                ap (λ n. bit_at (2 ^ (number % 64)) (n % 64)) (sym is) ∙ bit_at-pow_same (number % 64)
-                ∙ sym (ap (λ b. one_if (b && (number == t))) (eq-eqb (t / 64) word same) ∙ ap one_if (eq-eqb number t is))
-            | inr other ↦
-                bit_at-pow_other (number % 64) (t % 64) (λ e. other (omega (arith, e, same, at)))
-                ∙ sym (ap (λ b. one_if (b && (number == t))) (eq-eqb (t / 64) word same) ∙ ap one_if (ne_eqb number t other))
-          ]
-      | inr other ↦ hit-there word (2 ^ (number % 64)) t other ∙ sym (ap (λ b. one_if (b && (number == t))) (ne_eqb (t / 64) word other))
+pub bit-here : (number word : ℕ) → number / 64 ≡ word → IsMask (nat_eq number) word (2 ^ (number % 64))
+bit-here number word at b within =
+    elim (cases_eq number (64 * word + b)) [
+      | inl is ↦
+          let low : number % 64 ≡ b = omega (arith, is, within) in
+          ap (λ n. bit_at (2 ^ n) b) low ∙ bit_at-pow_same b ∙ sym (ap one_if (eq-eqb number (64 * word + b) is))
+      | inr other ↦
+          bit_at-pow_other (number % 64) b (λ e. other (omega (arith, e, at)))
+          ∙ sym (ap one_if (ne_eqb number (64 * word + b) other))
     ]
 
 pub and-no : (b : Bool) → one_if (b && false) ≡ 0
@@ -35,13 +31,8 @@ one-false true none = absurd (omega (arith, none))
 one-false false none = refl
 
 -- it is in no other
-pub bit-there : (number word t : ℕ) → number / 64 ≢ word → hit word 0 t ≡ one_if ((t / 64 == word) && (number == t))
-bit-there number word t other =
-    hit-none word t
-    ∙ sym (elim (cases_eq number t) [
-      | inl is ↦ ap (λ b. one_if (b && (number == t))) (ne_eqb (t / 64) word (λ e. other (ap (λ n. n / 64) is ∙ e)))
-      | inr apart ↦ ap (λ b. one_if ((t / 64 == word) && b)) (ne_eqb number t apart) ∙ and-no (t / 64 == word)
-    ])
+pub bit-there : (number word : ℕ) → number / 64 ≢ word → IsMask (nat_eq number) word 0
+bit-there number word other b within = bit_at-zero b ∙ sym (ap one_if (ne_eqb number (64 * word + b) (λ e. other (omega (arith, e, within)))))
 
 -- a counter that is 0 is not present, and one that is present isn't 0
 pub present-none : (line : Counters) (s : ℕ) → count_of line s ≡ 0 → is_present line s ≡ false
@@ -59,15 +50,15 @@ present-one line s =
       | inr none ↦ omega (arith, none) ∙ ap one_if (sym (present-none line s (omega (arith, none))))
     ]
 
--- the mask of the counters that are present in a word
-pub word-present : (line : Counters) (word mask t : ℕ) → IsPresence (count_of line) word mask → hit word mask t ≡ one_if ((t / 64 == word) && is_present line t)
-word-present line word mask t presence =
+-- the bits of a mask
+pub word-bits : (f : ℕ → Bool) (word mask t : ℕ) → IsMask f word mask → hit word mask t ≡ one_if ((t / 64 == word) && f t)
+word-bits f word mask t bits =
     elim (cases_eq (t / 64) word) [
       | inl same ↦
-          hit-here word mask t same ∙ presence (t % 64) (omega arith)
-          ∙ ap (λ n. min 1 (count_of line n)) (omega (arith, same)) ∙ present-one line t
-          ∙ sym (ap (λ b. one_if (b && is_present line t)) (eq-eqb (t / 64) word same))
-      | inr other ↦ hit-there word mask t other ∙ sym (ap (λ b. one_if (b && is_present line t)) (ne_eqb (t / 64) word other))
+          hit-here word mask t same ∙ bits (t % 64) (omega arith)
+          ∙ ap (λ n. one_if (f n)) (omega (arith, same))
+          ∙ sym (ap (λ b. one_if (b && f t)) (eq-eqb (t / 64) word same))
+      | inr other ↦ hit-there word mask t other ∙ sym (ap (λ b. one_if (b && f t)) (ne_eqb (t / 64) word other))
     ]
 
 -- the next word of those that are present
@@ -80,6 +71,27 @@ present-word line from (Some next) found = record {
   first = λ t behind before. present-none line t (found.first t behind before);
 }
 
+-- the first word of one number
+pub one-word : (number from : ℕ) → MatchOption (then_some (leb from (number / 64)) (number / 64)) (NoneFromWord (nat_eq number) from) (IsNextWord (nat_eq number) from)
+one-word number from = at (leb from (number / 64)) refl
+  where
+    at : (b : Bool) → leb from (number / 64) ≡ b → MatchOption (then_some b (number / 64)) (NoneFromWord (nat_eq number) from) (IsNextWord (nat_eq number) from)
+    at true low = record {
+      from_on = leb-true from (number / 64) low;
+      present = (number, refl, eq-eqb number number refl);
+      first = λ t behind before. ne_eqb number t (λ e. omega (arith, e, before));
+    }
+    at false high = λ t behind. ne_eqb number t (λ e. let above = leb-false from (number / 64) high in omega (arith, e, behind, above))
+
+module _ {A : Type 0} (types : Types A) where
+  pub type-one : (ty : ℕ) → types ≡ One ty → (t : ℕ) → has_type types t ≡ (ty == t)
+  unfolding has_type
+  type-one ty is t = ap (λ ts. has_type ts t) is
+
+  pub type-many : (line : Counters) → types ≡ Many line → (t : ℕ) → has_type types t ≡ is_present line t
+  unfolding has_type
+  type-many line is t = ap (λ ts. has_type ts t) is
+
 module _ {A : Type 0} (targets : Targets A) (source : ℕ) where
   pub takes-nothing : targets ≡ Nothing → (t : ℕ) → takes targets source t ≡ false
   unfolding takes
@@ -89,28 +101,12 @@ module _ {A : Type 0} (targets : Targets A) (source : ℕ) where
   unfolding takes
   takes-itself is t = ap (λ ts. takes ts source t) is
 
-  pub takes-these : (line : Counters) → targets ≡ These line → (t : ℕ) → takes targets source t ≡ is_present line t
+  pub takes-these : (types : Types A) → targets ≡ These types → (t : ℕ) → takes targets source t ≡ has_type types t
   unfolding takes
-  takes-these line is t = ap (λ ts. takes ts source t) is
+  takes-these types is t = ap (λ ts. takes ts source t) is
 
   pub word-none : targets ≡ Nothing → (word t : ℕ) → hit word 0 t ≡ one_if ((t / 64 == word) && takes targets source t)
   word-none is word t = hit-none word t ∙ sym (ap (λ b. one_if ((t / 64 == word) && b)) (takes-nothing is t) ∙ and-no (t / 64 == word))
-
-  pub itself-word : targets ≡ Itself → (from : ℕ) → MatchOption (then_some (leb from (source / 64)) (source / 64)) (NoneFromWord (takes targets source) from) (IsNextWord (takes targets source) from)
-  itself-word is from = at (leb from (source / 64)) refl
-    where
-      at : (b : Bool) → leb from (source / 64) ≡ b → MatchOption (then_some b (source / 64)) (NoneFromWord (takes targets source) from) (IsNextWord (takes targets source) from)
-      at true low = record {
-        from_on = leb-true from (source / 64) low;
-        present = (source, refl, takes-itself is source ∙ eq-eqb source source refl);
-        first = λ t behind before. takes-itself is t ∙ ne_eqb source t (λ e. omega (arith, e, before));
-      }
-      at false high = λ t behind. takes-itself is t ∙ ne_eqb source t (λ e. let above = leb-false from (source / 64) high in omega (arith, e, behind, above))
-
-  pub these-word : (line : Counters) → targets ≡ These line → (from : ℕ) (result : Option ℕ) → MatchOption result (NonePresent (count_of line) from) (IsNextPresent (count_of line) from)
-      → MatchOption result (NoneFromWord (takes targets source) from) (IsNextWord (takes targets source) from)
-  these-word line is from result found =
-      subst (λ f. MatchOption result (NoneFromWord f from) (IsNextWord f from)) (λ i t. sym (takes-these line is t) i) (present-word line from result found)
 
 -- the bits of a word shifted down
 pub shifted-bit : (n k i : ℕ) → bit_at (n / 2 ^ k) i ≡ bit_at n (k + i)

@@ -11,6 +11,8 @@ use Rattle.cil_rule_shifts.specs.declared.head.RuleHead.{RuleHead}
 use Rattle.cil_rule_shifts.specs.declared.targets.Targets.{Targets}
 use Rattle.cil_rule_shifts.specs.declared.targets.Targets.TheVariants.{Nothing, Itself, These}
 use Rattle.cil_rule_shifts.specs.declared.reach.Reach.{Reach}
+use Rattle.cil_rule_shifts.specs.declared.types.Types.{Types}
+use Rattle.cil_rule_shifts.specs.declared.types.Types.TheVariants.{One, Many}
 
 -- 1 where it is true
 abbrev pub one_if : Bool → ℕ
@@ -20,15 +22,20 @@ one_if b = cond b 1 0
 unfoldable pub is_present : Counters → ℕ → Bool
 is_present counters s = nat_lt 0 (count_of counters s)
 
+-- whether a type is one of some
+unfoldable pub has_type : {A : Type 0} → Types A → ℕ → Bool
+has_type (One ty) t = ty == t
+has_type (Many line) t = is_present line t
+
 -- whether a source has a target
 unfoldable pub takes : {A : Type 0} → Targets A → ℕ → ℕ → Bool
 takes Nothing s t = false
 takes Itself s t = s == t
-takes (These line) s t = is_present line t
+takes (These types) s t = has_type types t
 
 -- whether a symbol is one of the sources
 abbrev pub has_source : {A : Type 0} → Reach A → ℕ → Bool
-has_source reach s = is_present reach.sources s
+has_source reach s = has_type reach.sources s
 
 -- whether a source of a rule has a target
 abbrev pub reaches : {A : Type 0} → Reach A → ℕ → ℕ → Bool

@@ -49,7 +49,7 @@ pub fn keys_of<A: Allocator + Copy>(
     ensures { IfOk result (λ keys. AreKeysOf (is_among sources.entry) head.entry keys.items) }
 {
     // (most rules have one source, which takes longer to count than to list)
-    let words = sources.was.sources.places_len() | sources.is.sources.places_len();
+    let words = sources.was.sources.words_len() | sources.is.sources.words_len();
     let count = if words > 1 { sources_len(sources) } else { 1 };
     let mut keys = Vec::with_capacity(alloc, count.saturating_mul(head.permits.len()))?;
     let mut from = 0;

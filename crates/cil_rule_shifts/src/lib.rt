@@ -12,6 +12,7 @@ mod put;
 mod reach;
 mod shift;
 mod targets;
+mod types;
 mod words;
 
 pub use grant::Grant;
@@ -20,3 +21,4 @@ pub use put::put_rule;
 pub use reach::Reach;
 pub use shift::shift_rule;
 pub use targets::Targets;
+pub use types::Types;

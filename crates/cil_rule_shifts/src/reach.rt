@@ -5,18 +5,17 @@ ghost use Rattle.cil_rule_shifts.specs.Groups.{has_either, is_among, AreSources}
 ghost use Rattle.cil_rule_shifts.specs.Reach.{has_source, IsFirst, IsFirstWord, IsMask, IsMaybeWord, IsShort};
 
 use crate::targets::Targets;
+use crate::types::Types;
 use crate::words::later;
-use cil_lines::Line;
 use std::alloc::{Allocator, Global};
 
 // How many symbols a word has.
 const WORD: usize = 64;
 
-/// The sources of a rule, by symbols, as those whose counters in a line are above 0, and its
-/// targets. A policy without the rule has no source of it.
+/// The sources of a rule, by symbols, and its targets. A policy without the rule has no source of it.
 #[derive(Drop)]
 pub struct Reach<A: Allocator = Global> {
-    pub sources: Line<A>,
+    pub sources: Types<A>,
     pub targets: Targets<A>,
 }
 
@@ -27,7 +26,7 @@ impl<A: Allocator + Copy> Reach<A> {
         ensures short { IsShort result }
     {
         Reach {
-            sources: Line::new(alloc),
+            sources: Types::none(alloc),
             targets: Targets::Nothing,
         }
     }
@@ -54,8 +53,8 @@ pub struct Sources<'r, A: Allocator = Global> {
 fn mask<A: Allocator + Copy>(sources: Sources<'_, A>, word: usize) -> u64
     ensures { IsMask (is_among sources.entry) word result }
 {
-    let was = sources.was.sources.present(word);
-    let is = sources.is.sources.present(word);
+    let was = sources.was.sources.word(word);
+    let is = sources.is.sources.word(word);
     match sources.part {
         Part::Lost => was & !is,
         Part::Kept => was & is,
@@ -69,12 +68,12 @@ fn next_word<A: Allocator + Copy>(sources: Sources<'_, A>, from: usize) -> Optio
     ensures { IsMaybeWord (is_among sources.entry) (has_either sources.entry) from result }
 {
     match sources.part {
-        Part::Lost => sources.was.sources.next_present_word(from),
+        Part::Lost => sources.was.sources.next_word(from),
         Part::Kept => later(
-            sources.was.sources.next_present_word(from),
-            sources.is.sources.next_present_word(from),
+            sources.was.sources.next_word(from),
+            sources.is.sources.next_word(from),
         ),
-        Part::Got => sources.is.sources.next_present_word(from),
+        Part::Got => sources.is.sources.next_word(from),
     }
 }
 

@@ -5,19 +5,18 @@ ghost use Rattle.cil_lines.specs.Line.{hit};
 ghost use Rattle.cil_rule_shifts.specs.Groups.{ArePlain};
 ghost use Rattle.cil_rule_shifts.specs.Reach.{one_if, takes, IsFirstWord};
 
-use cil_lines::Line;
+use crate::types::{Types, bit_of};
 use std::alloc::{Allocator, Global};
 
 // How many targets a word has.
 const WORD: usize = 64;
 
-/// The targets of each source of a rule, by symbols: none, the source itself, or those whose
-/// counters in a line are above 0.
+/// The targets of each source of a rule, by symbols: none, the source itself, or some types.
 #[derive(Drop)]
 pub enum Targets<A: Allocator = Global> {
     Nothing,
     Itself,
-    These(Line<A>),
+    These(Types<A>),
 }
 
 impl<A: Allocator> Targets<A> {
@@ -42,7 +41,7 @@ impl<A: Allocator> Targets<A> {
         match self {
             Targets::Nothing => 0,
             Targets::Itself => bit_of(source, word),
-            Targets::These(line) => line.present(word),
+            Targets::These(types) => types.word(word),
         }
     }
 
@@ -53,18 +52,7 @@ impl<A: Allocator> Targets<A> {
         match self {
             Targets::Nothing => None,
             Targets::Itself => (from <= source / WORD).then_some(source / WORD),
-            Targets::These(line) => line.next_present_word(from),
+            Targets::These(types) => types.next_word(from),
         }
-    }
-}
-
-/// The bit of a number in a word.
-fn bit_of(number: usize, word: usize) -> u64
-    ensures { (t : ℕ) → hit word result t ≡ one_if ((t / 64 == word) && (number == t)) }
-{
-    if number / WORD == word {
-        1 << (number % WORD)
-    } else {
-        0
     }
 }

@@ -10,9 +10,9 @@ returns-in-Itself-clause-targets g c s t = takes-itself _ s refl t ∙ sym (ap (
 pub returns-in-Itself-clause-short : goal.returns-in-Itself-clause-short
 returns-in-Itself-clause-short g c s t low past = takes-itself _ s refl t ∙ ne_eqb s t (λ e. omega (arith, e, low, past))
 
-pub returns-in_ok-line-in-Element-clause-targets : goal.returns-in_ok-line-in-Element-clause-targets
-returns-in_ok-line-in-Element-clause-targets g c s t =
-    takes-these _ s c.in_ok-line-in-Element.line refl t ∙ c.in_ok-line-in-Element.ensures.types t ∙ sym (ap (λ target. aims_by (members_of c.args.members.now) c.args.numbering.now.symbols target s t) c.in-Element.is)
+pub returns-in_ok-types-in-Element-clause-targets : goal.returns-in_ok-types-in-Element-clause-targets
+returns-in_ok-types-in-Element-clause-targets g c s t =
+    takes-these _ s c.in_ok-types-in-Element.types refl t ∙ c.in_ok-types-in-Element.ensures.types t ∙ sym (ap (λ target. aims_by (members_of c.args.members.now) c.args.numbering.now.symbols target s t) c.in-Element.is)
 
-pub returns-in_ok-line-in-Element-clause-short : goal.returns-in_ok-line-in-Element-clause-short
-returns-in_ok-line-in-Element-clause-short g c s t low past = takes-these _ s c.in_ok-line-in-Element.line refl t ∙ c.in_ok-line-in-Element.ensures.short t (omega (arith, past))
+pub returns-in_ok-types-in-Element-clause-short : goal.returns-in_ok-types-in-Element-clause-short
+returns-in_ok-types-in-Element-clause-short g c s t low past = takes-these _ s c.in_ok-types-in-Element.types refl t ∙ c.in_ok-types-in-Element.ensures.short t (omega (arith, past))

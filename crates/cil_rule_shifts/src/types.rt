@@ -1,0 +1,69 @@
+//! Some types.
+
+ghost use Rattle.std.specs.Prelude.{◌≡◌, ℕ, false, nat_eq};
+ghost use Rattle.cil_rule_shifts.specs.Reach.{has_type, IsFirstWord, IsMask};
+
+use cil_lines::Line;
+use std::alloc::{Allocator, Global};
+
+// How many types a word has.
+const WORD: usize = 64;
+
+/// Some types, by symbols: one alone, or those whose counters in a line are above 0. Most rules have a
+/// type alone on either side, which takes no memory.
+#[derive(Drop)]
+pub enum Types<A: Allocator = Global> {
+    One(usize),
+    Many(Line<A>),
+}
+
+impl<A: Allocator + Copy> Types<A> {
+    /// No types. It takes no memory.
+    pub fn none(alloc: A) -> Self
+        ensures { (t : ℕ) → has_type result t ≡ false }
+    {
+        Types::Many(Line::new(alloc))
+    }
+}
+
+impl<A: Allocator> Types<A> {
+    /// The types of a word.
+    pub fn word(&self, word: usize) -> u64
+        ensures { IsMask (has_type self.now) word result }
+    {
+        match self {
+            Types::One(ty) => bit_of(*ty, word),
+            Types::Many(line) => line.present(word),
+        }
+    }
+
+    /// The first word from one on that has some of the types.
+    pub fn next_word(&self, from: usize) -> Option<usize>
+        ensures { IsFirstWord (has_type self.now) from result }
+    {
+        match self {
+            Types::One(ty) => (from <= ty / WORD).then_some(ty / WORD),
+            Types::Many(line) => line.next_present_word(from),
+        }
+    }
+
+    /// How many words may have some of the types. It tells how much room they take, so no contract
+    /// needs it.
+    pub fn words_len(&self) -> usize {
+        match self {
+            Types::One(_) => 1,
+            Types::Many(line) => line.places_len(),
+        }
+    }
+}
+
+/// The bit of a number in a word.
+pub fn bit_of(number: usize, word: usize) -> u64
+    ensures { IsMask (nat_eq number) word result }
+{
+    if number / WORD == word {
+        1 << (number % WORD)
+    } else {
+        0
+    }
+}
