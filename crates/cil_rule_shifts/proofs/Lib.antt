@@ -7,3 +7,4 @@ pub mod OtherLemmas
 pub mod MoveLemmas
 pub mod KeyLemmas
 pub mod PartLemmas
+pub mod OnlyLemmas

@@ -1,5 +1,5 @@
 -- What rules reach, word by word and source by source.
-use Rattle.cil_rule_shifts.proofs.Common.{◌≡◌, ◌≢◌, ℕ, ◌+◌, ◌-◌, ◌*◌, ◌/◌, ◌%◌, ◌^◌, ◌<◌, ◌≤◌, ◌==◌, ◌&&◌, ◌||◌, Bool, true, false, nat_lt, Option, None, Some, MatchOption, w64, refl, sym, ap, ◌∙◌, subst, inl, inr, arith, true≢false, min, div-add-mod', div-le_self, mod-lt, pow_pos, bit_at, trailing_zeros, cases_eq, cases_lt, eq-eqb, ne_eqb, lt-ltb, leb-true, leb-false, bit_at-pow_same, bit_at-pow_other, bit_at_cat_high, bit_at-trailing_zeros, bit_at_above, bit_at-zero, Counters, count_of, hit, NonePresent, IsNextPresent, hit-here, hit-there, hit-none, one_if, has_type, is_present, takes, IsMask, IsNext, NoneFrom, IsNextWord, NoneFromWord, Targets, Types, nat_eq}
+use Rattle.cil_rule_shifts.proofs.Common.{◌≡◌, ◌≢◌, ℕ, ◌+◌, ◌-◌, ◌*◌, ◌/◌, ◌%◌, ◌^◌, ◌<◌, ◌≤◌, ◌==◌, ◌&&◌, ◌||◌, Bool, true, false, nat_lt, Option, None, Some, MatchOption, w64, refl, sym, ap, ◌∙◌, subst, inl, inr, arith, true≢false, min, div-add-mod', div-le_self, mod-lt, pow_pos, bit_at, trailing_zeros, cases_eq, cases_lt, eq-eqb, ne_eqb, lt-ltb, le-ltb, leb-true, leb-false, bit_at-pow_same, bit_at-pow_other, bit_at_cat_high, bit_at-trailing_zeros, bit_at_above, bit_at-zero, Counters, count_of, hit, NonePresent, IsNextPresent, hit-here, hit-there, hit-none, one_if, has_type, is_present, takes, IsMask, IsNext, NoneFrom, IsNextWord, NoneFromWord, Targets, Types, nat_eq}
 use Rattle.cil_rule_shifts.specs.Reach.{AreNoneBefore, IsMaybeWord}
 use Rattle.std.specs.Bool.{then_some}
 use Rattle.std.proofs.Math.Dec.{leb}
@@ -42,6 +42,14 @@ present-none line s none = ap (nat_lt 0) none
 pub present-some : (line : Counters) (s : ℕ) → 0 < count_of line s → is_present line s ≡ true
 unfolding is_present
 present-some line s some = lt-ltb 0 (count_of line s) some
+
+-- what is counted, as far as that is told
+pub present-counted : (line : Counters) (s n : ℕ) → n ≡ min (count_of line s) 18446744073709551615 → nat_lt 0 n ≡ is_present line s
+present-counted line s n told =
+    elim (cases_lt 0 (count_of line s)) [
+      | inl some ↦ lt-ltb 0 n (omega (arith, told, some)) ∙ sym (present-some line s some)
+      | inr none ↦ le-ltb 0 n (omega (arith, told, none)) ∙ sym (present-none line s (omega (arith, none)))
+    ]
 
 pub present-one : (line : Counters) (s : ℕ) → min 1 (count_of line s) ≡ one_if (is_present line s)
 present-one line s =

@@ -8,9 +8,9 @@ ghost use Rattle.cil_rule_shifts.specs.Amounts.{AreMoved};
 ghost use Rattle.cil_rule_shifts.specs.Groups.{is_among, AreShifted, ArePlain, CanMove, CanShift};
 
 use crate::head::RuleHead;
-use crate::keys::{keys_of, push_keys};
+use crate::keys::{keys_of, keys_of_source};
 use crate::moved::moved_of;
-use crate::reach::{Sources, next_source};
+use crate::reach::{Sources, has_sources, next_source};
 use crate::targets::Targets;
 use cil_keyed_lines::{KeyedLines, Moved, SymbolKey};
 use std::alloc::{AllocError, Allocator, Global};
@@ -84,8 +84,7 @@ impl<A: Allocator + Copy> Group<'_, A> {
         ensures { AreShifted (nat_eq source) self.entry lines.old lines.new result }
     {
         let moved = moved_of(alloc, source, self.was, self.is)?;
-        let mut keys = Vec::new(alloc);
-        push_keys(&mut keys, source, self.head)?;
+        let keys = keys_of_source(alloc, source, self.head)?;
         shift_keys(lines, alloc, &keys, &moved, self.for_good)
     }
 
@@ -111,9 +110,18 @@ impl<A: Allocator + Copy> Group<'_, A> {
         requires { CanShift (is_among self.sources) self lines.old }
         ensures { AreShifted (is_among self.entry.sources) self.entry lines.old lines.new result }
     {
-        let Some(_) = next_source(self.sources, 0) else {
-            return Ok(0);
-        };
+        if has_sources(self.sources) {
+            self.shift_some(lines, alloc)
+        } else {
+            Ok(0)
+        }
+    }
+
+    /// The same, where there is a source.
+    fn shift_some(self, lines: &mut KeyedLines<A>, alloc: A) -> Result<u128, AllocError>
+        requires { CanShift (is_among self.sources) self lines.old }
+        ensures { AreShifted (is_among self.entry.sources) self.entry lines.old lines.new result }
+    {
         match (self.was.is_itself(), self.is.is_itself()) {
             (true, true) => Ok(0),
             (false, false) => self.shift_alike(lines, alloc),

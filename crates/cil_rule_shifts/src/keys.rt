@@ -1,6 +1,6 @@
 //! The keys of sources for a rule's kind and permits.
 
-ghost use Rattle.std.specs.Prelude.{◌≡◌, ◌||◌, ◌==◌, true, false, IfOk, OnOk};
+ghost use Rattle.std.specs.Prelude.{◌≡◌, ◌||◌, ◌==◌, true, false, nat_eq, IfOk, OnOk};
 ghost use Rattle.std.specs.List.{IsDistinct};
 ghost use Rattle.cil_keyed_lines.specs.Keyed.{has_key, is_key};
 ghost use Rattle.cil_keyed_lines.specs.declared.symbol_key.SymbolKey.{SymbolKey};
@@ -9,7 +9,7 @@ ghost use Rattle.cil_rule_shifts.specs.Permits.{AreInOrder};
 ghost use Rattle.cil_rule_shifts.specs.Reach.{is_line};
 
 use crate::head::RuleHead;
-use crate::reach::{Sources, next_source, sources_len};
+use crate::reach::{Sources, next_source, only_source, sources_len};
 use cil_keyed_lines::SymbolKey;
 use std::alloc::{AllocError, Allocator};
 
@@ -38,7 +38,21 @@ pub fn push_keys<A: Allocator>(
     Ok(())
 }
 
-/// The keys of some sources.
+/// The keys of one source.
+pub fn keys_of_source<A: Allocator + Copy>(
+    alloc: A,
+    source: usize,
+    head: RuleHead<'_>,
+) -> Result<Vec<SymbolKey, A>, AllocError>
+    requires { AreInOrder head.permits.now }
+    ensures { IfOk result (λ keys. AreKeysOf (nat_eq source) head.entry keys.items) }
+{
+    let mut keys = Vec::with_capacity(alloc, head.permits.len())?;
+    push_keys(&mut keys, source, head)?;
+    Ok(keys)
+}
+
+/// The keys of some sources. Most rules have one.
 pub fn keys_of<A: Allocator + Copy>(
     alloc: A,
     sources: Sources<'_, A>,
@@ -48,10 +62,11 @@ pub fn keys_of<A: Allocator + Copy>(
     requires sources { AreSources sources }
     ensures { IfOk result (λ keys. AreKeysOf (is_among sources.entry) head.entry keys.items) }
 {
-    // (most rules have one source, which takes longer to count than to list)
-    let words = sources.was.sources.words_len() | sources.is.sources.words_len();
-    let count = if words > 1 { sources_len(sources) } else { 1 };
-    let mut keys = Vec::with_capacity(alloc, count.saturating_mul(head.permits.len()))?;
+    if let Some(source) = only_source(sources) {
+        return keys_of_source(alloc, source, head);
+    }
+    let count = sources_len(sources).saturating_mul(head.permits.len());
+    let mut keys = Vec::with_capacity(alloc, count)?;
     let mut from = 0;
     while let Some(source) = next_source(sources, from) {
         push_keys(&mut keys, source, head)?;

@@ -1,6 +1,6 @@
 //! What a rule reaches.
 
-ghost use Rattle.std.specs.Prelude.{◌≡◌, ℕ, false};
+ghost use Rattle.std.specs.Prelude.{◌≡◌, ◌==◌, ℕ, false, IfSome};
 ghost use Rattle.cil_rule_shifts.specs.Groups.{has_either, is_among, AreSources};
 ghost use Rattle.cil_rule_shifts.specs.Reach.{has_source, IsFirst, IsFirstWord, IsMask, IsMaybeWord, IsShort};
 
@@ -104,6 +104,28 @@ pub fn next_source<A: Allocator + Copy>(sources: Sources<'_, A>, from: usize) ->
     let word = next_source_word(sources, from / WORD + 1)?;
     let bits = mask(sources, word);
     Some(WORD * word + bits.trailing_zeros() as usize)
+}
+
+/// The only one of the sources, where it is told at once: that of a rule with one source.
+pub fn only_source<A: Allocator + Copy>(sources: Sources<'_, A>) -> Option<usize>
+    ensures { IfSome result (λ s. (t : ℕ) → is_among sources.entry t ≡ (s == t)) }
+{
+    let was = &sources.was.sources;
+    let is = &sources.is.sources;
+    match (sources.part, was, is) {
+        (Part::Lost, Types::One(ty), _) => (!is.has(*ty)).then_some(*ty),
+        (Part::Kept, Types::One(ty), _) => is.has(*ty).then_some(*ty),
+        (Part::Got, _, Types::One(ty)) => (!was.has(*ty)).then_some(*ty),
+        _ => None,
+    }
+}
+
+/// Whether there is any of the sources.
+pub fn has_sources<A: Allocator + Copy>(sources: Sources<'_, A>) -> bool
+    requires { AreSources sources }
+    ensures { result ≡ false → (s : ℕ) → is_among sources.entry s ≡ false }
+{
+    only_source(sources).is_some() || next_source(sources, 0).is_some()
 }
 
 /// How many sources there are. It tells how much room their keys take, so no contract needs it.

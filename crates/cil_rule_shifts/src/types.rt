@@ -37,6 +37,16 @@ impl<A: Allocator> Types<A> {
         }
     }
 
+    /// Whether a type is one of them.
+    pub fn has(&self, ty: usize) -> bool
+        ensures { result ≡ has_type self.now ty }
+    {
+        match self {
+            Types::One(one) => *one == ty,
+            Types::Many(line) => line.count(ty) > 0,
+        }
+    }
+
     /// The first word from one on that has some of the types.
     pub fn next_word(&self, from: usize) -> Option<usize>
         ensures { IsFirstWord (has_type self.now) from result }
@@ -44,15 +54,6 @@ impl<A: Allocator> Types<A> {
         match self {
             Types::One(ty) => (from <= ty / WORD).then_some(ty / WORD),
             Types::Many(line) => line.next_present_word(from),
-        }
-    }
-
-    /// How many words may have some of the types. It tells how much room they take, so no contract
-    /// needs it.
-    pub fn words_len(&self) -> usize {
-        match self {
-            Types::One(_) => 1,
-            Types::Many(line) => line.places_len(),
         }
     }
 }

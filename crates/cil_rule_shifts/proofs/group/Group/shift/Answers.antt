@@ -1,10 +1,6 @@
-use Rattle.cil_rule_shifts.proofs.Common.{◌∙◌, arith, is_among, refl, sym}
-use Rattle.cil_rule_shifts.proofs.KeyLemmas.{idle-shifted, same-shifted}
+use Rattle.cil_rule_shifts.proofs.Common.{is_among}
+use Rattle.cil_rule_shifts.proofs.KeyLemmas.{idle-shifted}
 use Rattle.cil_rule_shifts.proofs.group.Group.shift.Goals as goal
 
-pub returns-in_default : goal.returns-in_default
-returns-in_default g c = idle-shifted (is_among c.args.self.sources) c.args.self c.args.lines.now c.requires.settled (λ s. c.in_default.ensures s (omega arith))
-
-pub returns-in-true-true : goal.returns-in-true-true
-returns-in-true-true g c =
-    same-shifted (is_among c.args.self.sources) c.args.self c.args.lines.now c.requires.settled (λ s t. c.in-true-true.ensures.itself refl s t ∙ sym (c.in-true-true.ensures'.itself refl s t))
+pub returns-else-has_sources : goal.returns-else-has_sources
+returns-else-has_sources g c = idle-shifted (is_among c.args.self.sources) c.args.self c.args.lines.now c.requires.settled (c.has_sources.ensures c.if-has_sources.false)

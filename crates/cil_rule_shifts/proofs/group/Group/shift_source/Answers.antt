@@ -1,11 +1,8 @@
-use Rattle.cil_rule_shifts.proofs.Common.{◌∙◌, ◌||◌, ap, eqb-true, has_key, is_line, nat_eq, sym, takes}
-use Rattle.cil_rule_shifts.proofs.KeyLemmas.{alike-can_move, alike-shifted, keys-one, none-distinct, unshifted, AreAlike}
+use Rattle.cil_rule_shifts.proofs.Common.{ap, eqb-true, nat_eq, sym, takes}
+use Rattle.cil_rule_shifts.proofs.KeyLemmas.{alike-can_move, alike-shifted, unshifted, AreAlike}
 use Rattle.cil_rule_shifts.proofs.group.Group.shift_source.Given as given
 use Rattle.cil_rule_shifts.proofs.group.Group.shift_source.Goals as goal
 use Rattle.cil_rule_shifts.proofs.group.Group.shift_source.Goals.{After-deref-2}
-
-pub push_keys-requires-clause-distinct : goal.push_keys-requires-clause-distinct
-push_keys-requires-clause-distinct g c = rw c.new-keys.ensures.items none-distinct
 
 -- the keys are those of the source
 alike : (g : given.Over) (c : After-deref-2 g) → AreAlike (nat_eq c.args.source) c.args.self.head c.deref.result.now c.deref-2.result.now c.args.self.was.now c.args.self.is.now
@@ -15,7 +12,7 @@ alike g c =
     let was = c.args.self.was.now in
     let is = c.args.self.is.now in
     record {
-      of = rw c.deref.ensures.value (keys-one source head c.push_keys.new.keys.items c.push_keys.ensures.distinct (λ k. c.in_ok-push_keys.ensures.keys k ∙ ap (λ l. has_key l k || is_line source head k) c.new-keys.ensures.items));
+      of = rw c.deref.ensures.value c.in_ok-keys.ensures;
       had = takes was source;
       has = takes is source;
       were = λ s t same. ap (λ n. takes was n t) (sym (eqb-true source s same));
@@ -34,5 +31,5 @@ returns g c =
 pub returns-in_err-moved : goal.returns-in_err-moved
 returns-in_err-moved g c = unshifted (nat_eq c.args.source) c.args.self c.args.lines.now _ c.from_residual.ensures.0 c.requires.settled
 
-pub returns-in_err-push_keys : goal.returns-in_err-push_keys
-returns-in_err-push_keys g c = unshifted (nat_eq c.args.source) c.args.self c.args.lines.now _ c.from_residual-in_err-push_keys.ensures.0 c.requires.settled
+pub returns-in_err-keys : goal.returns-in_err-keys
+returns-in_err-keys g c = unshifted (nat_eq c.args.source) c.args.self c.args.lines.now _ c.from_residual-in_err-keys.ensures.0 c.requires.settled
