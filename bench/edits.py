@@ -1,11 +1,12 @@
 """Installs the modules of a slice in a session and times single edits behind them, for bench/edits.sh.
 
-usage: edits.py PROGRAM SLICE ORDER SMALL ROUNDS
+usage: edits.py PROGRAM SLICE ORDER SMALL ROUNDS [COMPILER..]
 
 A line of the order with several modules has some that need each other: of all but the first the declarations stand at priority 1
 while these modules are installed. Where the order is `-`, all modules but the small one are installed as one text, and where it is
-`=`, all are installed as one batch. Each line that is printed has a name, the seconds by the clock from the last byte of a command,
-or from the first of a batch, to the end of its answer, those of the processor, and the answer.
+`=`, all are installed as one batch. A round makes each edit once and runs the command of the compiler once, if there is one, so that
+other work on the machine meets all of them alike; of each the least is told. Each line that is printed has a name, the seconds by the
+clock from the last byte of a command, or from the first of a batch, to the end of its answer, those of the processor, and the answer.
 """
 import os
 import subprocess
@@ -106,13 +107,14 @@ def load(session, folder, order, small):
     tell("load", sum(edit[0] for edit in done), sum(edit[1] for edit in done), answer)
 
 
-def timed(session, rounds, name, edit, back):
-    """Tells the least seconds of an edit, which is taken back each time."""
-    found = []
-    for _ in range(rounds):
-        found.append(session.edit(edit))
-        session.edit(back)
-    tell(name, min(edit[0] for edit in found), min(edit[1] for edit in found), found[0][2])
+def compiled(command):
+    """The seconds of the compiler by the clock and of the processor, and its peak of memory."""
+    first = time.monotonic()
+    process = subprocess.Popen(command, stdout=subprocess.DEVNULL)
+    _, status, used = os.wait4(process.pid, 0)
+    if status != 0:
+        sys.exit(f"{command[0]}: status {status}")
+    return time.monotonic() - first, used.ru_utime + used.ru_stime, f"{used.ru_maxrss / 1024:.1f} MiB at the peak"
 
 
 TEXTS = {
@@ -122,17 +124,27 @@ TEXTS = {
 }
 
 
+def edits_of(session, small):
+    """Makes each edit once and takes it back, and tells its name with its seconds and its answer."""
+    for name, text in TEXTS.items():
+        yield name, session.edit(install("one_more", 400, text))
+        session.edit(remove("one_more", 400))
+    yield "disable", session.edit(b"disable %s\n" % small)
+    yield "enable", session.edit(b"enable %s\n" % small)
+
+
 def main():
-    program, folder, order, small = sys.argv[1:5]
-    rounds = int(sys.argv[5])
+    program, folder, order, small, rounds, *compiler = sys.argv[1:]
     session = Session(program)
     load(session, folder, order, small)
-    for name, text in TEXTS.items():
-        timed(session, rounds, name, install("one_more", 400, text), remove("one_more", 400))
-    disable, enable = b"disable %s\n" % small.encode(), b"enable %s\n" % small.encode()
-    timed(session, rounds, "disable", disable, enable)
-    session.edit(disable)
-    timed(session, rounds, "enable", enable, disable)
+    found = {}
+    for _ in range(int(rounds)):
+        for name, edit in edits_of(session, small.encode()):
+            found.setdefault(name, []).append(edit)
+        if compiler:
+            found.setdefault("secilc", []).append(compiled(compiler))
+    for name, all in found.items():
+        tell(name, min(edit[0] for edit in all), min(edit[1] for edit in all), all[0][2])
     session.process.stdin.close()
     session.process.wait()
 
