@@ -14,13 +14,11 @@ small=${4:-aide}
 cd "$(dirname "$0")/.."
 . bench/session.sh
 
-compiler=
+set --
 if command -v secilc > "$folder/found"; then
-    compiler="secilc -o $folder/policy -f /dev/null $prologue $(echo "$slice"/*.cil)"
+    set -- secilc -o "$folder/policy" -f /dev/null "$prologue" "$slice"/*.cil
 fi
-# (the names of modules have no spaces)
-# shellcheck disable=SC2086
-python3 bench/edits.py "$program" "$slice" "$order" "$small" "${ROUNDS:-3}" $compiler > "$folder/edits"
+python3 bench/edits.py "$program" "$slice" "$order" "$small" "${ROUNDS:-3}" "$@" > "$folder/edits"
 # The times by the clock, and of the processor alone, which other work on the machine doesn't lengthen much.
 awk -F '\t' '
     NR == FNR { if ($1 == "secilc") { clock = $2; processor = $3 }; next }
