@@ -4,8 +4,8 @@ usage: edits.py PROGRAM SLICE ORDER SMALL ROUNDS [COMPILER..]
 
 A line of the order with several modules has some that need each other: of all but the first the declarations stand at priority 1
 while these modules are installed. Where the order is `-`, all modules but the small one are installed as one text, and where it is
-`=`, all are installed as one batch. A round makes each edit once and runs the command of the compiler once, if there is one, so that
-other work on the machine meets all of them alike; of each the least is told. Each line that is printed has a name, the seconds by the
+`=`, all are installed as one batch. A round makes an edit that isn't told, each edit once, and runs the command of the compiler once, if
+there is one, so that other work on the machine meets all of them alike; of each the least is told. Each line that is printed has a name, the seconds by the
 clock from the last byte of a command, or from the first of a batch, to the end of its answer, those of the processor, and the answer.
 """
 import os
@@ -139,17 +139,17 @@ def edits_of(session, small):
 
 
 def main():
-    program, folder, order, small, rounds, *compiler = sys.argv[1:]
+    program, folder, order, small, count, *compiler = sys.argv[1:]
     session = Session(program)
     load(session, folder, order, small)
     found = {}
-    for _ in range(int(rounds)):
+    for _ in range(int(count)):
         for name, edit in edits_of(session, small.encode()):
             found.setdefault(name, []).append(edit)
         if compiler:
             found.setdefault("secilc", []).append(compiled(compiler))
-    for name, all in found.items():
-        tell(name, min(edit[0] for edit in all), min(edit[1] for edit in all), all[0][2])
+    for name, rounds in found.items():
+        tell(name, min(edit[0] for edit in rounds), min(edit[1] for edit in rounds), rounds[0][2])
     session.process.stdin.close()
     session.process.wait()
 
