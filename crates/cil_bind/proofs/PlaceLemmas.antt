@@ -1,6 +1,7 @@
 -- Statements of a module that come to those of a joined policy.
 use Rattle.cil_bind.proofs.Common.{◌≡◌, inl, ℕ, zero, suc, ◌+◌, ◌<◌, ◌≤◌, List, [], ◌∷◌, ◌++◌, map, length, get_or, take, Some, bytes_eq, refl, sym, ap, ◌∙◌, subst, append_assoc, append-nil, add-one, Contains, arith, IsDistinct, length-map, take_all, none-some, same_Some, Form, is_optional, Statements, Placed, Module, placed, joined, FlatStatement, flat, kind_of, row_of, row_for, Spells, statement_count, texts_of, IsShown, IsBlockOf, IsPlacedAs, ArePlacedAs, ParsedModule, StatementView, placed-flat, named, namespace_at, Opens, IsDeclared, IsRow, AreRows, Stands, AreSpelt, block_word, is_optional_kind, NamedModule, Row}
 use Rattle.std.proofs.Common.{slice_get}
+use Rattle.cil_bind.specs.Scope.{SaysAt}
 use Rattle.cil_bind.proofs.PositionLemmas.{take-next}
 use Rattle.cil_bind.proofs.ScopeLemmas.{stands-next, kind-optional}
 
@@ -64,14 +65,14 @@ pub placed-next : {A : Type 0} (p : ParsedModule A) (statements : Statements) (v
     → ((f : FlatStatement) → slice_get (flat 0 0 0 statements) i ≡ Some f → IsShown (texts_of p) v f)
     → (IsDistinct bytes_eq names → IsDistinct bytes_eq (names ++ more)) → row.namespace < length spaces
     → (v.block ≡ 0 → row.namespace ≡ 0) → ((k : ℕ) (r : Row) → v.block ≡ suc k → slice_get rows (start + k) ≡ Some r → r.inside < length spaces → row.namespace ≡ r.inside)
-    → ((form : Form) → (f : FlatStatement) × IsShown (texts_of p) v f × (f.form ≡ form) → IsDeclared (names ++ more) row.declares form)
+    → ((form : Form) → SaysAt p i form → IsDeclared (names ++ more) row.declares form)
     → row.kind ≡ v.kind → row.is_optional ≡ is_optional_kind v.kind → Opens spaces spaces' row.namespace (block_word v.kind row.declares) row.inside
     → Stands (names ++ more) spaces' (rows ++ row ∷ []) (before ++ take (i + 1) (placed name [] [] statements))
 placed-next p statements v i names spaces more spaces' rows before name start row spells low long stands shows distinct within global inside declares kind optional opens =
     subst (Stands (names ++ more) spaces' (rows ++ row ∷ [])) whole
     (stands-next names spaces more spaces' rows (before ++ take i all) row it.0 stands distinct within
     (around-is names spaces rows before all start i v.block it.0.namespace row.namespace stands long (subst (λ n. IsBlockOf all i n it.0.namespace) (sym shown.block) here.is_block) global inside)
-    (subst (IsDeclared (names ++ more) row.declares) (sym here.form) (declares f.0.form (f.0, shown, refl)))
+    (subst (IsDeclared (names ++ more) row.declares) (sym here.form) (declares f.0.form (statements, f.0, spells, f.1, refl)))
     (kind ∙ shown.kind ∙ ap kind_of (sym here.form))
     (optional ∙ ap is_optional_kind shown.kind ∙ kind-optional f.0.form ∙ ap is_optional (sym here.form))
     (subst (λ k. Opens spaces spaces' row.namespace (block_word k row.declares) row.inside) (shown.kind ∙ ap kind_of (sym here.form)) opens))

@@ -36,6 +36,10 @@ AreSpelt [] (m ∷ modules) = ⊥
 AreSpelt (n ∷ parsed) [] = ⊥
 AreSpelt (n ∷ parsed) (m ∷ modules) = (n.name.now ≡ m.name) × Spells n.module.now m.statements × AreSpelt parsed modules
 
+-- what the statement of an index of a module says
+abbrev pub SaysAt : {A : Type 0} → ParsedModule A → ℕ → Form → Type 0
+SaysAt p i form = (statements : Statements) × (f : FlatStatement) × Spells p statements × (slice_get (flat 0 0 0 statements) i ≡ Some f) × (f.form ≡ form)
+
 -- A word was numbered, if a statement that says this declares one; all else stays.
 pub record Declares {A : Type 0} (old new : Scope A) (found : Option (Table × ℕ)) (Says : Form → Type 0) : Type 0 where
   pub namespaces : new.namespaces ≡ old.namespaces

@@ -100,15 +100,20 @@ pub enum Declared<A: Allocator = Global> {
 }
 
 impl<A: Allocator + Copy> Declarations<A> {
-    /// What rows of these kinds declare.
-    pub fn of(alloc: A, rows: &[Row], kinds: &[StatementKind]) -> Result<Declared<A>, AllocError>
+    /// What rows of these kinds declare, with room for so many names.
+    pub fn of(
+        alloc: A,
+        room: usize,
+        rows: &[Row],
+        kinds: &[StatementKind],
+    ) -> Result<Declared<A>, AllocError>
         requires few { length rows.now < 2 ^ 32 }
         requires kinds { kinds.now ≡ kinds_told rows.now }
         ensures { IfOk result (λ found. (names spaces : List (List ℕ)) (policy : List Placed) → AreNumbered names spaces → AreRows names spaces rows.now policy
             → DeclareThat names spaces policy found) }
     {
         let mut declarations = Declarations {
-            first: IndexMap::new(alloc),
+            first: IndexMap::with_capacity(alloc, room)?,
         };
         for i in 0..rows.len() {
             if declarations.declare(rows, kinds, i)? {
@@ -118,15 +123,20 @@ impl<A: Allocator + Copy> Declarations<A> {
         Ok(Declared::Once(declarations))
     }
 
-    /// What rows of these kinds declare that are known to declare each name once.
-    pub fn of_once(alloc: A, rows: &[Row], kinds: &[StatementKind]) -> Result<Self, AllocError>
+    /// What rows of these kinds declare that are known to declare each name once, with room for so many names.
+    pub fn of_once(
+        alloc: A,
+        room: usize,
+        rows: &[Row],
+        kinds: &[StatementKind],
+    ) -> Result<Self, AllocError>
         requires few { length rows.now < 2 ^ 32 }
         requires kinds { kinds.now ≡ kinds_told rows.now }
         ensures { IfOk result (λ d. (names spaces : List (List ℕ)) (policy : List Placed) → AreNumbered names spaces → AreRows names spaces rows.now policy → IsOnce policy
             → HaveDeclared names spaces d.first.entries policy) }
     {
         let mut declarations = Declarations {
-            first: IndexMap::new(alloc),
+            first: IndexMap::with_capacity(alloc, room)?,
         };
         for i in 0..rows.len() {
             declarations.declare(rows, kinds, i)?;

@@ -94,7 +94,7 @@ impl<'m, A: Allocator + Copy> Policy<'m, A> {
         ensures around { IfOk result (λ made. (policy : List Placed) → AreAround policy 0 scope.entry.rows.items policy → TellsAround policy made) }
     {
         let rows = scope.rows.as_slice();
-        let declared = Declarations::of(alloc, rows, scope.kinds.as_slice())?;
+        let declared = Declarations::of(alloc, scope.names.len(), rows, scope.kinds.as_slice())?;
         Policy::of_declared(alloc, joined, scope, numbers, declared)
     }
 
@@ -169,7 +169,8 @@ impl<'m, A: Allocator + Copy> Policy<'m, A> {
         retain_kept(&mut self.rows, kept);
         let rows = self.rows.as_slice();
         let kinds = kinds(alloc, rows)?;
-        let declarations = Declarations::of_once(alloc, rows, kinds.as_slice())?;
+        let room = self.lookup.declared.len();
+        let declarations = Declarations::of_once(alloc, room, rows, kinds.as_slice())?;
         self.lookup.declared = declarations.first;
         let leads = leads(
             alloc,

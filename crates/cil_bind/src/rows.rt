@@ -11,11 +11,11 @@ use cil_parse::{StatementKind, Table};
 pub struct Row {
     pub module: u32,
     pub index: u32,
-    pub kind: StatementKind,
     pub namespace: u32,
     pub inside: u32,
     pub optional: u32,
     pub declares: Option<(Table, u32)>,
+    pub kind: StatementKind,
     pub is_optional: bool,
 }
 

@@ -1,18 +1,19 @@
 //! The statements of a joined policy by numbers.
 
-ghost use Rattle.std.specs.Prelude.{◌≡◌, ◌<◌, ◌≤◌, ◌+◌, ◌++◌, ◌∷◌, ◌^◌, ◌⊎◌, ℕ, suc, List, length, take, slice_get, [], IfOk, OnOk, IfNone, IfSome, Some, bytes_eq};
-ghost use Rattle.cil_bind.specs.Common.{Word, IsDistinct, FlatStatement, texts_of, statement_count, Spells, IsShown, IsDeclared, Row, kinds_told};
+ghost use Rattle.std.specs.Prelude.{◌≡◌, ◌<◌, ◌≤◌, ◌+◌, ◌++◌, ◌∷◌, ◌^◌, ℕ, suc, List, length, take, slice_get, [], IfOk, OnOk, IfNone, IfSome, Some, bytes_eq};
+ghost use Rattle.cil_bind.specs.Common.{Word, IsDistinct, statement_count, Spells, Row, kinds_told};
 ghost use Rattle.cil_specs.specs.Statements.{Statements, is_optional as is_optional_form};
 ghost use Rattle.cil_specs.specs.Joined.{Placed, Module, placed, joined as joined_policy};
-ghost use Rattle.cil_bind.specs.Scope.{StandsFor, AreSpelt, AreFrom, AreAround, HaveModule, Declares, optional_number, block_word as word_of_block, is_optional_kind};
+ghost use Rattle.cil_bind.specs.Scope.{StandsFor, AreSpelt, AreFrom, AreAround, HaveModule, Declares, SaysAt, optional_number, block_word as word_of_block, is_optional_kind};
 ghost use Rattle.cil_bind.specs.declared.joined.NamedModule.{NamedModule};
 
+use crate::declarations::declares_name;
 use crate::joined::Joined;
 use crate::rows::Row;
 use crate::words::number_word;
 use cil_lookup::Namespaces;
 use cil_names::{Names, in_32_bits};
-use cil_parse::{ParsedModule, StatementKind, StatementView, Table};
+use cil_parse::{ParsedModule, StatementKind, Table};
 use std::alloc::{AllocError, Allocator, Global};
 
 /// The words of a policy, its namespaces and its statements, by their numbers, and the kinds of the statements.
@@ -98,21 +99,42 @@ impl<'m, A: Allocator + Copy> Scope<'m, A> {
             → self.new.kinds.items ≡ kinds_told self.new.rows.items) }
     {
         let start = in_32_bits(self.rows.len())?;
-        for i in 0..module.len() {
+        let count = in_32_bits(module.len())?;
+        for i in 0..count {
             self.place(number, start, module, i)?;
         }
         Ok(())
     }
 
-    /// What a statement of a module declares.
+    /// What the statement of an index of a module declares. Most are of kinds that declare no name, and their words aren't looked at.
+    #[inline(always)]
     fn declared(
         &mut self,
         module: &'m ParsedModule<A>,
-        view: &StatementView<'_>,
+        i: usize,
     ) -> Result<Option<(Table, u32)>, AllocError>
-        requires { (f : FlatStatement) × IsShown (texts_of «module».now) view.now f }
-        ensures { IfOk result (λ found. Declares self.old self.new found (λ form. (f : FlatStatement) × IsShown (texts_of «module».now) view.now f × (f.form ≡ form))) }
+        requires spelt { (statements : Statements) × Spells «module».now statements }
+        requires within { i < statement_count «module».now }
+        ensures { IfOk result (λ found. Declares self.old self.new found (SaysAt «module».now i)) }
     {
+        if !declares_name(module.kind(i)) {
+            return Ok(None);
+        }
+        self.declared_name(module, i)
+    }
+
+    /// The same of a statement that declares a name.
+    #[inline(never)]
+    fn declared_name(
+        &mut self,
+        module: &'m ParsedModule<A>,
+        i: usize,
+    ) -> Result<Option<(Table, u32)>, AllocError>
+        requires spelt { (statements : Statements) × Spells «module».now statements }
+        requires within { i < statement_count «module».now }
+        ensures { IfOk result (λ found. Declares self.old self.new found (SaysAt «module».now i)) }
+    {
+        let view = module.statement(i);
         let Some((table, word)) = view.declared() else {
             return Ok(None);
         };
@@ -127,7 +149,7 @@ impl<'m, A: Allocator + Copy> Scope<'m, A> {
         number: u32,
         start: u32,
         module: &'m ParsedModule<A>,
-        i: usize,
+        i: u32,
     ) -> Result<(), AllocError>
         requires spelt { (statements : Statements) × Spells «module».now statements }
         requires within { i < statement_count «module».now }
@@ -142,22 +164,22 @@ impl<'m, A: Allocator + Copy> Scope<'m, A> {
         ensures kinds { OnOk result (self.old.kinds.items ≡ kinds_told self.old.rows.items
             → self.new.kinds.items ≡ kinds_told self.new.rows.items) }
     {
-        let view = module.statement(i);
-        let Some(numbers) = numbers_at(start, i, view.optional) else {
+        let view = module.statement(i as usize);
+        let Some(optional) = optional_at(start, view.optional) else {
             return Err(AllocError);
         };
         let namespace = self.around(start as usize, view.block);
-        let declares = self.declared(module, &view)?;
+        let declares = self.declared(module, i as usize)?;
         let word = block_word(view.kind, declares);
         let inside = self.namespaces.inside(namespace, word)?;
         self.rows.push(Row {
             module: number,
-            index: numbers.0,
-            kind: view.kind,
+            index: i,
             namespace,
             inside,
-            optional: numbers.1,
+            optional,
             declares,
+            kind: view.kind,
             is_optional: is_optional(view.kind),
         })?;
         self.kinds.push(view.kind)?;
@@ -205,17 +227,13 @@ pub fn is_optional(kind: StatementKind) -> bool
     matches!(kind, StatementKind::Optional)
 }
 
-/// An index, and the number of the innermost optional in the policy by that in its module, whose statements begin at a place.
-fn numbers_at(start: u32, index: usize, optional: u32) -> Option<(u32, u32)>
-    ensures same { IfSome result (λ numbers. (numbers.0 ≡ index) × (numbers.1 ≡ optional_number start optional)) }
-    ensures beyond { IfNone result ((2 ^ 32 ≤ index) ⊎ (2 ^ 32 ≤ start + optional)) }
+/// The number of the innermost optional in the policy by that in its module, whose statements begin at a place.
+fn optional_at(start: u32, optional: u32) -> Option<u32>
+    ensures same { IfSome result (λ n. n ≡ optional_number start optional) }
+    ensures beyond { IfNone result (2 ^ 32 ≤ start + optional) }
 {
-    if index > 0xFFFF_FFFF {
-        return None;
-    }
     if optional == 0 {
-        return Some((index as u32, 0));
+        return Some(0);
     }
-    let number = start.checked_add(optional)?;
-    Some((index as u32, number))
+    start.checked_add(optional)
 }

@@ -3,7 +3,7 @@ use Rattle.cil_bind.proofs.DeclareLemmas.{taken-next, taken-twice, none-taken, a
 use Rattle.cil_bind.proofs.declarations.Declarations.of.Goals as goal
 
 pub loop-i-init : goal.loop-i-init
-loop-i-init g c = λ names spaces policy nums are. none-taken names spaces policy _ c.new.ensures.empty
+loop-i-init g c = λ names spaces policy nums are. none-taken names spaces policy _ c.in_ok-with_capacity.ensures.empty
 
 pub loop-i-preserved : goal.loop-i-preserved
 loop-i-preserved g c = λ names spaces policy nums are.

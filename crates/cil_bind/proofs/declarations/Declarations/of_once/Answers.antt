@@ -4,7 +4,7 @@ use Rattle.cil_bind.proofs.DeclareLemmas.{once-front, taken-once, none-taken, al
 use Rattle.cil_bind.proofs.declarations.Declarations.of_once.Goals as goal
 
 pub loop-i-init : goal.loop-i-init
-loop-i-init g c = λ names spaces policy nums are once. (none-taken names spaces policy _ c.new.ensures.empty).0
+loop-i-init g c = λ names spaces policy nums are once. (none-taken names spaces policy _ c.in_ok-with_capacity.ensures.empty).0
 
 pub loop-i-preserved : goal.loop-i-preserved
 loop-i-preserved g c = λ names spaces policy nums are once.

@@ -1,3 +1,4 @@
+use Rattle.cil_parse.specs.Parsed.{statement_count}
 use Rattle.std.proofs.Common.{◌≡◌, length, rules, [], refl, sym, ◌∙◌, append-nil, arith}
 use Rattle.cil_bind.proofs.DeclareLemmas.{rows-length}
 use Rattle.cil_bind.proofs.PlaceLemmas.{stands-start, stands-all, kept-next}
@@ -25,17 +26,17 @@ loop-i-preserved g c = record {
 
 pub returns-clause-stands : goal.returns-clause-stands
 returns-clause-stands g c = λ before name statements spells stands.
-    stands-all c.args.«module».now statements name _ _ _ before c.loop-i.i spells (omega arith)
+    stands-all c.args.«module».now statements name _ _ _ before c.loop-i.i spells (let n : statement_count c.args.«module».now ≡ c.in_ok-count.count = search rules in omega (arith, n))
     (c.loop-i.invariant.stands before name statements spells (sym (rows-length _ _ _ before stands.rows_are) ∙ (let n : length c.args.self.now.rows.items ≡ c.in_ok-start.start = search rules in n)) stands)
 
 pub returns-clause-from : goal.returns-clause-from
 returns-clause-from g c = λ parsed before name statements spells have are.
-    from-all parsed c.args.«module».now statements name _ before c.loop-i.i spells (omega arith) (c.loop-i.invariant.from parsed before name statements spells have are)
+    from-all parsed c.args.«module».now statements name _ before c.loop-i.i spells (let n : statement_count c.args.«module».now ≡ c.in_ok-count.count = search rules in omega (arith, n)) (c.loop-i.invariant.from parsed before name statements spells have are)
 
 pub returns-clause-around : goal.returns-clause-around
 returns-clause-around g c = λ before behind name statements spells long are.
     let start : length c.args.self.now.rows.items ≡ c.in_ok-start.start = search rules in
-    around-all c.args.«module».now statements name _ _ before c.loop-i.i spells (omega arith) (c.loop-i.invariant.around before behind name statements spells (long ∙ start) are)
+    around-all c.args.«module».now statements name _ _ before c.loop-i.i spells (let n : statement_count c.args.«module».now ≡ c.in_ok-count.count = search rules in omega (arith, n)) (c.loop-i.invariant.around before behind name statements spells (long ∙ start) are)
 
 pub returns-clause-kinds : goal.returns-clause-kinds
 returns-clause-kinds g c = c.loop-i.invariant.kinds

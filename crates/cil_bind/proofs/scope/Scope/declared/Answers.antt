@@ -1,17 +1,18 @@
-use Rattle.std.proofs.Common.{Some, refl, ap, ◌∙◌}
-use Rattle.cil_parse.specs.Parsed.{texts_of}
-use Rattle.cil_bind.proofs.ScopeLemmas.{kept-more, declared-is}
+use Rattle.std.proofs.Common.{[], refl, sym, ap, ◌∙◌, append-nil}
+use Rattle.cil_specs.specs.Lookup.{declared_in}
+use Rattle.cil_bind.specs.Rows.{declares_name}
+use Rattle.cil_bind.proofs.ScopeLemmas.{kind-nothing}
 use Rattle.cil_bind.proofs.scope.Scope.declared.Goals as goal
 
-pub returns : goal.returns
-returns g c = record {
+pub returns-then-not-declares_name : goal.returns-then-not-declares_name
+returns-then-not-declares_name g c = record {
   namespaces = refl;
   rows = refl;
   kinds = refl;
-  kept = kept-more _ _ c.text.result.now c.number_word.ensures.kept;
-  distinct = λ old. c.in_ok-number.ensures.distinct;
-  declares = λ form says.
-      let texts = texts_of c.args.«module».now in
-      let it = c.in-Some.ensures.some texts says.0 says.1 in
-      declared-is c.number_word.new.names texts c.in_ok-number.number c.in-Some.word c.in-Some.table says.0.form form it.0 it.1 it.2 says.2 (c.in_ok-number.ensures.named ∙ ap Some c.text.ensures);
+  kept = ([], sym (append-nil _));
+  distinct = λ old. old;
+  declares = λ form says table.
+      let kind = c.kind.ensures says.0 says.1 says.2 says.3 in
+      ap (declared_in table) (sym says.4)
+      ∙ kind-nothing table says.1.form (ap declares_name (sym kind) ∙ sym c.declares_name.ensures ∙ c.if-not-declares_name.true);
 }

@@ -1,29 +1,23 @@
 use Rattle.cil_bind.proofs.Common.{ℕ, ◌+◌, Bool, Option, ◌++◌, ◌∷◌, [], take, map-append, bytes_eq, refl, sym, ap, ◌∙◌, subst, IsDistinct, placed, Opens, IsDeclared, Stands, Row, kinds_told}
 use Rattle.cil_parse.specs.declared.table.Table.{Table}
 use Rattle.cil_parse.specs.declared.row.StatementKind.{StatementKind}
-use Rattle.cil_bind.proofs.PlaceLemmas.{flat-there, placed-next}
+use Rattle.cil_bind.proofs.PlaceLemmas.{placed-next}
 use Rattle.cil_bind.proofs.AroundLemmas.{around-next}
 use Rattle.cil_bind.proofs.FromLemmas.{from-next}
 use Rattle.cil_bind.proofs.scope.Scope.place.Goals as goal
 
 -- the row of a statement
-abbrev row-of : ℕ → ℕ × ℕ → StatementKind → ℕ → ℕ → Option (Table × ℕ) → Bool → Row
-row-of number numbers kind namespace inside declares is_optional = record {
+abbrev row-of : ℕ → ℕ → ℕ → StatementKind → ℕ → ℕ → Option (Table × ℕ) → Bool → Row
+row-of number i optional kind namespace inside declares is_optional = record {
   «module» = number;
-  index = numbers.0;
-  kind = kind;
+  index = i;
   namespace = namespace;
   inside = inside;
-  optional = numbers.1;
+  optional = optional;
   declares = declares;
+  kind = kind;
   is_optional = is_optional;
 }
-
-pub declared-requires : goal.declared-requires
-declared-requires g c =
-    let spelt = c.requires.spelt in
-    let f = flat-there c.args.«module».now spelt.0 c.args.i spelt.1 c.requires.within in
-    (f.0, c.statement-view.ensures spelt.0 f.0 spelt.1 f.1)
 
 pub returns-clause-stands : goal.returns-clause-stands
 returns-clause-stands g c = λ before name statements spells long stands.
@@ -31,7 +25,7 @@ returns-clause-stands g c = λ before name statements spells long stands.
     let says = c.in_ok-declares.ensures in
     let spaces' = c.inside.new.self in
     let policy = before ++ take (c.args.i + 1) (placed name [] [] statements) in
-    let row = row-of c.args.number c.in-Some.numbers c.statement-view.result.kind c.around-namespace.result c.in_ok-inside.inside c.in_ok-declares.declares c.is_optional.result in
+    let row = row-of c.args.number c.args.i c.in-Some.optional c.statement-view.result.kind c.around-namespace.result c.in_ok-inside.inside c.in_ok-declares.declares c.is_optional.result in
     let next = placed-next c.args.«module».now statements c.statement-view.result c.args.i self.names self.namespaces says.kept.0 spaces' self.rows.items before name c.args.start row
     spells c.requires.within long stands (λ f at. c.statement-view.ensures statements f spells at)
     (λ d. subst (IsDistinct bytes_eq) says.kept.1 (says.distinct d))
@@ -45,20 +39,20 @@ returns-clause-stands g c = λ before name statements spells long stands.
 
 pub returns-clause-from : goal.returns-clause-from
 returns-clause-from g c = λ parsed before name statements spells have so_far.
-    let row = row-of c.args.number c.in-Some.numbers c.statement-view.result.kind c.around-namespace.result c.in_ok-inside.inside c.in_ok-declares.declares c.is_optional.result in
-    from-next parsed c.args.«module».now statements name c.args.self.now.rows.items c.push.new.self.items before c.args.i row spells have c.in-Some.ensures.same.0 c.requires.within so_far
+    let row = row-of c.args.number c.args.i c.in-Some.optional c.statement-view.result.kind c.around-namespace.result c.in_ok-inside.inside c.in_ok-declares.declares c.is_optional.result in
+    from-next parsed c.args.«module».now statements name c.args.self.now.rows.items c.push.new.self.items before c.args.i row spells have refl c.requires.within so_far
     (c.in_ok-push.ensures.items ∙ ap (λ r. r.items ++ row ∷ []) c.in_ok-declares.ensures.rows)
 
 pub returns-clause-around : goal.returns-clause-around
 returns-clause-around g c = λ before behind name statements spells long so_far.
-    let row = row-of c.args.number c.in-Some.numbers c.statement-view.result.kind c.around-namespace.result c.in_ok-inside.inside c.in_ok-declares.declares c.is_optional.result in
+    let row = row-of c.args.number c.args.i c.in-Some.optional c.statement-view.result.kind c.around-namespace.result c.in_ok-inside.inside c.in_ok-declares.declares c.is_optional.result in
     around-next c.args.«module».now statements c.statement-view.result c.args.i name c.args.self.now.rows.items c.push.new.self.items before behind c.args.start row spells c.requires.within long
-    (λ f at. c.statement-view.ensures statements f spells at) c.in-Some.ensures.same.1 so_far
+    (λ f at. c.statement-view.ensures statements f spells at) c.in-Some.ensures.same so_far
     (c.in_ok-push.ensures.items ∙ ap (λ r. r.items ++ row ∷ []) c.in_ok-declares.ensures.rows)
 
 pub returns-clause-kinds : goal.returns-clause-kinds
 returns-clause-kinds g c = λ told.
     let self = c.args.self.now in
-    let row = row-of c.args.number c.in-Some.numbers c.statement-view.result.kind c.around-namespace.result c.in_ok-inside.inside c.in_ok-declares.declares c.is_optional.result in
+    let row = row-of c.args.number c.args.i c.in-Some.optional c.statement-view.result.kind c.around-namespace.result c.in_ok-inside.inside c.in_ok-declares.declares c.is_optional.result in
     c.in_ok-push-2.ensures.items ∙ ap (λ k. k.items ++ row.kind ∷ []) c.in_ok-declares.ensures.kinds ∙ (λ i. told i ++ row.kind ∷ []) ∙ sym (map-append (λ r. r.kind) self.rows.items (row ∷ []))
     ∙ ap kinds_told (sym (c.in_ok-push.ensures.items ∙ ap (λ r. r.items ++ row ∷ []) c.in_ok-declares.ensures.rows))
