@@ -1,5 +1,5 @@
 -- The modules and the indices that rows tell.
-use Rattle.cil_bind.proofs.Common.{◌≡◌, ℕ, zero, suc, ◌+◌, ◌<◌, ◌≤◌, List, [], ◌∷◌, ◌++◌, length, get_or, take, Some, refl, sym, ap, ◌∙◌, subst, append_assoc, append-nil, add-one, arith, AllByRecursion, take_all, none-some, same_Some, slice_get-get_or, slice_get_within, get_or_from_slice_get, Statements, no_more, statement, Placed, Module, placed, joined, namespace_inside, optionals_inside, FlatStatement, flat, IsPlacedAs, Spells, statement_count, ParsedModule, placed-flat, AreSpelt, IsFrom, AreFrom, HaveModule, NamedModule, Row}
+use Rattle.cil_bind.proofs.Common.{◌≡◌, ℕ, zero, suc, ◌+◌, ◌<◌, ◌≤◌, List, [], ◌∷◌, ◌++◌, length, get_or, take, Some, refl, sym, ap, ◌∙◌, subst, append_assoc, append-nil, add-one, arith, AllByRecursion, take_all, none-some, same_Some, slice_get-get_or, slice_get_within, get_or_from_slice_get, Statements, no_more, statement, Placed, Module, placed, joined, namespace_inside, optionals_inside, FlatStatement, flat, IsOptionalOf, IsPlacedAs, Spells, statement_count, ParsedModule, placed-flat, AreSpelt, IsFrom, AreFrom, HaveModule, NamedModule, Row}
 use Rattle.std.proofs.Common.{slice_get}
 use Rattle.cil_bind.proofs.PositionLemmas.{take-next}
 use Rattle.cil_bind.proofs.PlaceLemmas.{flat-there, placed-there, placed-long, joined-next, spelt-at, spelt-long}
@@ -28,10 +28,16 @@ from-push parsed [] (t ∷ policy) row s are is = absurd are
 from-push parsed (r ∷ rows) [] row s are is = absurd are
 from-push parsed (r ∷ rows) (t ∷ policy) row s are is = (are.0, from-push parsed rows policy row s are.1 is)
 
+-- around a statement in no optional there is none
+none-around : (all : List Placed) (index number : ℕ) (optionals : List ℕ) → IsOptionalOf all index number optionals → optionals ≡ [] → number ≡ 0
+none-around all index zero optionals is none = refl
+none-around all index (suc k) optionals (o, id, low, at, form, is) none = absurd (none-some o.at.offset (ap (λ l. slice_get l 0) (sym none ∙ is)))
+
 -- one statement more
 pub from-next : {A : Type 0} (parsed : List (NamedModule A)) (p : ParsedModule A) (statements : Statements) (name : List ℕ) (rows new : List Row) (before : List Placed) (i : ℕ) (row : Row) → Spells p statements → HaveModule parsed row.«module» p name
-    → row.index ≡ i → i < statement_count p → AreFrom parsed rows (before ++ take i (placed name [] [] statements)) → new ≡ rows ++ row ∷ [] → AreFrom parsed new (before ++ take (i + 1) (placed name [] [] statements))
-from-next {A} parsed p statements name rows new before i row spells have index low so_far pushed =
+    → row.index ≡ i → i < statement_count p → ((f : FlatStatement) → slice_get (flat 0 0 0 statements) i ≡ Some f → f.optional ≡ 0 → row.optional ≡ 0)
+    → AreFrom parsed rows (before ++ take i (placed name [] [] statements)) → new ≡ rows ++ row ∷ [] → AreFrom parsed new (before ++ take (i + 1) (placed name [] [] statements))
+from-next {A} parsed p statements name rows new before i row spells have index low outside so_far pushed =
     subst (λ r. AreFrom parsed r (before ++ take (i + 1) all)) (sym pushed) (subst (AreFrom parsed (rows ++ row ∷ [])) whole (from-push parsed rows (before ++ take i all) row it.0 so_far is))
   where
     all : List Placed
@@ -62,6 +68,7 @@ from-next {A} parsed p statements name rows new before i row spells have index l
       form = sym it.2.form;
       place = sym it.2.at;
       around = (name, 0 + i, it.2.is_block);
+      inside = λ none. outside f.0 f.1 (none-around all (0 + i) f.0.optional it.0.optionals it.2.is_optional none);
     }
 
 pub from-all : {A : Type 0} (parsed : List (NamedModule A)) (p : ParsedModule A) (statements : Statements) (name : List ℕ) (rows : List Row) (before : List Placed) (i : ℕ) → Spells p statements → statement_count p ≤ i

@@ -66,7 +66,7 @@ optional_number start number = if number == 0 then 0 else start + number
 abbrev pub StandsFor : {A : Type 0} → Scope A → List Placed → Type 0
 StandsFor scope policy = Stands scope.names scope.namespaces scope.rows.items policy
 
--- A row tells the module and the index of its statement.
+-- A row tells the module and the index of its statement, and whether it stands in an optional.
 pub record IsFrom {A : Type 0} (parsed : List (NamedModule A)) (row : Row) (s : Placed) : Type 0 where
   pub m : NamedModule A
   pub at : slice_get parsed row.«module» ≡ Some m
@@ -79,6 +79,7 @@ pub record IsFrom {A : Type 0} (parsed : List (NamedModule A)) (row : Row) (s : 
   pub form : f.form ≡ s.form
   pub place : f.at ≡ s.at
   pub around : (name : List ℕ) × (index : ℕ) × IsBlockOf (placed name [] [] statements) index f.block s.namespace
+  pub inside : s.optionals ≡ [] → row.optional ≡ 0
 
 abbrev pub AreFrom : {A : Type 0} → List (NamedModule A) → List Row → List Placed → Type 0
 AreFrom parsed [] [] = Unit {0}

@@ -1,4 +1,4 @@
-use Rattle.cil_bind.proofs.Common.{ℕ, ◌+◌, Bool, Option, ◌++◌, ◌∷◌, [], take, map-append, bytes_eq, refl, sym, ap, ◌∙◌, subst, IsDistinct, placed, Opens, IsDeclared, Stands, Row, kinds_told}
+use Rattle.cil_bind.proofs.Common.{ℕ, ◌+◌, Bool, Option, ◌++◌, ◌∷◌, [], take, map-append, bytes_eq, refl, sym, ap, ◌∙◌, subst, IsDistinct, placed, Opens, IsDeclared, Stands, Row, kinds_told, optional_number}
 use Rattle.cil_parse.specs.declared.table.Table.{Table}
 use Rattle.cil_parse.specs.declared.row.StatementKind.{StatementKind}
 use Rattle.cil_bind.proofs.PlaceLemmas.{placed-next}
@@ -40,7 +40,8 @@ returns-clause-stands g c = λ before name statements spells long stands.
 pub returns-clause-from : goal.returns-clause-from
 returns-clause-from g c = λ parsed before name statements spells have so_far.
     let row = row-of c.args.number c.args.i c.in-Some.optional c.statement-view.result.kind c.around-namespace.result c.in_ok-inside.inside c.in_ok-declares.declares c.is_optional.result in
-    from-next parsed c.args.«module».now statements name c.args.self.now.rows.items c.push.new.self.items before c.args.i row spells have refl c.requires.within so_far
+    from-next parsed c.args.«module».now statements name c.args.self.now.rows.items c.push.new.self.items before c.args.i row spells have refl c.requires.within
+    (λ f at outside. c.in-Some.ensures.same ∙ ap (optional_number c.args.start) ((c.statement-view.ensures statements f spells at).optional ∙ outside)) so_far
     (c.in_ok-push.ensures.items ∙ ap (λ r. r.items ++ row ∷ []) c.in_ok-declares.ensures.rows)
 
 pub returns-clause-around : goal.returns-clause-around
