@@ -1,5 +1,5 @@
 -- Statements that are clean by their kinds, and permissions of lists that are known.
-use Rattle.cil_check.proofs.Common.{◌≡◌, ℕ, ◌≤◌, ◌<◌, ◌++◌, not, ◌&&◌, Bool, true, false, List, [], ◌∷◌, map, filter, cond, Some, None, take, get_or, refl, sym, ap, ◌∙◌, subst, true≢false, arith, list_all, option_to_list, none-some, same_Some, slice_get_within, Word, Form, block, optional, type_name, type_alias, alias_actual, type_attribute, attribute_set, common, class, class_common, class_order, class_permission, class_permission_set, rule, anonymous, by_name, itself, the_named, Placed, classes, declared_in, holds_of, has_name, texts, permissions_of, references, named_permissions, PolicyFaultKind, twice, missing, wrong_kind, alias_twice, alias_unset, second_common, too_many_permissions, circular, code_of, is_unfound, is_lacking, missing_words, kinds_asked, is_of_another_kind, alias_words, has_earlier_actual, element_words, is_unset, alias_unset_words, wrong_kind_words, is_attribute, WordExpr, common_words, has_earlier_common, has_too_many, faulty_words, kind_of, permissions_in, IsLead, AreFoundInside, IsOf, is_plain, is_rule_of_set, names_permissions, class_lead, lacking_words, has_list, IsCleanAt}
+use Rattle.cil_check.proofs.Common.{◌≡◌, ℕ, ◌≤◌, ◌<◌, ◌++◌, not, ◌&&◌, Bool, true, false, List, [], ◌∷◌, map, filter, cond, Some, None, take, get_or, refl, sym, ap, ◌∙◌, subst, true≢false, arith, list_all, option_to_list, none-some, same_Some, slice_get_within, Word, Form, block, optional, type_name, type_alias, type_attribute, attribute_set, common, class_permission, class_permission_set, rule, anonymous, by_name, itself, the_named, Placed, classes, declared_in, holds_of, has_name, texts, permissions_of, references, named_permissions, PolicyFaultKind, twice, missing, wrong_kind, alias_twice, alias_unset, second_common, too_many_permissions, circular, code_of, is_unfound, is_lacking, missing_words, kinds_asked, is_of_another_kind, alias_words, has_earlier_actual, element_words, is_unset, alias_unset_words, wrong_kind_words, is_attribute, WordExpr, common_words, has_earlier_common, has_too_many, faulty_words, kind_of, permissions_in, IsLead, AreFoundInside, IsOf, is_plain, is_rule_of_set, names_permissions, class_lead, lacking_words, has_list, IsCleanAt}
 use Rattle.std.proofs.Common.{slice_get}
 use Rattle.cil_bind.specs.KnownLists.{texts_listed}
 use Rattle.cil_bind.specs.declared.joined.NamedModule.{NamedModule}
@@ -155,3 +155,11 @@ module _ {A : Type 0} (modules : List (NamedModule A)) (policy : List Placed) (s
 
   pub lacks-none-known : lacking_words policy s ≡ [] → has_list modules policy number list place ≡ true
   lacks-none-known none = there ∙ filter-all (has_name (permissions_of policy lead.s)) (lacks policy s word) tells (permissions_in s.form) (sym words ∙ none)
+
+-- no reference is unfound where no word is missing
+pub refs-found : (policy : List Placed) (s : Placed) → missing_words policy s ≡ [] → map (λ r. r.1) (filter (is_unfound policy s.namespace) (references s.form)) ≡ []
+refs-found policy s none = left (map (λ r. r.1) (filter (is_unfound policy s.namespace) (references s.form))) none
+  where
+    left : (words : List Word) → words ++ lacking_words policy s ≡ [] → words ≡ []
+    left [] is = refl
+    left (w ∷ words) is = absurd (none-some w (sym (ap (λ l. slice_get l 0) is)))

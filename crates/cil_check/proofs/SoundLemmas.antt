@@ -1,13 +1,14 @@
 -- Statements whose references are bound, and not to aliases without an actual type.
-use Rattle.cil_check.proofs.Common.{◌≡◌, ℕ, ◌+◌, ◌<◌, arith, get_or, take, length, length-map, not, ◌&&◌, ◌||◌, Bool, true, false, List, [], ◌∷◌, ◌++◌, map, filter, cond, Option, Some, None, is_some, refl, sym, ap, ◌∙◌, subst, true≢false, append-nil, option_and_then, option_map, slice_get-map, slice_get_within, same_Some, first_true, second_true, AllByRecursion, Word, Form, attribute_set, class_permission_set, rule, anonymous, by_name, itself, the_named, leaves, Placed, Table, types, classes, leads, references, permission_reference, is_alias, is_unfound, is_unset, element_words, kind_of, IsLead, HasFirsts, Actual, names_permissions, named_class, class_lead, first_at}
+use Rattle.cil_check.proofs.Common.{◌≡◌, ℕ, ◌+◌, ◌<◌, arith, get_or, take, length, length-map, not, ◌&&◌, ◌||◌, Bool, true, false, List, [], ◌∷◌, ◌++◌, map, filter, cond, Option, Some, None, is_some, refl, sym, ap, ◌∙◌, subst, true≢false, append-nil, option_and_then, option_map, none-some, slice_get-map, slice_get_within, first_true, second_true, AllByRecursion, Word, Form, attribute_set, class_permission_set, rule, anonymous, by_name, itself, the_named, leaves, Placed, Table, types, classes, leads, references, permission_reference, is_alias, is_unfound, is_unset, element_words, kind_of, IsLead, HasFirsts, Actual, names_permissions, named_class, class_lead, first_at}
 use Rattle.std.proofs.Common.{◌-◌, ◌^◌, slice_get, unwrap_or}
 use Rattle.std.proofs.lemmas.List.Folds.{list_all_more}
 use Rattle.cil_specs.specs.Statements.{target_words}
 use Rattle.cil_parse.specs.declared.row.StatementKind.{StatementKind}
 use Rattle.cil_bind.specs.Binding.{AreLeads, kinds_of}
-use Rattle.cil_check.specs.Clean.{are_sound, is_other, is_sound, is_sound_at}
+use Rattle.cil_check.specs.Clean.{HaveActuals, are_sound, is_other, is_sound, is_sound_at}
 use Rattle.cil_check.specs.declared.kinds.Kind.TheVariants.{Alias}
 use Rattle.cil_check.proofs.SeenLemmas.{kind-form}
+use Rattle.cil_check.proofs.AskedLemmas.{nowhere-unset}
 use Rattle.cil_check.proofs.WordLemmas.{Led, led-at, unset-noted}
 
 -- a reference leads somewhere, and not to an alias without an actual type
@@ -68,6 +69,34 @@ pub sound-all : (policy : List Placed) (kinds : List StatementKind) (actuals : L
     → AreLeads policy namespace refs bound → are_sound kinds actuals bound ≡ true → AllByRecursion (IsSound policy namespace) refs
 sound-all policy kinds actuals namespace refs bound same has are all =
     sound-each policy actuals namespace refs bound has are (ap (λ l. are_sound l actuals bound) (sym same) ∙ all)
+
+-- so are all references that lead somewhere, where no alias lacks an actual type
+pub found-all : (policy : List Placed) (kinds : List StatementKind) (actuals : List (ℕ × ℕ)) (namespace : List (List ℕ)) (refs : List (Table × Word)) (bound : List (Option ℕ)) → kinds ≡ kinds_of policy → HasFirsts Actual policy actuals
+    → HaveActuals kinds actuals → AreLeads policy namespace refs bound → map (λ r. r.1) (filter (is_unfound policy namespace) refs) ≡ [] → AllByRecursion (IsSound policy namespace) refs
+found-all policy kinds actuals namespace [] bound same has have are none = tt
+found-all policy kinds actuals namespace (r ∷ refs) [] same has have are none = absurd are
+found-all policy kinds actuals namespace (r ∷ refs) (b ∷ bound) same has have are none = by (is_unfound policy namespace r) refl (found-all policy kinds actuals namespace refs bound same has have are.1)
+  where
+    some : List (Table × Word)
+    some = filter (is_unfound policy namespace) refs
+
+    words : Bool → List Word
+    words is = map (λ (q : Table × Word). q.1) (cond is (r ∷ some) some)
+
+    sound : is_unfound policy namespace r ≡ false → (found : Option ℕ) → IsLead r.0 policy found (leads policy r.0 namespace r.1.text) → IsSound policy namespace r
+    sound other None led = record {
+      found = other;
+      actual = λ types_asked. nowhere-unset policy namespace r.1 None (subst (λ t. IsLead t policy None (leads policy t namespace r.1.text)) types_asked led) refl;
+    }
+    sound other (Some place) led =
+        let lead = led-at r.0 policy place (leads policy r.0 namespace r.1.text) led in
+        let within = slice_get_within policy place lead.s lead.at in
+        let long : length kinds ≡ length policy = ap length same ∙ length-map policy (λ s. kind_of s.form) in
+        sound-lead policy actuals namespace r (Some place) has led (ap (λ l. is_sound l actuals (Some place)) (sym same) ∙ have place (omega (arith, within, long)))
+
+    by : (is : Bool) → is_unfound policy namespace r ≡ is → (map (λ (q : Table × Word). q.1) some ≡ [] → AllByRecursion (IsSound policy namespace) refs) → AllByRecursion (IsSound policy namespace) (r ∷ refs)
+    by true is rest = absurd (none-some r.1 (sym (ap (λ l. slice_get l 0) (sym (ap words is) ∙ none))))
+    by false is rest = (sound is b are.0, rest (sym (ap words is) ∙ none))
 
 -- one reference more
 pub sound-more : (kinds : List StatementKind) (actuals : List (ℕ × ℕ)) (bound : List (Option ℕ)) (i : ℕ) (d : Option ℕ) → i < length bound → are_sound kinds actuals (take i bound) ≡ true → is_sound kinds actuals (get_or bound i d) ≡ true

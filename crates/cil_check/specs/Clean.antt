@@ -1,8 +1,10 @@
 -- What the references of statements without faults are bound to.
-use Rattle.std.specs.Prelude.{ℕ, Bool, false, not, ◌||◌, List, Option, Some, None, is_some, slice_get}
+use Rattle.std.specs.Prelude.{◌≡◌, ◌<◌, ℕ, Bool, true, false, not, ◌||◌, List, [], Option, Some, None, is_some, length, slice_get}
 use Rattle.std.specs.List.{list_all}
 use Rattle.cil_parse.specs.declared.row.StatementKind.{StatementKind}
 use Rattle.cil_check.specs.declared.kinds.Kind.TheVariants.{Alias}
+use Rattle.cil_specs.specs.Joined.{Placed}
+use Rattle.cil_specs.specs.PolicyFault.{alias_unset_words, missing_words}
 use Rattle.cil_check.specs.Associations.{first_at}
 use Rattle.cil_check.specs.Kinds.{is_kind}
 
@@ -24,3 +26,12 @@ is_other (Some kind) = not (is_kind Alias kind)
 -- whether all of some references are
 abbrev pub are_sound : List StatementKind → List (ℕ × ℕ) → List (Option ℕ) → Bool
 are_sound kinds actuals bound = list_all (is_sound kinds actuals) bound
+
+-- no statement is an alias without an actual type
+abbrev pub HaveActuals : List StatementKind → List (ℕ × ℕ) → Type 0
+HaveActuals kinds actuals = (place : ℕ) → place < length kinds → is_sound kinds actuals (Some place) ≡ true
+
+-- all names of a statement are found, and no element of it is an alias without an actual type
+pub record IsSettled (policy : List Placed) (s : Placed) : Type 0 where
+  pub found : missing_words policy s ≡ []
+  pub actual : alias_unset_words policy s ≡ []

@@ -1,6 +1,6 @@
 //! The statements of a bound policy.
 
-ghost use Rattle.std.specs.Prelude.{◌≡◌, ◌<◌, ◌∷◌, [], ℕ, List, None, length, slice_get, slice_index_or, Some};
+ghost use Rattle.std.specs.Prelude.{◌≡◌, ◌<◌, ◌∷◌, [], ℕ, List, None, IsTrue, length, slice_get, slice_index_or, Some};
 ghost use Rattle.cil_bind.specs.Binding.{AreLeads};
 ghost use Rattle.cil_specs.specs.Lookup.{references as references_of};
 ghost use Rattle.cil_check.specs.Common.{Word, components, Placed, read, kind_of, texts_of, names_of, AreNumbersOf, test_of, IsOf, IsSeen, policy_kind_of, fault_at, IsFoundFault};
@@ -115,6 +115,16 @@ impl<'p, 'm, A: Allocator> BoundPolicy<'p, 'm, A> {
             bound: self.references(i),
             words: self.policy.words[number].as_slice(),
         }
+    }
+
+    /// Whether the statement of a place stands in an optional.
+    #[inline(always)]
+    pub fn is_inside(&self, i: usize) -> bool
+        requires { (policy : List Placed) × IsOf self.now policy × (i < length policy) }
+        ensures { IsTrue result → (policy : List Placed) (s : Placed) → IsOf self.now policy
+            → slice_get policy i ≡ Some s → s.optionals ≡ [] → ⊥ }
+    {
+        self.policy.rows[i].optional != 0
     }
 
     /// The kind of the statement of a place, without its words.

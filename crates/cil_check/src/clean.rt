@@ -2,7 +2,7 @@
 
 ghost use Rattle.std.specs.Prelude.{◌≡◌, ◌<◌, [], List, Some, true, length, slice_get, Contains, IsTrue};
 ghost use Rattle.cil_check.specs.Common.{Placed, AreNumbersOf, classes, has_name, kind_of, names_of, permissions_of, word_at, IsFirstOf, IsLead, IsSeen, IsNoted, class_lead, lacking_words, HasNoneBelow, IsCleanAt};
-ghost use Rattle.cil_check.specs.Clean.{is_other, is_sound as is_sound_lead, are_sound as are_sound_leads};
+ghost use Rattle.cil_check.specs.Clean.{is_other, is_sound as is_sound_lead, are_sound as are_sound_leads, HaveActuals, IsSettled};
 ghost use Rattle.cil_check.specs.Recent.{IsKnown};
 ghost use Rattle.cil_check.specs.Kinds.{names_permissions as is_naming_kind, is_rule_of_set as is_rule_of_set_kind, is_plain as is_plain_kind};
 ghost use Rattle.cil_parse.specs.declared.row.StatementKind.TheVariants.{TypeAttributeSet};
@@ -157,19 +157,57 @@ impl<'p, 'm, A: Allocator + Copy> Checker<'p, 'm, A> {
         self.are_plainly_sound(bound) || self.are_each_sound(bound)
     }
 
+    /// Whether no alias lacks an actual type.
+    #[inline(never)]
+    fn have_actuals(&self) -> bool
+        requires { (policy : List Placed) × IsNoted self.now policy }
+        ensures { IsTrue result
+            → HaveActuals self.now.bound.policy.now.kinds.items self.now.actuals }
+    {
+        for i in 0..self.bound.policy.kinds.len() {
+            if !self.is_sound(Some(i as u32)) {
+                return false;
+            }
+        }
+        true
+    }
+
+    /// Whether the statement of a place stands in an optional, by whether no alias lacks an actual
+    /// type. In a kept optional all names are found, so it needn't be looked at for these.
+    #[inline(always)]
+    fn is_settled(&self, place: usize, calm: bool) -> bool
+        requires { (policy : List Placed) × IsNoted self.now policy × (place < length policy) }
+        ensures { IsTrue result → (policy : List Placed) (s : Placed) → IsNoted self.now policy
+            → slice_get policy place ≡ Some s
+            → (IsTrue calm → HaveActuals self.now.bound.policy.now.kinds.items self.now.actuals)
+            → IsSettled policy s }
+    {
+        if !calm {
+            return false;
+        }
+        self.bound.is_inside(place)
+    }
+
     /// Whether a set statement leads to an attribute, and all its references are bound, to no
     /// alias without an actual type.
-    fn is_clean_set(&self, place: usize) -> bool
+    fn is_clean_set(&self, place: usize, calm: bool) -> bool
         requires { (policy : List Placed) × IsNoted self.now policy × (place < length policy) }
         ensures { IsTrue result → (policy : List Placed) (s : Placed) → IsNoted self.now policy
             → slice_get policy place ≡ Some s → kind_of s.form ≡ TypeAttributeSet
+            → (IsTrue calm → HaveActuals self.now.bound.policy.now.kinds.items self.now.actuals)
             → IsCleanAt policy place s }
     {
         let bound = self.bound.references(place);
         let Some(first) = bound.place(0) else {
             return false;
         };
-        self.bound.is(first, Kind::Attribute) && self.are_sound(&bound)
+        if !self.bound.is(first, Kind::Attribute) {
+            return false;
+        }
+        if self.is_settled(place, calm) {
+            return true;
+        }
+        self.are_sound(&bound)
     }
 
     /// Whether the class of a place has a permission. One that it has is known then.
@@ -250,17 +288,21 @@ impl<'p, 'm, A: Allocator + Copy> Checker<'p, 'm, A> {
     /// Whether a statement that names permissions of a class has no missing word and no alias
     /// without an actual type. Other faults it can't have.
     #[inline(always)]
-    fn is_clean_naming(&self, place: usize, known: &mut Known<A>) -> bool
+    fn is_clean_naming(&self, place: usize, calm: bool, known: &mut Known<A>) -> bool
         requires { (policy : List Placed) × (s : Placed) × IsNoted self.now policy
             × (slice_get policy place ≡ Some s) × (is_naming_kind (kind_of s.form) ≡ true) }
         ensures clean { IsTrue result → (policy : List Placed) (s : Placed)
             → IsNoted self.now policy → slice_get policy place ≡ Some s
-            → is_naming_kind (kind_of s.form) ≡ true → IsKnown self.now policy known.old
-            → IsCleanAt policy place s }
+            → is_naming_kind (kind_of s.form) ≡ true
+            → (IsTrue calm → HaveActuals self.now.bound.policy.now.kinds.items self.now.actuals)
+            → IsKnown self.now policy known.old → IsCleanAt policy place s }
         ensures known { (policy : List Placed) (s : Placed) → IsNoted self.now policy
             → slice_get policy place ≡ Some s → is_naming_kind (kind_of s.form) ≡ true
             → IsKnown self.now policy known.old → IsKnown self.now policy known.new }
     {
+        if self.is_settled(place, calm) {
+            return true;
+        }
         let bound = self.bound.references(place);
         let Some(class) = bound.last() else {
             return false;
@@ -282,21 +324,22 @@ impl<'p, 'm, A: Allocator + Copy> Checker<'p, 'm, A> {
         self.are_sound(&self.bound.references(place))
     }
 
-    /// Whether the statement of a place has no fault of the kinds that are seen at one statement.
-    /// Its kind tells which it can have: those of most are told by what its references are bound
-    /// to, and only others are looked at whole.
+    /// Whether the statement of a place has no fault of the kinds that are seen at one statement, by
+    /// whether no alias lacks an actual type. Its kind tells which it can have: those of most are
+    /// told by what its references are bound to, and only others are looked at whole.
     #[inline(always)]
-    fn is_clean_by(&self, place: usize, known: &mut Known<A>) -> bool
+    fn is_clean_by(&self, place: usize, calm: bool, known: &mut Known<A>) -> bool
         requires { (policy : List Placed) × IsNoted self.now policy × (place < length policy) }
         ensures clean { IsTrue result → (policy : List Placed) (s : Placed)
             → IsNoted self.now policy → slice_get policy place ≡ Some s
+            → (IsTrue calm → HaveActuals self.now.bound.policy.now.kinds.items self.now.actuals)
             → IsKnown self.now policy known.old → IsCleanAt policy place s }
         ensures known { (policy : List Placed) → IsNoted self.now policy
             → IsKnown self.now policy known.old → IsKnown self.now policy known.new }
     {
         let kind = self.bound.kind(place);
         if names_permissions(kind) {
-            return self.is_clean_naming(place, known);
+            return self.is_clean_naming(place, calm, known);
         }
         if is_plain(kind) {
             return true;
@@ -305,7 +348,7 @@ impl<'p, 'm, A: Allocator + Copy> Checker<'p, 'm, A> {
             return self.is_clean_rule_of_set(place);
         }
         if let StatementKind::TypeAttributeSet = kind {
-            return self.is_clean_set(place);
+            return self.is_clean_set(place, calm);
         }
         self.is_clean_whole(place)
     }
@@ -318,9 +361,10 @@ impl<'p, 'm, A: Allocator + Copy> Checker<'p, 'm, A> {
         ensures { IsTrue result → (policy : List Placed) → IsNoted self.now policy
             → HasNoneBelow 48 policy }
     {
+        let calm = self.have_actuals();
         let mut known = Known::new(alloc);
         for i in 0..self.bound.len() {
-            if !self.is_clean_by(i, &mut known) {
+            if !self.is_clean_by(i, calm, &mut known) {
                 return false;
             }
         }

@@ -1,4 +1,4 @@
-use Rattle.cil_check.proofs.Common.{◌<◌, Contains, length, sym, ◌∙◌, arith, rules, slice_get_within, get_or_from_slice_get, has_list}
+use Rattle.cil_check.proofs.Common.{◌<◌, Contains, length, arith, rules, slice_get_within, get_or_from_slice_get, has_list}
 use Rattle.cil_check.proofs.KnownLemmas.{from-there, known-lacks-none, lacks-none-known}
 use Rattle.cil_check.proofs.SeenLemmas.{is-long}
 use Rattle.cil_check.proofs.checker.Checker.has_listed.Goals as goal

@@ -4,7 +4,7 @@ use Rattle.cil_check.proofs.SeenLemmas.{is-long, there-at}
 use Rattle.cil_check.proofs.checker.Checker.is_clean_by.Goals as goal
 
 pub returns-then-is_plain-clause-clean : goal.returns-then-is_plain-clause-clean
-returns-then-is_plain-clause-clean g c = λ is policy s noted at known.
+returns-then-is_plain-clause-clean g c = λ is policy s noted at have known.
     plain-clean policy c.args.place s (sym (c.is_plain.ensures ∙ ap is_plain (c.kind-kind.ensures policy s noted.is at)) ∙ c.if-is_plain.true) noted.is.inside at
 
 pub is_clean_naming-requires : goal.is_clean_naming-requires

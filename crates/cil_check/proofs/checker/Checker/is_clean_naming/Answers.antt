@@ -1,7 +1,17 @@
-use Rattle.cil_check.proofs.Common.{Some, ap, arith, references, slice_get_within, subst, sym, ◌∙◌}
+use Rattle.cil_check.proofs.Common.{references, slice_get_within, sym, ◌∙◌}
 use Rattle.cil_check.proofs.KnownLemmas.{missing-neither, naming-clean}
 use Rattle.cil_check.proofs.SoundLemmas.{class-last, sound-all, none-unfound, none-unset-of}
 use Rattle.cil_check.proofs.checker.Checker.is_clean_naming.Goals as goal
+
+pub is_settled-requires : goal.is_settled-requires
+is_settled-requires g c =
+    let r = c.requires in
+    (r.0, r.2, slice_get_within r.0 c.args.place r.1 r.3)
+
+pub returns-then-is_settled-clause-clean : goal.returns-then-is_settled-clause-clean
+returns-then-is_settled-clause-clean g c = λ yes policy s noted at is have known.
+    let settled = c.is_settled.ensures c.if-is_settled.true policy s noted at have in
+    naming-clean policy c.args.place s is noted.is.inside at settled.found settled.actual
 
 pub references-bound-requires : goal.references-bound-requires
 references-bound-requires g c =
@@ -15,7 +25,7 @@ has_listed-requires g c =
     (policy, s, noted, at, class-last policy s c.references-bound.result c.in-Some.class is are (sym c.last.ensures ∙ c.in-Some.is))
 
 pub returns-clause-clean : goal.returns-clause-clean
-returns-clause-clean g c = λ yes policy s noted at is known.
+returns-clause-clean g c = λ yes policy s noted at is have known.
     let b = c.args.self.now.bound.policy.now in
     let are = c.references-bound.ensures policy s noted.is at in
     let led = class-last policy s c.references-bound.result c.in-Some.class is are (sym c.last.ensures ∙ c.in-Some.is) in

@@ -1,4 +1,4 @@
-use Rattle.cil_check.proofs.Common.{arith, references, subst, sym, ◌∙◌}
+use Rattle.cil_check.proofs.Common.{references, sym, ◌∙◌}
 use Rattle.cil_check.proofs.KnownLemmas.{of-set-clean}
 use Rattle.cil_check.proofs.SoundLemmas.{sound-all, none-unfound, none-unset-of}
 use Rattle.cil_check.proofs.checker.Checker.is_clean_rule_of_set.Goals as goal

@@ -1,8 +1,8 @@
-use Rattle.cil_check.proofs.Common.{Some, None, get_or_from_slice_get, not, sym, ap, ◌∙◌, subst, arith, types, leads, references, IsLead}
+use Rattle.cil_check.proofs.Common.{not, sym, ap, ◌∙◌, subst, types, leads, references, IsLead}
 use Rattle.std.proofs.Common.{slice_get}
 use Rattle.cil_check.specs.declared.kinds.Kind.TheVariants.{Attribute}
 use Rattle.cil_check.proofs.AskedLemmas.{form-set, there-kind}
-use Rattle.cil_check.proofs.KnownLemmas.{set-clean}
+use Rattle.cil_check.proofs.KnownLemmas.{refs-found, set-clean}
 use Rattle.cil_check.proofs.SeenLemmas.{lead-of}
 use Rattle.cil_check.proofs.SoundLemmas.{sound-all, none-unfound, none-unset-of}
 use Rattle.cil_check.proofs.checker.Checker.is_clean_set.Goals as goal
@@ -11,8 +11,21 @@ pub references-bound-requires : goal.references-bound-requires
 references-bound-requires g c =
     (c.requires.0, c.requires.1.is, c.requires.2)
 
-pub returns-then-is : goal.returns-then-is
-returns-then-is g c = λ yes policy s noted at kind.
+pub is_settled-requires : goal.is_settled-requires
+is_settled-requires g c = c.requires
+
+pub returns-then-is_settled : goal.returns-then-is_settled
+returns-then-is_settled g c = λ yes policy s noted at kind have.
+    let settled = c.is_settled.ensures c.if-is_settled.true policy s noted at have in
+    let (attribute, expr, form) = form-set s.form kind in
+    let are = c.references-bound.ensures policy s noted.is at in
+    let led = subst (λ o. IsLead types policy o (leads policy types s.namespace attribute.text))
+    (sym c.place.ensures ∙ c.in-Some.is) (lead-of policy s.namespace (references s.form) c.references-bound.result 0 (types, attribute) are (ap (λ f. slice_get (references f) 0) form)) in
+    let other = there-kind policy s.namespace Attribute attribute c.in-Some.first c.is.result led (λ t there. c.is.ensures policy t noted.is there) ∙ ap not c.if-not-is.false in
+    set-clean policy c.args.place s attribute expr form noted.is.inside at (refs-found policy s settled.found) settled.actual other
+
+pub returns : goal.returns
+returns g c = λ yes policy s noted at kind have.
     let b = c.args.self.now.bound.policy.now in
     let bound = c.references-bound.result in
     let (attribute, expr, form) = form-set s.form kind in
@@ -20,5 +33,5 @@ returns-then-is g c = λ yes policy s noted at kind.
     let all = sound-all policy b.kinds.items c.args.self.now.actuals s.namespace (references s.form) bound noted.is.bound.kinds noted.has_actuals are (sym (c.are_sound.ensures policy noted) ∙ yes) in
     let led = subst (λ o. IsLead types policy o (leads policy types s.namespace attribute.text))
     (sym c.place.ensures ∙ c.in-Some.is) (lead-of policy s.namespace (references s.form) bound 0 (types, attribute) are (ap (λ f. slice_get (references f) 0) form)) in
-    let other = there-kind policy s.namespace Attribute attribute c.in-Some.first c.is.result led (λ t there. c.is.ensures policy t noted.is there) ∙ ap not c.if-is.true in
+    let other = there-kind policy s.namespace Attribute attribute c.in-Some.first c.is.result led (λ t there. c.is.ensures policy t noted.is there) ∙ ap not c.if-not-is.false in
     set-clean policy c.args.place s attribute expr form noted.is.inside at (none-unfound policy s.namespace (references s.form) all) (none-unset-of policy s.namespace s.form all) other
