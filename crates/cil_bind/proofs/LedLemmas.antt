@@ -1,5 +1,5 @@
 -- Lists that come one behind the other.
-use Rattle.cil_bind.proofs.Common.{◌≡◌, ◌⊎◌, inl, inr, ℕ, ◌+◌, ◌<◌, ◌≤◌, List, [], ◌∷◌, ◌++◌, length, get_or, refl, sym, ap, ◌∙◌, subst, arith, get_or_append_left, length-append, cases_lt, Some, get_or_from_slice_get, Citation}
+use Rattle.cil_bind.proofs.Common.{◌≡◌, inl, inr, ℕ, ◌+◌, ◌<◌, List, [], ◌∷◌, ◌++◌, length, get_or, sym, ap, ◌∙◌, subst, arith, get_or_append_left, length-append, cases_lt, Some, get_or_from_slice_get, Citation}
 use Rattle.cil_parse.specs.declared.table.Table.TheVariants.{Types}
 use Rattle.std.proofs.Common.{slice_get}
 use Rattle.std.proofs.Math.Seq.{get_or-append_seam}

@@ -1,5 +1,5 @@
 -- The statements of a policy that stand in kept optionals alone.
-use Rattle.cil_bind.proofs.Common.{◌≡◌, ◌⊎◌, inl, inr, ℕ, suc, ◌<◌, ◌≤◌, ◌^◌, length, Bool, true, false, cond, if◌then◌else◌, List, [], ◌∷◌, filter, get_or, Some, None, Contains, refl, sym, ap, ◌∙◌, subst, arith, stands_apart, Placed, list_all, Optionals, is_within, restricted, AreApart, first_true, second_true, contains-cases, contains-first, contains-other, AreRows, IsOpenedIn, Stands, AreFrom, AreMarked, NamedModule, Row}
+use Rattle.cil_bind.proofs.Common.{◌≡◌, ◌⊎◌, inl, inr, ℕ, suc, ◌<◌, ◌≤◌, ◌^◌, length, Bool, true, false, cond, List, [], ◌∷◌, filter, get_or, Contains, refl, sym, ap, ◌∙◌, subst, arith, stands_apart, Placed, list_all, Optionals, is_within, restricted, AreApart, first_true, second_true, contains-cases, contains-first, contains-other, AreRows, IsOpenedIn, Stands, AreFrom, AreMarked, NamedModule, Row}
 
 abbrev pub mark : List Bool → Row → Bool
 mark kept row = get_or kept row.optional false

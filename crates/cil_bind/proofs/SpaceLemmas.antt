@@ -1,5 +1,5 @@
 -- The namespaces from which statements look up.
-use Rattle.cil_bind.proofs.Common.{◌≡◌, ℕ, zero, suc, ◌+◌, ◌<◌, ◌≤◌, List, [], ◌∷◌, ◌++◌, map, length, get_or, take, drop, Some, refl, sym, ap, ◌∙◌, subst, arith, option_map, none-some, same_Some, slice_get_within, Word, Statements, Module, Placed, block, placed, joined, placed-flat, flat, FlatStatement, ArePlacedAs, IsBlockOf, IsPlacedAs, Spells, kind_of, read, row_for, row_of, words_in, texts_of, citations_of, named, namespace_at, Stands, AreSpelt, AreBlockSpaces, IsBlockSpace, IsSpaced, Citation, NamedModule, ParsedModule, Row}
+use Rattle.cil_bind.proofs.Common.{◌≡◌, ℕ, zero, suc, ◌+◌, ◌<◌, ◌≤◌, List, [], ◌∷◌, ◌++◌, map, length, get_or, take, drop, Some, refl, sym, ap, ◌∙◌, subst, arith, option_map, none-some, same_Some, slice_get_within, Word, Statements, Module, Placed, placed, joined, placed-flat, flat, FlatStatement, ArePlacedAs, IsBlockOf, IsPlacedAs, Spells, kind_of, read, row_for, row_of, words_in, texts_of, citations_of, named, namespace_at, Stands, AreSpelt, AreBlockSpaces, IsBlockSpace, IsSpaced, NamedModule, ParsedModule, Row}
 use Rattle.std.proofs.Common.{slice_get}
 use Rattle.std.proofs.lemmas.Option.{slice_get-map}
 use Rattle.cil_bind.proofs.PlaceLemmas.{flat-there, get-behind, placed-long, placed-there, row-there, spelt-at}

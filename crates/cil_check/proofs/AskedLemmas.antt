@@ -1,5 +1,5 @@
 -- Words with faults, as they are read of statements that are seen.
-use Rattle.cil_check.proofs.Common.{◌≡◌, ℕ, zero, suc, true, false, Bool, not, ◌&&◌, List, [], ◌∷◌, map, filter, get_or, Option, Some, None, is_some, true≢false, refl, sym, ap, ◌∙◌, subst, take, drop, cond, length, add-one, arith, ◌+◌, ◌<◌, ◌≤◌, if◌then◌else◌, option_map, option_or, option_and_then, none-some, same_Some, slice_get-map, length-map, Word, WordExpr, leaves, Form, block, optional, type_name, type_alias, alias_actual, type_attribute, attribute_set, common, class, class_common, class_order, class_permission, class_permission_set, rule, anonymous, by_name, itself, the_named, Placed, Table, types, actual_statement, leads, references, holds_of, is_alias, is_of_another_kind, is_unset, is_unfound, read, kind_of, words_in, texts_of, NumberedWord, IsLead, first_unfound, IsSeen, Reads, word_if, test_of, again_words, first_at, association_table, given_kind, given_word, given_lead, HasFirsts, Seen, Association, Actual, Common, is_before}
+use Rattle.cil_check.proofs.Common.{◌≡◌, ℕ, zero, suc, true, false, Bool, not, ◌&&◌, List, [], ◌∷◌, map, filter, get_or, Option, Some, None, is_some, true≢false, refl, sym, ap, ◌∙◌, subst, take, drop, cond, length, add-one, arith, ◌+◌, ◌<◌, ◌≤◌, if◌then◌else◌, option_map, option_or, option_and_then, none-some, same_Some, slice_get-map, length-map, Word, WordExpr, leaves, Form, alias_actual, attribute_set, class_common, rule, anonymous, by_name, itself, the_named, Placed, Table, types, actual_statement, leads, references, holds_of, is_alias, is_of_another_kind, is_unset, is_unfound, read, kind_of, words_in, texts_of, NumberedWord, IsLead, first_unfound, IsSeen, Reads, word_if, test_of, again_words, first_at, association_table, given_kind, given_word, given_lead, HasFirsts, Seen, Association, Actual, Common, is_before}
 use Rattle.std.proofs.Common.{slice_get}
 use Rattle.cil_specs.specs.Statements.{RuleKind, Target, ClassPermissions}
 use Rattle.cil_parse.specs.declared.row.StatementKind.{StatementKind}

@@ -1,5 +1,5 @@
 -- The first fault of a policy, kind by kind.
-use Rattle.cil_check.proofs.Common.{◌≡◌, inl, inr, ℕ, ◌+◌, ◌<◌, ◌≤◌, zero, suc, ◌==◌, List, [], ◌∷◌, get_or, Some, Contains, refl, sym, ap, ◌∙◌, subst, arith, if◌then◌else◌, none-some, same_Some, slice_get_within, get_or_from_slice_get, cases_order, Word, Placed, twice, missing, wrong_kind, alias_twice, alias_unset, second_common, too_many_permissions, circular, code_of, IsFaultOf, missing_words, is_outside, faulty_words, policy_kind_of, IsFoundFault, PolicyFaultIs, IsLeast, IsFaultIn, IsFaultless, contains-first, around, AreFoundInside, Twice, Missing, WrongKind, AliasTwice, AliasUnset, SecondCommon, TooManyPermissions, Circular}
+use Rattle.cil_check.proofs.Common.{◌≡◌, inl, inr, ℕ, ◌+◌, ◌<◌, ◌≤◌, suc, ◌==◌, List, [], ◌∷◌, get_or, Some, Contains, refl, sym, ap, ◌∙◌, subst, arith, if◌then◌else◌, none-some, same_Some, slice_get_within, get_or_from_slice_get, cases_order, Word, Placed, twice, missing, wrong_kind, alias_twice, alias_unset, second_common, too_many_permissions, circular, code_of, IsFaultOf, missing_words, is_outside, faulty_words, policy_kind_of, IsFoundFault, PolicyFaultIs, IsLeast, IsFaultIn, IsFaultless, contains-first, around, AreFoundInside, Twice, Missing, WrongKind, AliasTwice, AliasUnset, SecondCommon, TooManyPermissions, Circular}
 use Rattle.std.proofs.Common.{slice_get}
 use Rattle.cil_specs.specs.PolicyFault as spec
 use Rattle.cil_check.specs.declared.fault.PolicyFaultKind.{PolicyFaultKind}

@@ -1,5 +1,5 @@
 -- Numbers, each once, up to 33 of them.
-use Rattle.cil_check.proofs.Common.{◌≡◌, inl, inr, ℕ, ◌+◌, ◌<◌, ◌≤◌, ◌==◌, ◌||◌, nat_lt, Bool, true, false, List, [], ◌∷◌, ◌++◌, length, take, map, fold, bytes_eq, Some, refl, sym, ap, ◌∙◌, arith, if◌then◌else◌, list_any, IsDistinct, cases_lt, lt-ltb, le-ltb, length-map, map-append, take_all, take-append-le, length-take-le, fold-append, slice_get_within, get_or_from_slice_get, has_name, with_name, distinct, AreNumbersOf, with_number}
+use Rattle.cil_check.proofs.Common.{◌≡◌, inl, inr, ℕ, ◌+◌, ◌<◌, ◌≤◌, ◌==◌, ◌||◌, nat_lt, Bool, true, false, List, [], ◌∷◌, ◌++◌, length, take, map, fold, bytes_eq, Some, refl, sym, ap, ◌∙◌, arith, if◌then◌else◌, list_any, IsDistinct, cases_lt, lt-ltb, le-ltb, map-append, take_all, take-append-le, length-take-le, fold-append, slice_get_within, get_or_from_slice_get, has_name, with_name, distinct, AreNumbersOf, with_number}
 use Rattle.std.proofs.Common.{length-append, slice_get}
 use Rattle.cil_check.proofs.PermissionLemmas.{number-same}
 use Rattle.cil_check.proofs.WordLemmas.{has-fold}

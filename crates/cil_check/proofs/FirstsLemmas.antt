@@ -1,5 +1,5 @@
 -- What statements give to declarations, and which gives it first.
-use Rattle.cil_check.proofs.Common.{◌≡◌, ℕ, ◌+◌, get_or, Bool, true, false, ◌==◌, List, [], ◌∷◌, ◌++◌, take, cond, Option, Some, None, is_some, position, refl, sym, ap, ◌∙◌, true≢false, if◌then◌else◌, option_or, option_and_then, none-some, same_Some, get_or_from_slice_get, slice_get-get_or, eqb-true, eq-eqb, position-Some, Word, Form, block, optional, type_name, type_alias, alias_actual, type_attribute, attribute_set, common, class, class_common, class_order, class_permission, class_permission_set, rule, Placed, Table, declared_in, declares, same_namespace, is_word, is_same, word_text, holds_of, leads, first_true, second_true, IsFirstOf, IsLead, first_at, with_first, association_table, given_word, given_lead, gives, HasFirstsOf, Association, Actual, Common, bytes_eq-true, at_if}
+use Rattle.cil_check.proofs.Common.{◌≡◌, ℕ, ◌+◌, get_or, Bool, true, false, ◌==◌, List, [], ◌∷◌, ◌++◌, take, cond, Option, Some, None, is_some, position, refl, sym, ap, ◌∙◌, true≢false, if◌then◌else◌, option_or, option_and_then, none-some, same_Some, get_or_from_slice_get, slice_get-get_or, eqb-true, eq-eqb, position-Some, Word, Form, block, Placed, Table, declared_in, declares, same_namespace, is_word, is_same, word_text, holds_of, leads, first_true, second_true, IsFirstOf, IsLead, first_at, with_first, association_table, given_word, given_lead, gives, HasFirstsOf, Association, Actual, Common, bytes_eq-true, at_if}
 use Rattle.std.proofs.Common.{slice_get}
 use Rattle.cil_specs.proofs.DeclaredLemmas.{one-namespace}
 use lib.Dec.{eqb}

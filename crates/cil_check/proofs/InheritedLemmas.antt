@@ -1,5 +1,5 @@
 -- The commons that statements give to classes.
-use Rattle.cil_check.proofs.Common.{◌≡◌, ℕ, ◌+◌, ◌<◌, zero, suc, Bool, true, false, ◌==◌, List, [], ◌∷◌, ◌++◌, length, get_or, set, take, cond, Option, Some, None, Bor, is_some, nat_lt, true≢false, position, refl, sym, ap, ◌∙◌, subst, arith, append-nil, add-one, if◌then◌else◌, option_or, option_and_then, list_any, AllByRecursion, none-some, same_Some, slice_get_within, slice_get_read, eqb-true, eqb-false, ltb-true, lt-ltb, position-Some, flat_map-append, Word, Form, block, optional, type_name, type_alias, alias_actual, type_attribute, attribute_set, common, class, class_common, class_order, class_permission, class_permission_set, rule, Placed, classes, commons, is_same, holds_of, leads, references, listed_by, gives_common, common_permissions, all-append, IsFirstOf, IsLead, IsSeen, given_word, given_lead, numbers_in, list_at, names_listed, given_names, common_word, common_lead, HasInheritedOf, Seen, Common, at_if, position-append, any-position, take-next}
+use Rattle.cil_check.proofs.Common.{◌≡◌, ℕ, ◌+◌, ◌<◌, zero, suc, Bool, true, false, ◌==◌, List, [], ◌∷◌, ◌++◌, length, get_or, set, take, cond, Option, Some, None, Bor, is_some, nat_lt, true≢false, position, refl, sym, ap, ◌∙◌, subst, arith, append-nil, add-one, if◌then◌else◌, option_or, option_and_then, list_any, AllByRecursion, none-some, same_Some, slice_get_within, slice_get_read, eqb-true, eqb-false, ltb-true, lt-ltb, position-Some, flat_map-append, Word, Form, block, class_common, Placed, classes, commons, is_same, holds_of, leads, references, listed_by, gives_common, common_permissions, all-append, IsFirstOf, IsLead, IsSeen, given_word, given_lead, numbers_in, list_at, names_listed, given_names, common_word, common_lead, HasInheritedOf, Seen, Common, at_if, position-append, any-position, take-next}
 use Rattle.std.proofs.Common.{flat_map, IfSome, option_map, slice_get}
 use Rattle.cil_check.proofs.PositionLemmas.{get-append, get-last}
 use Rattle.cil_check.proofs.FirstsLemmas.{gives-lead, lead-same}

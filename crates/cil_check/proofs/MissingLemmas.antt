@@ -1,5 +1,5 @@
 -- Permissions that classes have, and those that they lack.
-use Rattle.cil_check.proofs.Common.{◌≡◌, ℕ, ◌+◌, ◌<◌, ◌≤◌, zero, suc, not, ◌||◌, Bool, true, false, List, [], ◌∷◌, ◌++◌, length, map, filter, drop, cond, Option, Some, None, Contains, bytes_eq, get_or, refl, sym, ap, ◌∙◌, option_and_then, list_any, or-true, none-some, same_Some, slice_get-get_or, slice_get_within, get_or_from_slice_get, list_any-append, Word, Form, block, optional, type_name, type_alias, alias_actual, type_attribute, attribute_set, common, class, class_common, class_order, class_permission, class_permission_set, rule, anonymous, by_name, leaves, Placed, classes, leads, holds_of, has_name, texts, listed_by, own_permissions, permissions_of, named_permissions, is_lacking, permissions_in, read, texts_of, NumberedWord, word_at, IsFirstOf, IsLead, IsOneName, IsNoted, list_at, names_listed, given_names, HasInherited, named_class, class_lead, lacking_words, is_listed, HaveListed, Seen, Listed}
+use Rattle.cil_check.proofs.Common.{◌≡◌, ℕ, ◌+◌, ◌<◌, ◌≤◌, zero, suc, not, ◌||◌, Bool, true, false, List, [], ◌∷◌, ◌++◌, length, map, filter, drop, cond, Option, Some, None, Contains, bytes_eq, get_or, refl, sym, ap, ◌∙◌, option_and_then, list_any, or-true, none-some, same_Some, slice_get-get_or, slice_get_within, get_or_from_slice_get, list_any-append, Word, Form, class_permission_set, rule, anonymous, leaves, Placed, classes, leads, holds_of, has_name, texts, listed_by, own_permissions, permissions_of, named_permissions, is_lacking, permissions_in, read, texts_of, NumberedWord, word_at, IsFirstOf, IsLead, IsOneName, IsNoted, list_at, names_listed, given_names, HasInherited, named_class, class_lead, lacking_words, is_listed, HaveListed, Seen, Listed}
 use Rattle.std.proofs.Common.{flat_map, slice_get}
 use Rattle.cil_check.specs.declared.checker.Checker.{Checker}
 use Rattle.cil_check.proofs.PositionLemmas.{all-at}

@@ -1,10 +1,9 @@
 -- Permissions by numbers.
-use Rattle.cil_check.proofs.Common.{◌≡◌, ℕ, zero, suc, ◌+◌, ◌<◌, ◌==◌, ◌&&◌, ◌||◌, nat_eq, nat_lt, ◌≤◌, inl, inr, Bool, true, false, not, List, [], ◌∷◌, ◌++◌, map, length, take, get_or, Option, Some, bytes_eq, refl, sym, ap, ◌∙◌, subst, true≢false, add-one, arith, if◌then◌else◌, list_any, AllByRecursion, IsDistinct, none-some, same_Some, get_or_from_slice_get, slice_get_within, eqb-true, eq-eqb, cases_order, lt-ltb, le-ltb, list_any-append, length-map, map-append, fold-append, or-false, bytes_eq-Decides, Word, Form, block, optional, type_name, type_alias, alias_actual, type_attribute, attribute_set, common, class, class_common, class_order, class_permission, class_permission_set, rule, anonymous, by_name, itself, the_named, Placed, kind_of, permissions_in, has_name, with_name, distinct, texts, own_permissions, read, NumberedWord, word_at, bytes_eq-true, distinct-place, is_listed, HaveListed, HaveWords, lists_own, IsOneName, Listed, AreNumbersOf, take-next}
+use Rattle.cil_check.proofs.Common.{◌≡◌, ℕ, zero, suc, ◌+◌, ◌<◌, ◌==◌, ◌&&◌, ◌||◌, nat_eq, nat_lt, ◌≤◌, inl, inr, Bool, true, false, not, List, [], ◌∷◌, ◌++◌, map, length, take, get_or, Option, Some, bytes_eq, refl, sym, ap, ◌∙◌, subst, true≢false, add-one, arith, if◌then◌else◌, list_any, AllByRecursion, IsDistinct, none-some, same_Some, get_or_from_slice_get, slice_get_within, eqb-true, eq-eqb, cases_order, lt-ltb, le-ltb, list_any-append, map-append, fold-append, or-false, bytes_eq-Decides, Word, Placed, has_name, with_name, distinct, texts, own_permissions, NumberedWord, word_at, bytes_eq-true, distinct-place, is_listed, HaveListed, HaveWords, IsOneName, Listed, AreNumbersOf, take-next}
 use Rattle.std.proofs.Common.{slice_get}
 use Rattle.indexmap.specs.IndexSet.{insert_key}
 use Rattle.cil_check.specs.contracts.permissions.ListedPartialEq.TheImpl as listed_eq
 pub use Rattle.cil_bind.proofs.PermissionLemmas.{as-many, names-next, none-listed, own-listed, spread, texts-last, word-read}
-use Rattle.cil_bind.proofs.PositionLemmas.{any-last}
 use Rattle.cil_check.proofs.WordLemmas.{has-distinct}
 
 pub derived-listed : (l : Listed) → (listed_eq.eq-value).it l ≡ is_listed l.owner l.word

@@ -1,5 +1,5 @@
 -- The first place in a list at which a test passes.
-use Rattle.cil_check.proofs.Common.{◌≡◌, ℕ, ◌+◌, zero, suc, Bool, true, false, ◌||◌, List, [], ◌∷◌, ◌++◌, length, take, cond, Option, Some, None, is_some, position, refl, sym, ap, ◌∙◌, subst, add-one, find, list_any, slice_get, AllByRecursion, option_or, none-some, same_Some, at_if, position-cons, position-append, take-next, take-length}
+use Rattle.cil_check.proofs.Common.{◌≡◌, ℕ, ◌+◌, zero, suc, Bool, true, false, ◌||◌, List, [], ◌∷◌, ◌++◌, length, take, cond, Option, Some, None, is_some, position, refl, sym, ap, ◌∙◌, add-one, find, list_any, slice_get, option_or, none-some, at_if, position-cons, position-append, take-next, take-length}
 use Rattle.std.proofs.Common.{option_map}
 pub use Rattle.cil_parse.proofs.LexiconLemmas.{get-append}
 pub use Rattle.cil_bind.proofs.FromLemmas.{all-get as all-at}

@@ -1,5 +1,5 @@
 -- What is seen of the statements of a bound policy.
-use Rattle.cil_check.proofs.Common.{◌≡◌, ℕ, zero, suc, ◌<◌, List, [], ◌∷◌, length, map, get_or, Option, Some, None, refl, sym, ap, ◌∙◌, subst, arith, length-map, none-some, same_Some, slice_get-get_or, slice_get_within, get_or_from_slice_get, Word, Form, block, optional, type_name, type_alias, alias_actual, type_attribute, attribute_set, common, class, class_common, class_order, class_permission, class_permission_set, rule, anonymous, by_name, itself, the_named, Placed, Table, leads, references, read, Statements, AreNumbersOf, kind_of, words_in, texts_of, Spells, NumberedWord, IsLead, IsOf, IsSeen, Reads, test_of, is_kind, Seen}
+use Rattle.cil_check.proofs.Common.{◌≡◌, ℕ, zero, suc, ◌<◌, List, [], ◌∷◌, length, map, get_or, Option, Some, None, refl, sym, ap, ◌∙◌, subst, arith, length-map, none-some, same_Some, slice_get-get_or, slice_get_within, get_or_from_slice_get, Word, Form, rule, anonymous, itself, the_named, Placed, Table, leads, references, read, Statements, AreNumbersOf, kind_of, words_in, texts_of, Spells, NumberedWord, IsLead, IsOf, IsSeen, Reads, test_of, is_kind, Seen}
 use Rattle.std.proofs.Common.{slice_get}
 use Rattle.std.specs.Borrow.{Bor}
 use Rattle.cil_parse.specs.Flat.{FlatStatement, flat}

@@ -1,5 +1,5 @@
 -- Classes of too many permissions.
-use Rattle.cil_check.proofs.Common.{◌≡◌, ℕ, ◌+◌, ◌<◌, ◌≤◌, nat_lt, Bool, true, false, List, [], ◌∷◌, ◌++◌, length, take, filter, fold, map, cond, Some, bytes_eq, get_or, refl, sym, ap, ◌∙◌, append-nil, add-one, option_to_list, IsDistinct, slice_get-get_or, take_all, fold-append, flat_map-append, Word, Form, block, optional, type_name, type_alias, alias_actual, type_attribute, attribute_set, common, class, class_common, class_order, class_permission, class_permission_set, rule, anonymous, by_name, itself, the_named, Placed, classes, declared_in, texts, distinct, with_name, listed_by, own_permissions, has_too_many, too_many_words, kind_of, AreNumbersOf, IsFirstOf, with_number, list_at, names_listed, HasInherited, word_if, HaveWords, take-next}
+use Rattle.cil_check.proofs.Common.{◌≡◌, ℕ, ◌+◌, ◌<◌, ◌≤◌, nat_lt, Bool, true, false, List, [], ◌∷◌, ◌++◌, length, take, filter, fold, map, cond, Some, bytes_eq, get_or, refl, sym, ap, ◌∙◌, append-nil, add-one, option_to_list, IsDistinct, slice_get-get_or, take_all, fold-append, flat_map-append, Word, Form, class, rule, anonymous, itself, the_named, Placed, classes, declared_in, texts, distinct, with_name, listed_by, own_permissions, has_too_many, too_many_words, kind_of, AreNumbersOf, IsFirstOf, with_number, list_at, names_listed, HasInherited, word_if, HaveWords, take-next}
 use Rattle.std.proofs.Common.{slice_get}
 use Rattle.cil_parse.specs.declared.row.StatementKind.TheVariants as kinds
 use Rattle.cil_check.proofs.PositionLemmas.{all-at}

@@ -1,5 +1,5 @@
 -- Words with faults, one by one.
-use Rattle.cil_check.proofs.Common.{◌≡◌, ℕ, ◌<◌, zero, suc, arith, Bool, true, false, not, ◌&&◌, ◌||◌, List, [], ◌∷◌, ◌++◌, length, take, drop, filter, map, fold, Contains, ◌+◌, cond, Option, Some, None, is_some, position, bytes_eq, refl, sym, ap, ◌∙◌, subst, true≢false, if◌then◌else◌, option_or, option_and_then, option_to_list, find, list_any, none-some, same_Some, list_any-append, or-false, bytes_eq-Decides, Word, Form, block, optional, type_name, type_alias, alias_actual, type_attribute, attribute_set, common, class, class_common, class_order, class_permission, class_permission_set, rule, is_optional, Placed, Table, declares, types, classes, declared_in, is_same, is_word, same_namespace, word_text, holds_of, leads, has_name, with_name, distinct, gives_actual, actual_statement, is_alias, PolicyFault, twice, tables, is_again, twice_words, IsFaultOf, has_earlier_actual, has_earlier_common, is_unset, is_class, both_true, contains-first, IsFirstOf, IsLead, first_at, association_table, given_word, given_lead, gives, HasFirsts, word_if, again_words, Association, bytes_eq-true, around-at, at_if, any-position, is_before, any-before}
+use Rattle.cil_check.proofs.Common.{◌≡◌, ℕ, ◌<◌, zero, suc, arith, Bool, true, false, not, ◌&&◌, ◌||◌, List, [], ◌∷◌, ◌++◌, length, take, drop, filter, map, fold, Contains, ◌+◌, cond, Option, Some, None, is_some, position, bytes_eq, refl, sym, ap, ◌∙◌, subst, true≢false, if◌then◌else◌, option_or, option_and_then, option_to_list, find, list_any, none-some, same_Some, list_any-append, or-false, bytes_eq-Decides, Word, Form, alias_actual, class, class_common, is_optional, Placed, Table, declares, types, classes, declared_in, is_same, is_word, same_namespace, word_text, holds_of, leads, has_name, with_name, distinct, gives_actual, actual_statement, is_alias, PolicyFault, twice, tables, is_again, twice_words, IsFaultOf, has_earlier_actual, has_earlier_common, is_unset, is_class, both_true, contains-first, IsFirstOf, IsLead, first_at, association_table, given_word, given_lead, gives, HasFirsts, word_if, again_words, Association, bytes_eq-true, around-at, at_if, any-position, is_before, any-before}
 use Rattle.std.proofs.Common.{flat_map, option_map, slice_get}
 use Rattle.cil_check.specs.declared.firsts.Association.TheVariants as association
 use Rattle.cil_check.proofs.PositionLemmas.{position-next, position-more, any-same, find-position}

@@ -1,1 +1,0 @@
-use Rattle.cil_bind.proofs.kinds.kinds.Goals as goal

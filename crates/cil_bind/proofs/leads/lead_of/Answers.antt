@@ -1,4 +1,4 @@
-use Rattle.cil_bind.proofs.Common.{◌∙◌, sym, ap, subst, texts_of, IsLed, LeadsTo}
+use Rattle.cil_bind.proofs.Common.{sym, subst, texts_of, LeadsTo}
 use Rattle.std.proofs.lemmas.Result.{IfOk-weaker}
 use Rattle.cil_bind.proofs.leads.lead_of.Goals as goal
 

@@ -1,5 +1,5 @@
-use Rattle.cil_bind.proofs.Common.{◌≡◌, ◌<◌, ◌∷◌, ◌++◌, [], get_or, length, refl, sym, ap, ◌∙◌, subst, arith, slice_get_within, citations_of, Citation, IsBlockSpace}
-use Rattle.cil_bind.proofs.LedLemmas.{came-at, came-long, citation-at, no_citation}
+use Rattle.cil_bind.proofs.Common.{◌∷◌, ◌++◌, [], length, refl, ap, ◌∙◌, subst, arith, slice_get_within, citations_of, IsBlockSpace}
+use Rattle.cil_bind.proofs.LedLemmas.{came-at, came-long, citation-at}
 use Rattle.cil_bind.proofs.scope.Scope.add_spaces.Goals as goal
 
 pub loop-citation-init : goal.loop-citation-init

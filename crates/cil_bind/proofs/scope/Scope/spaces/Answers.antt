@@ -1,4 +1,4 @@
-use Rattle.cil_bind.proofs.Common.{◌≡◌, ◌<◌, ◌+◌, [], get_or, take, length, length-append, rules, refl, sym, ap, ◌∙◌, subst, arith, slice_get_within, joined, placed, citations_of, AreBlockSpaces, IsSpaced, Spells}
+use Rattle.cil_bind.proofs.Common.{◌≡◌, ◌<◌, [], get_or, take, length, length-append, rules, refl, sym, ap, ◌∙◌, subst, arith, slice_get_within, joined, placed, IsSpaced, Spells}
 use Rattle.cil_bind.proofs.LedLemmas.{came-at, came-long, item-at}
 use Rattle.cil_bind.proofs.PlaceLemmas.{joined-next, placed-long, spelt-at}
 use Rattle.cil_bind.proofs.SpaceLemmas.{module-spaced}
