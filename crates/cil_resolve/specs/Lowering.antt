@@ -1,5 +1,5 @@
 -- What a policy without faults means, by numbers.
-use Rattle.std.specs.Prelude.{◌≡◌, ℕ, Bool, false, not, ◌&&◌, nat_lt, List, [], ◌∷◌, map, flat_map, length, slice_get, slice_index_or, is_some, Option, Some, None, Contains, IsTrue, if◌then◌else◌}
+use Rattle.std.specs.Prelude.{◌≡◌, ℕ, Bool, false, not, ◌&&◌, nat_lt, List, [], ◌∷◌, ◌++◌, map, flat_map, length, slice_get, slice_index_or, is_some, Option, Some, None, Contains, IsTrue, if◌then◌else◌}
 use Rattle.cil_specs.specs.Joined.{Placed}
 use Rattle.std.specs.List.{list_all, find}
 use Rattle.std.specs.Option.{option_and_then}
@@ -203,6 +203,18 @@ pub record AreRules {A : Type 0} (modules names : List (List ℕ)) (policy : Lis
   pub no_lists : IsTrue (list_all numbered.keeps_no_list rules)
   pub give : (r : NumberedRule A) → Contains rules r → numbered.GivesNumbered (meaning_of policy []) modules names r
 
+-- behind some rules stands that of one statement more
+pub record AddsRule {A : Type 0} (modules names : List (List ℕ)) (policy : List Placed) (s : Placed) (before after : List (NumberedRule A)) : Type 0 where
+  pub rule : NumberedRule A
+  pub pushed : after ≡ before ++ rule ∷ []
+  pub is : AreRules modules names policy (rule ∷ []) (rule_if policy s)
+
+-- behind some classes stands that of one statement more
+pub record AddsClass {A : Type 0} (modules names : List (List ℕ)) (policy : List Placed) (s : Placed) (before after : List (NumberedClass A)) : Type 0 where
+  pub a_class : NumberedClass A
+  pub pushed : after ≡ before ++ a_class ∷ []
+  pub is : IsClass modules names a_class policy s
+
 -- what names of an expression lead to
 pub record AreElements (names : List (List ℕ)) (elements : List Element) (are : List spec.Element) : Type 0 where
   pub is : map (element_of names) elements ≡ are
@@ -221,6 +233,12 @@ pub record IsExpression {A : Type 0} (names : List (List ℕ)) (e : SetExpressio
 pub record AreSets {A : Type 0} (modules names : List (List ℕ)) (sets : List (NumberedSet A)) (are : List spec.SetStatement) : Type 0 where
   pub is : map (numbered.set_of modules names) sets ≡ are
   pub below : IsTrue (list_all (is_set_below (length names)) sets)
+
+-- behind some set statements stands that of one statement more
+pub record AddsSet {A : Type 0} (modules names : List (List ℕ)) (policy : List Placed) (s : Placed) (before after : List (NumberedSet A)) : Type 0 where
+  pub set : NumberedSet A
+  pub pushed : after ≡ before ++ set ∷ []
+  pub is : AreSets modules names (set ∷ []) (set_if policy s)
 
 -- The types, attributes, classes, set statements and rules that some statements of a policy are, and what the policy says of permission
 -- sets.

@@ -47,6 +47,7 @@ impl<A: Allocator + Copy> KnownPermissions<A> {
 
 impl<A: Allocator> KnownPermissions<A> {
     /// The numbers of a list, if they are known.
+    #[inline(always)]
     pub fn get(&self, at: ListPlace) -> Result<Option<PermissionNumbers<A>>, AllocError>
         ensures { IfOk result (λ found. found ≡ known_at self.now at.«module» at.list) }
     {

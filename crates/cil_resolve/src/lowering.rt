@@ -1,7 +1,7 @@
 //! A policy without faults by the numbers of its names.
 
 ghost use Rattle.std.specs.Prelude.{◌≡◌, ◌<◌, ◌++◌, ◌∷◌, List, [], Some, length, slice_get, slice_index_or, Contains, IsTrue, IfOk, OnOk};
-ghost use Rattle.cil_resolve.specs.Common.{Word, Placed, types, classes, permission_sets, leads, references, is_numbered, IsElement, IsLowering, IsIn, IsDeclared, IsClass, ArePartsOf, ArePermissionSets, modules_of, AreNaming, KnowNumbers, KnowSets, number_in};
+ghost use Rattle.cil_resolve.specs.Common.{Word, Placed, types, classes, permission_sets, leads, references, is_numbered, IsElement, IsLowering, IsIn, IsDeclared, IsClass, AddsClass, ArePartsOf, ArePermissionSets, modules_of, AreNaming, KnowNumbers, KnowSets, number_in};
 ghost use Rattle.cil_specs.specs.PolicyFault.{element_words};
 ghost use Rattle.cil_specs.specs.Rule.{element_of as element_led, class_name, is_class, name_or_none, permission_sets_of};
 
@@ -56,7 +56,7 @@ impl<'l, 'p, 'm, A: Allocator + Copy> Lowering<'l, 'p, 'm, A> {
         ensures { (policy : List Placed) (s : Placed) (word : Word) → IsIn self.now seen.now policy s → slice_get (references s.form) k ≡ Some (types, word) → Contains (element_words s.form) word
             → IsElement self.now.numbering.now.names.items result (element_led policy s.namespace word) }
     {
-        let place = seen.lead(k).unwrap_or(0);
+        let place = seen.lead(k).unwrap_or(u32::MAX);
         element_in(self.elements, place as usize)
     }
 
@@ -70,7 +70,7 @@ impl<'l, 'p, 'm, A: Allocator + Copy> Lowering<'l, 'p, 'm, A> {
             → number_in self.now.numbering.now.names.items
             (name_or_none permission_sets (leads policy permission_sets s.namespace word.text)) ≡ Some result }
     {
-        let place = seen.lead(k).unwrap_or(0);
+        let place = seen.lead(k).unwrap_or(u32::MAX);
         number_at(&self.numbering.places, place as usize) as usize
     }
 
@@ -103,6 +103,19 @@ impl<'l, 'p, 'm, A: Allocator + Copy> Lowering<'l, 'p, 'm, A> {
         })
     }
 
+    /// Puts the class that the statement of a place declares behind others.
+    #[inline(never)]
+    fn add_class(&self, classes: &mut Vec<NumberedClass<A>, A>, i: u32) -> Result<(), AllocError>
+        requires { (policy : List Placed) × IsLowering self.now policy × (i < length policy) }
+        ensures { OnOk result ((policy : List Placed) (s : Placed) → IsLowering self.now policy
+            → slice_get policy i ≡ Some s → IsTrue (is_class s.form)
+            → AddsClass (modules_of self.now.checker.now.bound.joined.now) self.now.numbering.now.names.items
+            policy s classes.old.items classes.new.items) }
+    {
+        classes.push(self.class_at(i)?)?;
+        Ok(())
+    }
+
     /// Takes up what the statement of a place declares or says, but for what it says of a permission set. By its kind it is told what of
     /// it is looked at.
     fn add(
@@ -123,15 +136,13 @@ impl<'l, 'p, 'm, A: Allocator + Copy> Lowering<'l, 'p, 'm, A> {
         match self.checker.bound.kind(i as usize) {
             StatementKind::TypeName => parts.types.push(self.declared(i as usize))?,
             StatementKind::TypeAttribute => parts.attributes.push(self.declared(i as usize))?,
-            StatementKind::Class => parts.classes.push(self.class_at(i)?)?,
-            StatementKind::TypeAttributeSet => parts.sets.push(self.set(i as usize)?)?,
+            StatementKind::Class => self.add_class(&mut parts.classes, i)?,
+            StatementKind::TypeAttributeSet => self.add_set(&mut parts.sets, i as usize)?,
             StatementKind::Rule(_) | StatementKind::RuleToSelf(_) => {
-                let rule = self.rule_of_class(known, i as usize)?;
-                parts.rules.push(rule)?;
+                self.add_rule_of_class(known, &mut parts.rules, i as usize)?;
             }
             StatementKind::RuleOfSet(_) | StatementKind::RuleToSelfOfSet(_) => {
-                let rule = self.rule_of_set(given, i as usize)?;
-                parts.rules.push(rule)?;
+                self.add_rule_of_set(given, &mut parts.rules, i as usize)?;
             }
             _ => {}
         }

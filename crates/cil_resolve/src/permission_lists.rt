@@ -1,7 +1,7 @@
 //! The permissions that statements name, by numbers.
 
-ghost use Rattle.std.specs.Prelude.{◌≡◌, ◌<◌, [], ℕ, List, Some, length, slice_get, slice_index_or, IsTrue, IfOk, OnOk};
-ghost use Rattle.cil_resolve.specs.Common.{list_all, Word, Placed, texts, has_name, read, texts_of, IsOneName, IsLowering, IsIn, KnowNumbers, HaveNumbers, AreListNumbers, list_at, lists_of, AreNumbersIn, listed_names, number_in};
+ghost use Rattle.std.specs.Prelude.{◌≡◌, ◌<◌, [], ℕ, List, Some, length, slice_get, slice_index_or, is_some, IsTrue, IfOk, OnOk};
+ghost use Rattle.cil_resolve.specs.Common.{list_all, Word, Placed, texts, has_name, read, texts_of, IsOneName, IsLowering, IsIn, KnowNumbers, HaveNumbers, AreListNumbers, list_at, lists_of, known_at, AreNumbersIn, listed_names, number_in};
 ghost use Rattle.cil_bind.specs.Common.{Comes};
 ghost use Rattle.cil_parse.specs.Forms.{permissions_in};
 ghost use Rattle.cil_parse.specs.Lexicon.{AreNumbersOf};
@@ -119,29 +119,23 @@ impl<'l, 'p, 'm, A: Allocator + Copy> Lowering<'l, 'p, 'm, A> {
         }
     }
 
-    /// The numbers of the permissions that the statement of a place names, one of the lists of its module, which are known then.
+    /// Makes the numbers of the permissions of all lists of the module of a place known.
     #[inline(never)]
-    fn kept_permissions(
-        &self,
-        known: &mut KnownPermissions<A>,
-        i: usize,
-    ) -> Result<PermissionNumbers<A>, AllocError>
-        requires { (policy : List Placed) × (s : Placed) × IsLowering self.now policy × (slice_get policy i ≡ Some s) }
-        ensures numbers { IfOk result (λ numbers. (policy : List Placed) (s : Placed) → IsLowering self.now policy → slice_get policy i ≡ Some s
-            → IsTrue (list_all (has_name (listed_names policy)) (texts (permissions_in s.form)))
-            → AreNumbersIn self.now.numbering.now.names.items (texts (permissions_in s.form)) numbers) }
-        ensures known { OnOk result ((policy : List Placed) → IsLowering self.now policy → KnowNumbers self.now known.new policy) }
+    fn know_lists(&self, known: &mut KnownPermissions<A>, m: usize) -> Result<(), AllocError>
+        requires lowering { (policy : List Placed) × IsLowering self.now policy }
+        requires within { m < length self.now.checker.now.bound.joined.now.modules.items }
+        ensures has { OnOk result ((n : ℕ) → n < length (lists_of self.now.checker.now.bound.joined.now m)
+            → IsTrue (is_some (known_at known.new m n))) }
+        ensures known { OnOk result ((policy : List Placed) → IsLowering self.now policy
+            → KnowNumbers self.now known.new policy) }
     {
-        let at = self.list_place(i);
-        let lists = self.module_lists(at.module)?;
-        *known = KnownPermissions::of(self.alloc, at.module, lists)?;
-        let Some(numbers) = known.get(at)? else {
-            unreachable!("the module has the list");
-        };
-        Ok(numbers)
+        let lists = self.module_lists(m)?;
+        *known = KnownPermissions::of(self.alloc, m, lists)?;
+        Ok(())
     }
 
-    /// The numbers of the permissions that the statement of a place names, which the lists of its module own together.
+    /// The numbers of the permissions that the statement of a place names, which the lists of its module own together. They are known
+    /// then.
     #[inline(always)]
     pub(crate) fn shared_permissions(
         &self,
@@ -155,9 +149,14 @@ impl<'l, 'p, 'm, A: Allocator + Copy> Lowering<'l, 'p, 'm, A> {
         ensures known { OnOk result ((policy : List Placed) (s : Placed) → IsLowering self.now policy → slice_get policy i ≡ Some s → KnowNumbers self.now known.old policy
             → KnowNumbers self.now known.new policy) }
     {
-        if let Some(numbers) = known.get(self.list_place(i))? {
+        let at = self.list_place(i);
+        if let Some(numbers) = known.get(at)? {
             return Ok(numbers);
         }
-        self.kept_permissions(known, i)
+        self.know_lists(known, at.module)?;
+        let Some(numbers) = known.get(at)? else {
+            unreachable!("the module has the list");
+        };
+        Ok(numbers)
     }
 }

@@ -47,6 +47,7 @@ impl<A: Allocator + Copy> PermissionNumbers<A> {
 impl<A: Allocator> PermissionNumbers<A> {
     /// Those of a list of several. Out of memory stands where no more owners can be counted, and for a list whose number needs more
     /// than 32 bits.
+    #[inline(always)]
     pub fn of_list(lists: &Rc<Lists<usize, A>, A>, list: usize) -> Result<Self, AllocError>
         requires { list < length (rc_value lists.now).0 }
         ensures { IfOk result (λ s. s ≡ slice_index_or (rc_value lists.now).0 list []) }

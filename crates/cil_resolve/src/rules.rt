@@ -1,9 +1,9 @@
 //! Rules by the numbers of their names.
 
-ghost use Rattle.std.specs.Prelude.{◌≡◌, ◌∷◌, [], List, Some, slice_get, IfOk, OnOk};
+ghost use Rattle.std.specs.Prelude.{◌≡◌, ◌==◌, ◌∷◌, [], length, List, Some, slice_get, IfOk, IsTrue, OnOk};
 ghost use Rattle.cil_specs.specs.Statements.{ClassPermissions, Target, rule};
 ghost use Rattle.cil_specs.specs.Statements as spec;
-ghost use Rattle.cil_resolve.specs.Common.{Word, Placed, AreRules, IsIn, IsLowering, IsRule, IsRuleOfClass, IsRuleOfSet, IsRuleStart, KnowNumbers, KnowSets, modules_of, rule_if, rule_with};
+ghost use Rattle.cil_resolve.specs.Common.{Word, Placed, AddsRule, AreRules, IsIn, IsLowering, IsRule, IsRuleOfClass, IsRuleOfSet, IsRuleStart, KnowNumbers, KnowSets, modules_of, rule_if, rule_with};
 
 use crate::given_sets::GivenSets;
 use crate::known_permissions::KnownPermissions;
@@ -53,7 +53,7 @@ impl<'l, 'p, 'm, A: Allocator + Copy> Lowering<'l, 'p, 'm, A> {
             → IsRuleStart (modules_of self.now.checker.now.bound.joined.now) self.now.numbering.now.names.items
             policy s kind source target permissions result }
     {
-        let (kind, target, reference) = match seen.view.kind {
+        let (kind, target, reference) = match self.checker.bound.kind(i) {
             StatementKind::Rule(kind) | StatementKind::RuleOfSet(kind) => {
                 (kind, ResolvedTarget::Element(self.element(seen, 1)), 2)
             }
@@ -93,6 +93,29 @@ impl<'l, 'p, 'm, A: Allocator + Copy> Lowering<'l, 'p, 'm, A> {
         Ok(start.with(ResolvedPermissions::OfClass(permissions)))
     }
 
+    /// The same of a rule that is seen, and whose permissions are a plain list.
+    #[inline(always)]
+    fn plain_rule(
+        &self,
+        known: &mut KnownPermissions<A>,
+        seen: &Seen<'p, 'm, A>,
+        i: usize,
+    ) -> Result<NumberedRule<A>, AllocError>
+        requires is { (policy : List Placed) × (s : Placed) × IsIn self.now seen.now policy s
+            × (slice_get policy i ≡ Some s) × IsRuleOfClass s.form }
+        requires plain { IsTrue (length seen.now.view.nodes.now == 0) }
+        ensures rule { IfOk result (λ rule. (policy : List Placed) (s : Placed) → IsIn self.now seen.now policy s
+            → slice_get policy i ≡ Some s → IsRuleOfClass s.form → KnowNumbers self.now known.old policy
+            → AreRules (modules_of self.now.checker.now.bound.joined.now) self.now.numbering.now.names.items
+            policy (rule ∷ []) (rule_if policy s)) }
+        ensures known { OnOk result ((policy : List Placed) (s : Placed) → IsIn self.now seen.now policy s
+            → slice_get policy i ≡ Some s → KnowNumbers self.now known.old policy → KnowNumbers self.now known.new policy) }
+    {
+        let start = self.rule_start(seen, i);
+        let permissions = self.plain_permissions(known, seen, i, start.reference)?;
+        Ok(start.with(ResolvedPermissions::OfClass(permissions)))
+    }
+
     /// The rule of a place, which gives what a permission set gives.
     pub(crate) fn rule_of_set(
         &self,
@@ -110,5 +133,74 @@ impl<'l, 'p, 'm, A: Allocator + Copy> Lowering<'l, 'p, 'm, A> {
         let start = self.rule_start(&seen, i);
         let permissions = given.find(self.number(&seen, start.reference))?;
         Ok(start.with(ResolvedPermissions::OfSet(permissions)))
+    }
+
+    /// Puts the rule of a place, which gives permissions of a class, behind others. Most have a plain list of permissions, which takes
+    /// the least code.
+    #[inline(always)]
+    pub(crate) fn add_rule_of_class(
+        &self,
+        known: &mut KnownPermissions<A>,
+        rules: &mut Vec<NumberedRule<A>, A>,
+        i: usize,
+    ) -> Result<(), AllocError>
+        requires { (policy : List Placed) × (s : Placed) × IsLowering self.now policy
+            × (slice_get policy i ≡ Some s) × IsRuleOfClass s.form }
+        ensures rule { OnOk result ((policy : List Placed) (s : Placed) → IsLowering self.now policy
+            → slice_get policy i ≡ Some s → IsRuleOfClass s.form → KnowNumbers self.now known.old policy
+            → AddsRule (modules_of self.now.checker.now.bound.joined.now) self.now.numbering.now.names.items
+            policy s rules.old.items rules.new.items) }
+        ensures known { OnOk result ((policy : List Placed) (s : Placed) → IsLowering self.now policy
+            → slice_get policy i ≡ Some s → KnowNumbers self.now known.old policy → KnowNumbers self.now known.new policy) }
+    {
+        let seen = self.checker.bound.seen(i);
+        if !seen.view.nodes.is_empty() {
+            return self.add_any_rule_of_class(known, rules, i);
+        }
+        let rule = self.plain_rule(known, &seen, i)?;
+        rules.push(rule)?;
+        Ok(())
+    }
+
+    /// The same, whatever its permissions.
+    #[inline(never)]
+    fn add_any_rule_of_class(
+        &self,
+        known: &mut KnownPermissions<A>,
+        rules: &mut Vec<NumberedRule<A>, A>,
+        i: usize,
+    ) -> Result<(), AllocError>
+        requires { (policy : List Placed) × (s : Placed) × IsLowering self.now policy
+            × (slice_get policy i ≡ Some s) × IsRuleOfClass s.form }
+        ensures rule { OnOk result ((policy : List Placed) (s : Placed) → IsLowering self.now policy
+            → slice_get policy i ≡ Some s → IsRuleOfClass s.form → KnowNumbers self.now known.old policy
+            → AddsRule (modules_of self.now.checker.now.bound.joined.now) self.now.numbering.now.names.items
+            policy s rules.old.items rules.new.items) }
+        ensures known { OnOk result ((policy : List Placed) (s : Placed) → IsLowering self.now policy
+            → slice_get policy i ≡ Some s → KnowNumbers self.now known.old policy → KnowNumbers self.now known.new policy) }
+    {
+        let rule = self.rule_of_class(known, i)?;
+        rules.push(rule)?;
+        Ok(())
+    }
+
+    /// Puts the rule of a place, which gives what a permission set gives, behind others.
+    #[inline(never)]
+    pub(crate) fn add_rule_of_set(
+        &self,
+        given: &GivenSets<A>,
+        rules: &mut Vec<NumberedRule<A>, A>,
+        i: usize,
+    ) -> Result<(), AllocError>
+        requires { (policy : List Placed) × (s : Placed) × IsLowering self.now policy
+            × (slice_get policy i ≡ Some s) × IsRuleOfSet s.form }
+        ensures { OnOk result ((policy : List Placed) (s : Placed) → IsLowering self.now policy
+            → slice_get policy i ≡ Some s → IsRuleOfSet s.form → KnowSets self.now given.now policy
+            → AddsRule (modules_of self.now.checker.now.bound.joined.now) self.now.numbering.now.names.items
+            policy s rules.old.items rules.new.items) }
+    {
+        let rule = self.rule_of_set(given, i)?;
+        rules.push(rule)?;
+        Ok(())
     }
 }

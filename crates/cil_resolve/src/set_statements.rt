@@ -1,7 +1,7 @@
 //! Set statements by the numbers of their names.
 
-ghost use Rattle.std.specs.Prelude.{◌≡◌, ◌∷◌, [], List, Some, map, slice_get, IfOk};
-ghost use Rattle.cil_resolve.specs.Common.{Word, WordExpr, leaves, map_leaves, attribute_set, Placed, types, leads, IsIn, IsLowering, AreElements, IsSet, IsExpression, AreSets, modules_of, set_if, number_in};
+ghost use Rattle.std.specs.Prelude.{◌≡◌, ◌∷◌, [], List, Some, map, slice_get, IfOk, IfSome, OnOk};
+ghost use Rattle.cil_resolve.specs.Common.{Word, WordExpr, leaves, map_leaves, attribute_set, Placed, types, leads, IsIn, IsLowering, AreElements, IsSet, IsExpression, AddsSet, AreSets, modules_of, set_if, number_in};
 ghost use Rattle.cil_specs.specs.Rule.{element_of as element_led, name_or_none};
 
 use crate::lowering::Lowering;
@@ -18,7 +18,7 @@ impl<'l, 'p, 'm, A: Allocator + Copy> Lowering<'l, 'p, 'm, A> {
         ensures { (policy : List Placed) (s : Placed) (attribute : Word) (expr : WordExpr) → IsIn self.now seen.now policy s → s.form ≡ attribute_set attribute expr
             → number_in self.now.numbering.now.names.items (name_or_none types (leads policy types s.namespace attribute.text)) ≡ Some result }
     {
-        let declared = seen.lead(0).unwrap_or(0);
+        let declared = seen.lead(0).unwrap_or(u32::MAX);
         number_at(&self.numbering.places, declared as usize) as usize
     }
 
@@ -35,35 +35,90 @@ impl<'l, 'p, 'm, A: Allocator + Copy> Lowering<'l, 'p, 'm, A> {
         Ok(elements)
     }
 
-    /// The expression of a set statement. Most are one name, alone or as the only element of a list, which takes no memory.
+    /// The expression of a set statement, if it is one name, alone or as the only element of a list: it takes no memory.
+    #[inline(always)]
+    fn short_expression(&self, seen: &Seen<'p, 'm, A>) -> Option<SetExpression<A>>
+        ensures { IfSome result (λ e. (policy : List Placed) (s : Placed) (attribute : Word) (expr : WordExpr)
+            → IsIn self.now seen.now policy s → s.form ≡ attribute_set attribute expr
+            → IsExpression self.now.numbering.now.names.items e (map_leaves (element_led policy s.namespace) expr)) }
+    {
+        if is_name(seen.view.nodes) {
+            return Some(SetExpression::named(self.element(seen, 1)));
+        }
+        if is_list_of_name(seen.view.nodes) {
+            return Some(SetExpression::listed(self.element(seen, 1)));
+        }
+        None
+    }
+
+    /// The expression of a set statement.
     fn set_expression(&self, seen: &Seen<'p, 'm, A>) -> Result<SetExpression<A>, AllocError>
         requires { (policy : List Placed) × (s : Placed) × IsIn self.now seen.now policy s × IsSet s.form }
         ensures { IfOk result (λ e. (policy : List Placed) (s : Placed) (attribute : Word) (expr : WordExpr) → IsIn self.now seen.now policy s → s.form ≡ attribute_set attribute expr
             → IsExpression self.now.numbering.now.names.items e (map_leaves (element_led policy s.namespace) expr)) }
     {
-        if is_name(seen.view.nodes) {
-            return Ok(SetExpression::named(self.element(seen, 1)));
-        }
-        if is_list_of_name(seen.view.nodes) {
-            return Ok(SetExpression::listed(self.element(seen, 1)));
-        }
         let nodes = Vec::from_slice(self.alloc, seen.view.nodes)?;
         let names = self.set_elements(seen)?;
         Ok(SetExpression::new(nodes, names))
     }
 
-    /// The set statement of a place.
-    pub(crate) fn set(&self, i: usize) -> Result<NumberedSet<A>, AllocError>
-        requires { (policy : List Placed) × (s : Placed) × IsLowering self.now policy × (slice_get policy i ≡ Some s) × IsSet s.form }
-        ensures { IfOk result (λ set. (policy : List Placed) (s : Placed) (attribute : Word) (expr : WordExpr) → IsLowering self.now policy → slice_get policy i ≡ Some s → s.form ≡ attribute_set attribute expr
-            → AreSets (modules_of self.now.checker.now.bound.joined.now) self.now.numbering.now.names.items (set ∷ []) (set_if policy s)) }
+    /// The set statement of a place, with its expression.
+    #[inline(always)]
+    fn set_with(
+        &self,
+        seen: &Seen<'p, 'm, A>,
+        i: usize,
+        expression: SetExpression<A>,
+    ) -> NumberedSet<A>
+        requires { (policy : List Placed) × (s : Placed) × IsIn self.now seen.now policy s
+            × (slice_get policy i ≡ Some s) }
+        ensures { (policy : List Placed) (s : Placed) (attribute : Word) (expr : WordExpr)
+            → IsIn self.now seen.now policy s → slice_get policy i ≡ Some s → s.form ≡ attribute_set attribute expr
+            → IsExpression self.now.numbering.now.names.items expression (map_leaves (element_led policy s.namespace) expr)
+            → AreSets (modules_of self.now.checker.now.bound.joined.now) self.now.numbering.now.names.items
+            (result ∷ []) (set_if policy s) }
     {
-        let seen = self.checker.bound.seen(i);
-        Ok(NumberedSet {
+        NumberedSet {
             module: self.module(i),
             at: seen.view.at,
-            attribute: self.attribute(&seen),
-            expression: self.set_expression(&seen)?,
-        })
+            attribute: self.attribute(seen),
+            expression,
+        }
+    }
+
+    /// Puts the set statement of a place behind others. Most have a short expression, which takes the least code.
+    #[inline(always)]
+    pub(crate) fn add_set(
+        &self,
+        sets: &mut Vec<NumberedSet<A>, A>,
+        i: usize,
+    ) -> Result<(), AllocError>
+        requires { (policy : List Placed) × (s : Placed) × IsLowering self.now policy × (slice_get policy i ≡ Some s) × IsSet s.form }
+        ensures { OnOk result ((policy : List Placed) (s : Placed) → IsLowering self.now policy
+            → slice_get policy i ≡ Some s → IsSet s.form
+            → AddsSet (modules_of self.now.checker.now.bound.joined.now) self.now.numbering.now.names.items
+            policy s sets.old.items sets.new.items) }
+    {
+        let seen = self.checker.bound.seen(i);
+        let Some(expression) = self.short_expression(&seen) else {
+            return self.add_any_set(sets, i);
+        };
+        sets.push(self.set_with(&seen, i, expression))?;
+        Ok(())
+    }
+
+    /// The same, whatever its expression.
+    #[inline(never)]
+    fn add_any_set(&self, sets: &mut Vec<NumberedSet<A>, A>, i: usize) -> Result<(), AllocError>
+        requires { (policy : List Placed) × (s : Placed) × IsLowering self.now policy × (slice_get policy i ≡ Some s) × IsSet s.form }
+        ensures { OnOk result ((policy : List Placed) (s : Placed) → IsLowering self.now policy
+            → slice_get policy i ≡ Some s → IsSet s.form
+            → AddsSet (modules_of self.now.checker.now.bound.joined.now) self.now.numbering.now.names.items
+            policy s sets.old.items sets.new.items) }
+    {
+        let seen = self.checker.bound.seen(i);
+        let expression = self.set_expression(&seen)?;
+        sets.push(self.set_with(&seen, i, expression))?;
+        Ok(())
     }
 }

@@ -1,6 +1,6 @@
 //! The permissions that rules, and statements of permission sets, give of their classes.
 
-ghost use Rattle.std.specs.Prelude.{◌≡◌, ◌==◌, ℕ, not, filter, List, Some, slice_get, IfOk, OnOk};
+ghost use Rattle.std.specs.Prelude.{◌≡◌, ◌==◌, ℕ, not, filter, length, List, Some, slice_get, IfOk, IsTrue, OnOk};
 ghost use Rattle.cil_specs.specs.Rule.{class_name};
 ghost use Rattle.cil_parse.specs.Forms.{is_plain};
 ghost use Rattle.cil_expression.specs.Expression.{expr_in};
@@ -137,6 +137,28 @@ impl<'l, 'p, 'm, A: Allocator + Copy> Lowering<'l, 'p, 'm, A> {
         if !seen.view.nodes.is_empty() {
             return self.written_at(i, k);
         }
+        self.plain_permissions(known, seen, i, k)
+    }
+
+    /// The same, where they are a plain list.
+    #[inline(always)]
+    pub(crate) fn plain_permissions(
+        &self,
+        known: &mut KnownPermissions<A>,
+        seen: &Seen<'p, 'm, A>,
+        i: usize,
+        k: usize,
+    ) -> Result<NumberedPermissions<A>, AllocError>
+        requires is { (policy : List Placed) × (s : Placed) × (the_class : Word) × (permissions : WordExpr)
+            × IsIn self.now seen.now policy s × (slice_get policy i ≡ Some s) × NamesPermissions s.form k the_class permissions }
+        requires plain { IsTrue (length seen.now.view.nodes.now == 0) }
+        ensures permissions { IfOk result (λ p. (policy : List Placed) (s : Placed) (the_class : Word) (permissions : WordExpr)
+            → IsIn self.now seen.now policy s → slice_get policy i ≡ Some s → KnowNumbers self.now known.old policy
+            → NamesPermissions s.form k the_class permissions
+            → ArePermissions self.now.numbering.now.names.items policy (class_name policy s.namespace the_class) permissions p) }
+        ensures known { OnOk result ((policy : List Placed) (s : Placed) → IsIn self.now seen.now policy s
+            → slice_get policy i ≡ Some s → KnowNumbers self.now known.old policy → KnowNumbers self.now known.new policy) }
+    {
         Ok(NumberedPermissions {
             class: self.number(seen, k),
             given: self.shared_permissions(known, i)?,

@@ -1,4 +1,4 @@
-use Rattle.cil_resolve.proofs.Common.{inl, inr, ◌∙◌, ◌∷◌, [], length, true, refl, sym, ap, if◌then◌else◌, types, declared_in, declared_as, class_as, first_true, there-at, form-set, is_name_below, is_class_below, is_set_below, numbered_id, is_numbered, modules_of, type_if, attribute_if, class_if, set_if, declared_of, class_of, set_of}
+use Rattle.cil_resolve.proofs.Common.{inl, inr, ◌∙◌, ◌∷◌, [], refl, sym, ap, types, declared_in, there-at, form-set, numbered_id, is_numbered, modules_of}
 use Rattle.cil_parse.specs.declared.row.StatementKind.TheVariants as kinds
 use Rattle.cil_specs.proofs.CircularLemmas.{attribute-word}
 use Rattle.cil_check.specs.Kinds.{is_rule_of_set}
@@ -7,8 +7,8 @@ use Rattle.cil_resolve.proofs.FormLemmas.{form-of-class, form-of-set, is_of_clas
 use Rattle.cil_resolve.proofs.PartLemmas.{declared-made, of-kind, is_rule_kind, no-type-kind, no-attribute-kind, no-class-kind, no-set-kind, no-rule-kind, adds-none, adds-one, type-added, attribute-added, class-added, parts-more, rules-stay, with-none, with-rule}
 use Rattle.cil_resolve.proofs.lowering.Lowering.add.Goals as goal
 
-pub set-requires : goal.set-requires
-set-requires g c =
+pub add_set-requires : goal.add_set-requires
+add_set-requires g c =
     let (policy, is, low) = c.requires in
     let (s, at) = there-at policy c.args.i low in (
       policy,
@@ -42,33 +42,30 @@ returns-in_ok-push-in-TypeAttribute-clause-parts g c policy statements s is at k
     parts-more modules names policy statements s parts _ so_far refl (adds-none (type-added s kind.type)) (adds-one d c.in_ok-push-in-TypeAttribute.ensures.items (attribute-added s kind.attribute ∙ ap (λ x. x ∷ []) (sym made.0)) made.1)
     (adds-none (class-added policy s kind.a_class)) (adds-none (kind.no_set refl)) (rules-stay modules names policy parts.rules.items statements s so_far.rules_are (kind.no_rule refl))
 
-pub returns-in_ok-push-in-Class-clause-parts : goal.returns-in_ok-push-in-Class-clause-parts
-returns-in_ok-push-in-Class-clause-parts g c policy statements s is at knows sets so_far =
+pub returns-in_ok-add_class-in-Class-clause-parts : goal.returns-in_ok-add_class-in-Class-clause-parts
+returns-in_ok-add_class-in-Class-clause-parts g c policy statements s is at knows sets so_far =
     let modules = modules_of c.args.self.now.checker.now.bound.joined.now in
     let names = c.args.self.now.numbering.now.names.items in
     let parts = c.args.parts.now in
     let kind = of-kind policy s kinds.Class (sym (c.kind.ensures policy s is.noted.is at) ∙ c.in-Class.is) in
-    let made = c.in_ok-class_at-in-Class.ensures policy s is at kind.a_class in
-    let x = c.in_ok-class_at-in-Class.field-0 in
+    let made = c.in_ok-add_class-in-Class.ensures policy s is at kind.a_class in
     parts-more modules names policy statements s parts _ so_far refl (adds-none (type-added s kind.type)) (adds-none (attribute-added s kind.attribute))
-    (adds-one x c.in_ok-push-in-Class.ensures.items (class-added policy s kind.a_class ∙ ap (λ y. y ∷ []) (sym made.is)) made.below) (adds-none (kind.no_set refl))
+    (adds-one made.a_class made.pushed (class-added policy s kind.a_class ∙ ap (λ y. y ∷ []) (sym made.is.is)) made.is.below) (adds-none (kind.no_set refl))
     (rules-stay modules names policy parts.rules.items statements s so_far.rules_are (kind.no_rule refl))
 
-pub returns-in_ok-push-in-TypeAttributeSet-clause-parts : goal.returns-in_ok-push-in-TypeAttributeSet-clause-parts
-returns-in_ok-push-in-TypeAttributeSet-clause-parts g c policy statements s is at knows sets so_far =
+pub returns-in_ok-add_set-in-TypeAttributeSet-clause-parts : goal.returns-in_ok-add_set-in-TypeAttributeSet-clause-parts
+returns-in_ok-add_set-in-TypeAttributeSet-clause-parts g c policy statements s is at knows sets so_far =
     let modules = modules_of c.args.self.now.checker.now.bound.joined.now in
     let names = c.args.self.now.numbering.now.names.items in
     let parts = c.args.parts.now in
     let is_kind = sym (c.kind.ensures policy s is.noted.is at) ∙ c.in-TypeAttributeSet.is in
     let kind = of-kind policy s kinds.TypeAttributeSet is_kind in
-    let (attribute, expr, form) = form-set s.form is_kind in
-    let x = c.in_ok-set-in-TypeAttributeSet.field-0 in
-    let made = c.in_ok-set-in-TypeAttributeSet.ensures policy s attribute expr is at form in
+    let made = c.in_ok-add_set-in-TypeAttributeSet.ensures policy s is at (form-set s.form is_kind) in
     parts-more modules names policy statements s parts _ so_far refl (adds-none (type-added s kind.type)) (adds-none (attribute-added s kind.attribute)) (adds-none (class-added policy s kind.a_class))
-    (record { added = x ∷ []; pushed = c.in_ok-push-in-TypeAttributeSet.ensures.items; are = made.is; fit = made.below }) (rules-stay modules names policy parts.rules.items statements s so_far.rules_are (kind.no_rule refl))
+    (record { added = made.set ∷ []; pushed = made.pushed; are = made.is.is; fit = made.is.below }) (rules-stay modules names policy parts.rules.items statements s so_far.rules_are (kind.no_rule refl))
 
-pub rule_of_class-requires : goal.rule_of_class-requires
-rule_of_class-requires g c =
+pub add_rule_of_class-requires : goal.add_rule_of_class-requires
+add_rule_of_class-requires g c =
     let (policy, is, low) = c.requires in
     let (s, at) = there-at policy c.args.i low in
     let kind = sym (c.kind.ensures policy s is.noted.is at) in (
@@ -79,8 +76,8 @@ rule_of_class-requires g c =
       form-of-class s.form (ap is_of_class kind ∙ elim c.in-Rule.is [ inl e ↦ ap is_of_class e.1 | inr e ↦ ap is_of_class e.1 ]),
     )
 
-pub rule_of_set-requires : goal.rule_of_set-requires
-rule_of_set-requires g c =
+pub add_rule_of_set-requires : goal.add_rule_of_set-requires
+add_rule_of_set-requires g c =
     let (policy, is, low) = c.requires in
     let (s, at) = there-at policy c.args.i low in
     let kind = sym (c.kind.ensures policy s is.noted.is at) in (
@@ -91,23 +88,25 @@ rule_of_set-requires g c =
       form-of-set s.form (ap is_rule_of_set kind ∙ elim c.in-RuleOfSet.is [ inl e ↦ ap is_rule_of_set e.1 | inr e ↦ ap is_rule_of_set e.1 ]),
     )
 
-pub returns-in_ok-push-in-Rule-clause-parts : goal.returns-in_ok-push-in-Rule-clause-parts
-returns-in_ok-push-in-Rule-clause-parts g c policy statements s is at knows sets so_far =
+pub returns-in_ok-add_rule_of_class-in-Rule-clause-parts : goal.returns-in_ok-add_rule_of_class-in-Rule-clause-parts
+returns-in_ok-add_rule_of_class-in-Rule-clause-parts g c policy statements s is at knows sets so_far =
     let modules = modules_of c.args.self.now.checker.now.bound.joined.now in
     let names = c.args.self.now.numbering.now.names.items in
     let kind = sym (c.kind.ensures policy s is.noted.is at) in
     let rule = form-of-class s.form (ap is_of_class kind ∙ elim c.in-Rule.is [ inl e ↦ ap is_of_class e.1 | inr e ↦ ap is_of_class e.1 ]) in
-    with-rule modules names policy statements s c.args.parts.now _ c.in_ok-rule-in-Rule.rule (ap is_rule_kind kind ∙ elim c.in-Rule.is [ inl e ↦ ap is_rule_kind e.1 | inr e ↦ ap is_rule_kind e.1 ]) so_far
-    c.in_ok-push-in-Rule.ensures.items (c.in_ok-rule-in-Rule.ensures.rule policy s is at rule knows)
+    let made = c.in_ok-add_rule_of_class-in-Rule.ensures.rule policy s is at rule knows in
+    with-rule modules names policy statements s c.args.parts.now _ made.rule (ap is_rule_kind kind ∙ elim c.in-Rule.is [ inl e ↦ ap is_rule_kind e.1 | inr e ↦ ap is_rule_kind e.1 ]) so_far
+    made.pushed made.is
 
-pub returns-in_ok-push-in-RuleOfSet-clause-parts : goal.returns-in_ok-push-in-RuleOfSet-clause-parts
-returns-in_ok-push-in-RuleOfSet-clause-parts g c policy statements s is at knows sets so_far =
+pub returns-in_ok-add_rule_of_set-in-RuleOfSet-clause-parts : goal.returns-in_ok-add_rule_of_set-in-RuleOfSet-clause-parts
+returns-in_ok-add_rule_of_set-in-RuleOfSet-clause-parts g c policy statements s is at knows sets so_far =
     let modules = modules_of c.args.self.now.checker.now.bound.joined.now in
     let names = c.args.self.now.numbering.now.names.items in
     let kind = sym (c.kind.ensures policy s is.noted.is at) in
     let rule = form-of-set s.form (ap is_rule_of_set kind ∙ elim c.in-RuleOfSet.is [ inl e ↦ ap is_rule_of_set e.1 | inr e ↦ ap is_rule_of_set e.1 ]) in
-    with-rule modules names policy statements s c.args.parts.now _ c.in_ok-rule-in-RuleOfSet.rule (ap is_rule_kind kind ∙ elim c.in-RuleOfSet.is [ inl e ↦ ap is_rule_kind e.1 | inr e ↦ ap is_rule_kind e.1 ]) so_far
-    c.in_ok-push-in-RuleOfSet.ensures.items (c.in_ok-rule-in-RuleOfSet.ensures policy s is at rule sets)
+    let made = c.in_ok-add_rule_of_set-in-RuleOfSet.ensures policy s is at rule sets in
+    with-rule modules names policy statements s c.args.parts.now _ made.rule (ap is_rule_kind kind ∙ elim c.in-RuleOfSet.is [ inl e ↦ ap is_rule_kind e.1 | inr e ↦ ap is_rule_kind e.1 ]) so_far
+    made.pushed made.is
 
 pub returns-in_default-clause-parts : goal.returns-in_default-clause-parts
 returns-in_default-clause-parts g c policy statements s is at knows sets so_far =
@@ -119,6 +118,6 @@ returns-in_default-clause-parts g c policy statements s is at knows sets so_far 
     (no-attribute-kind kind other.not-TypeAttribute) (no-class-kind kind other.not-Class) (no-set-kind kind other.not-TypeAttributeSet)
     (no-rule-kind kind other.not-Rule other.not-RuleToSelf other.not-RuleOfSet other.not-RuleToSelfOfSet) so_far
 
-pub returns-in_ok-push-in-Rule-clause-known : goal.returns-in_ok-push-in-Rule-clause-known
-returns-in_ok-push-in-Rule-clause-known g c policy s is at knows =
-    c.in_ok-rule-in-Rule.ensures.known policy s is at knows
+pub returns-in_ok-add_rule_of_class-in-Rule-clause-known : goal.returns-in_ok-add_rule_of_class-in-Rule-clause-known
+returns-in_ok-add_rule_of_class-in-Rule-clause-known g c policy s is at knows =
+    c.in_ok-add_rule_of_class-in-Rule.ensures.known policy s is at knows

@@ -1,4 +1,4 @@
-use Rattle.cil_resolve.proofs.Common.{◌≡◌, ◌∙◌, ◌∷◌, [], inl, inr, Contains, sym, ap, subst, references, element_words, target_words, contains-first, contains-other, rule_kind_of, kind_of, rule_kind, rule, seen-kind, modules_of}
+use Rattle.cil_resolve.proofs.Common.{◌≡◌, ◌∙◌, ◌∷◌, [], inl, inr, Contains, sym, ap, subst, references, element_words, target_words, contains-first, contains-other, rule_kind_of, kind_of, rule_kind, rule, modules_of}
 use Rattle.std.proofs.Common.{slice_get}
 use Rattle.cil_check.proofs.AskedLemmas.{is_to_word, is_to_self}
 use Rattle.cil_resolve.proofs.FormLemmas.{code_in, rule-code, word-aimed, self-aimed}
@@ -10,11 +10,11 @@ pub returns : goal.returns
 returns g c policy s kind source target permissions is at form =
     let modules = modules_of c.args.self.now.checker.now.bound.joined.now in
     let names = c.args.self.now.numbering.now.names.items in
-    let are = ap kind_of (sym form) ∙ sym (seen-kind c.args.seen.now policy s is.seen_is) in
+    let are = ap kind_of (sym form) ∙ sym (c.kind.ensures policy s is.lowering.noted.is at) in
     let from = c.element-2.ensures policy s source is (ap (λ f. slice_get (references f) 0) form) (subst (λ f. Contains (element_words f) source) (sym form) (contains-first source (target_words target))) in
     let placed_in = c.module.ensures policy s is.lowering at in
     let placed = is.seen_is.shown.at ∙ is.seen_is.place in
-    elim c.match-seen.branch [
+    elim c.match-kind.branch [
       | in-RuleToSelf w ↦
           let code : rule_kind kind ≡ w.in-RuleToSelf.kind = sym (rule-code kind source target permissions) ∙ ap code_in are ∙ elim w.in-RuleToSelf.is [ inl e ↦ ap code_in e | inr e ↦ ap code_in e ] in
           let aimed = self-aimed kind source target permissions (ap is_to_self are ∙ elim w.in-RuleToSelf.is [ inl e ↦ ap is_to_self e | inr e ↦ ap is_to_self e ]) in
