@@ -10,3 +10,4 @@ pub mod NumberLemmas
 pub mod ContentLemmas
 pub mod SetLemmas
 pub mod PlaceLemmas
+pub mod PairedLemmas

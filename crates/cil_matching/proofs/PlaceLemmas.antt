@@ -1,5 +1,5 @@
 -- The places of one policy's rules in another one.
-use Rattle.cil_matching.proofs.Common.{◌≡◌, ◌∙◌, ◌↔◌, ℕ, ◌<◌, Bool, true, false, true≢false, List, [], ◌∷◌, length, map, get_or, slice_get, Option, None, Some, IsTrue, refl, sym, ap, subst, arith, IsStrictlySortedBy, Equal, tied_itself, length-map, none-some, same_Some, slice_get-get_or, Rule, IsSameRule, content_of, rule_cmp, rule_total, meaning_in, SayTheSame, AreNumbers, AreSameAt, IsFoundAt, IsMissedAt, Spot, spot_cmp, rule_spot}
+use Rattle.cil_matching.proofs.Common.{◌≡◌, ◌∙◌, ◌↔◌, ℕ, ◌<◌, Bool, true, false, true≢false, List, [], ◌∷◌, length, map, get_or, slice_get, Option, None, Some, IsTrue, refl, sym, ap, subst, arith, IsStrictlySortedBy, Equal, tied_itself, length-map, none-some, same_Some, slice_get-get_or, slice_get_within, Rule, IsSameRule, content_of, rule_cmp, rule_total, meaning_in, SayTheSame, AreNumbers, AreSameAt, AreBefore, IsFoundAt, IsMissedAt, Spot, spot_cmp, rule_spot}
 use Rattle.std.specs.Bool.{then_some}
 use Rattle.cil_needs.proofs.GreatestLemmas.{all-got}
 use Rattle.cil_resolve.specs.Below.{is_rule_below, is_written_below}
@@ -60,6 +60,24 @@ module _ (olds news : List Rule) (i j : ℕ) (low : i < length olds) (sorted : I
         by : (b : Bool) → test ≡ b → (then_some b j ≡ Some k) ↔ AreSameAt IsSameRule olds news i k
         by true passes = rule-found passes k
         by false fails = rule-other fails k
+
+-- a rule that is the same as the first that doesn't stand before it
+module _ (olds news : List Rule) (i j : ℕ) (sorted : IsStrictlySortedBy rule_cmp news) (before : AreBefore rule_cmp olds news i j) (same : AreSameAt IsSameRule olds news i j) where
+  pub same-found : IsFoundAt rule_cmp olds news i j
+  same-found = record {
+    within = slice_get_within news j same.other same.there;
+    before = before;
+    alike = λ x y here there.
+        let one = same_Some same.statement x (sym same.here ∙ here) in
+        let two = same_Some same.other y (sym same.there ∙ there) in
+        (λ k. rule_cmp (sym two k) (sym one k)) ∙ same-alike same.statement same.other same.same;
+  }
+
+  pub rule-stands : (k : ℕ) → (◌≡◌ {A = Option ℕ} (Some j) (Some k)) ↔ AreSameAt IsSameRule olds news i k
+  rule-stands k = (
+    λ is. subst (AreSameAt IsSameRule olds news i) (same_Some j k is) same,
+    λ other. ap Some (sym (only-there olds news i j (slice_get_within olds i same.statement same.here) sorted same-found k other)),
+  )
 
 -- the test of two rules that stand somewhere, by their numbers
 pub contents-tell : {A : Type 0} (p q : Resolved A) (numbers : List (Option ℕ)) → AreNumbers p.names.items q.names.items numbers → (i j : ℕ) (x y : NumberedRule A) (test : Bool)

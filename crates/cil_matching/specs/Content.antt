@@ -25,6 +25,15 @@ is_that (Some (Some n)) b = n == b
 abbrev pub is_number_of : List (Option ℕ) → ℕ → ℕ → Bool
 is_number_of numbers a b = is_that (slice_get numbers a) b
 
+-- whether what a name leads to is a type, and its number
+abbrev pub is_type : Element → Bool
+is_type («Type» a) = true
+is_type (Attribute a) = false
+
+abbrev pub number_in : Element → ℕ
+number_in («Type» a) = a
+number_in (Attribute a) = a
+
 abbrev pub is_element_by : List (Option ℕ) → Element → Element → Bool
 is_element_by numbers («Type» a) («Type» b) = is_number_of numbers a b
 is_element_by numbers («Type» a) (Attribute b) = false

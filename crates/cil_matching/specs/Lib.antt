@@ -7,3 +7,4 @@ pub mod Content
 pub mod Passed
 pub mod Compared
 pub mod Walk
+pub mod Paired

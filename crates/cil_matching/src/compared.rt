@@ -18,6 +18,13 @@ pub struct Compared {
     order: Ordering,
 }
 
+/// A module of the old policy and one of the new policy, by their places.
+#[derive(Clone, Copy)]
+pub struct Modules {
+    pub old: u32,
+    pub new: u32,
+}
+
 /// How the name of the new policy's module at a place stands to that of the old one's, by a look at their names. Few are asked for, so it
 /// isn't inlined where rules are gone along.
 #[inline(never)]

@@ -5,6 +5,8 @@ mod compared;
 mod inverse;
 mod name_numbers;
 mod numbers;
+mod paired_rules;
+mod paired_sets;
 mod passed_over;
 mod positions;
 mod rule_matching;

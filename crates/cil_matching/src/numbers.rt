@@ -58,6 +58,7 @@ impl<'n> Numbers<'n> {
 }
 
 /// Whether a name of the old policy has this number in the new one.
+#[inline(always)]
 pub fn is_number(numbers: &Numbers<'_>, a: usize, b: usize) -> bool
     ensures { result ≡ is_number_of numbers.now a b }
 {

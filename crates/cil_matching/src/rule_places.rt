@@ -10,6 +10,7 @@ ghost use Rattle.cil_specs.specs.Violations.{rule_cmp};
 use crate::compared::{Compared, order_of_modules, then_offsets};
 use crate::name_numbers::name_numbers;
 use crate::numbers::Numbers;
+use crate::paired_rules::pairs_until;
 use crate::same_content::is_same_content;
 use cil_resolve::Resolved;
 use std::alloc::{AllocError, Allocator};
@@ -62,7 +63,9 @@ fn find_rule<A: Allocator>(
     Err(new.rules_len())
 }
 
-/// The place in the new policy of the same rule, where this one stands at its position.
+/// The place in the new policy of the same rule, where this one stands at its position. Few are asked for, since those behind it are gone
+/// along in pairs, so it isn't inlined.
+#[inline(never)]
 fn same<A: Allocator>(
     numbers: &Numbers<'_>,
     old: &Resolved<A>,
@@ -79,7 +82,8 @@ fn same<A: Allocator>(
 }
 
 /// For each rule of the old policy the place of the same one in the new one, if that has it. The rules of both stand in order, so it goes
-/// along them once. It isn't inlined, so that its loop has the registers for itself.
+/// along them once: where one is found, those behind it are gone along in pairs as far as they are the same. It isn't inlined, so that its
+/// loop has the registers for itself.
 #[inline(never)]
 pub fn rule_places<A: Allocator + Copy>(
     alloc: A,
@@ -93,15 +97,22 @@ pub fn rule_places<A: Allocator + Copy>(
     let mut places = Vec::with_capacity(alloc, old.rules_len())?;
     let mut known = None;
     let mut from = 0;
+    let mut until = 0;
     for i in 0..old.rules_len() {
-        match find_rule(&mut known, old, i, new, from) {
-            Ok(j) => {
-                places.push(same(&numbers, old, i, new, j))?;
-                from = j + 1;
-            }
-            Err(j) => {
-                places.push(None)?;
-                from = j;
+        if i < until {
+            places.push(Some(from))?;
+            from += 1;
+        } else {
+            match find_rule(&mut known, old, i, new, from) {
+                Ok(j) => {
+                    places.push(same(&numbers, old, i, new, j))?;
+                    until = pairs_until(&numbers, old, i, new, j);
+                    from = j + 1;
+                }
+                Err(j) => {
+                    places.push(None)?;
+                    from = j;
+                }
             }
         }
     }

@@ -4,27 +4,42 @@ ghost use Rattle.std.specs.Prelude.{◌≡◌, ◌↔◌, IsTrue, slice_get};
 ghost use Rattle.cil_expression.specs.Expression.{expr_in};
 ghost use Rattle.cil_expression.specs.Same.{all_same, are_same};
 ghost use Rattle.cil_resolve.specs.Numbers.{is_no_list, is_no_list_with, keeps_no_list};
-ghost use Rattle.cil_matching.specs.Content.{is_number_of, is_element_by, is_target_by, is_head_by, is_written_by, are_permissions_by, SayTheSame};
+ghost use Rattle.cil_matching.specs.Content.{is_number_of, is_element_by, is_type, number_in, is_target_by, is_head_by, is_written_by, are_permissions_by, SayTheSame};
 
 use crate::numbers::{Numbers, is_number};
 use cil_expression::{Element, Expression};
 use cil_resolve::{NumberedPermissions, NumberedRule, ResolvedPermissions, ResolvedTarget};
 use std::alloc::Allocator;
 
-/// Whether two numbers lead to types of one name, or to attributes of one name.
-pub fn is_element(numbers: &Numbers<'_>, x: Element, y: Element) -> bool
-    ensures { result ≡ is_element_by numbers.now x y }
+/// Whether what a name leads to is a type.
+#[inline(always)]
+fn is_type(x: Element) -> bool
+    ensures { result ≡ is_type x }
 {
-    match (x, y) {
-        (Element::Type(a), Element::Type(b)) => is_number(numbers, a as usize, b as usize),
-        (Element::Attribute(a), Element::Attribute(b)) => {
-            is_number(numbers, a as usize, b as usize)
-        },
-        _ => false,
+    matches!(x, Element::Type(_))
+}
+
+/// The number of what a name leads to.
+#[inline(always)]
+fn number_in(x: Element) -> usize
+    ensures { result ≡ number_in x }
+{
+    match x {
+        Element::Type(a) => a as usize,
+        Element::Attribute(a) => a as usize,
     }
 }
 
+/// Whether two numbers lead to types of one name, or to attributes of one name.
+#[inline(always)]
+pub fn is_element(numbers: &Numbers<'_>, x: Element, y: Element) -> bool
+    ensures { result ≡ is_element_by numbers.now x y }
+{
+    is_type(x) == is_type(y) && is_number(numbers, number_in(x), number_in(y))
+}
+
 /// Whether two targets are the same.
+#[inline(always)]
 fn is_target(numbers: &Numbers<'_>, x: ResolvedTarget, y: ResolvedTarget) -> bool
     ensures { result ≡ is_target_by numbers.now x y }
 {
@@ -36,6 +51,7 @@ fn is_target(numbers: &Numbers<'_>, x: ResolvedTarget, y: ResolvedTarget) -> boo
 }
 
 /// Whether two rules say the same but for their permissions.
+#[inline(always)]
 fn is_same_head<A: Allocator>(
     numbers: &Numbers<'_>,
     rule: &NumberedRule<A>,
@@ -49,6 +65,7 @@ fn is_same_head<A: Allocator>(
 }
 
 /// Whether as many permissions are the same, in their order.
+#[inline(always)]
 fn is_same_list(numbers: &Numbers<'_>, permissions: &[usize], others: &[usize]) -> bool
     ensures { result ≡ all_same (is_number_of numbers.now) permissions.now others.now }
 {
@@ -82,6 +99,7 @@ fn is_same_expression<A: Allocator>(
 }
 
 /// Whether permissions of a class are written the same. Those that keep no expression are a plain list, and none that keep one are.
+#[inline(always)]
 fn are_written_same<A: Allocator>(
     numbers: &Numbers<'_>,
     permissions: &NumberedPermissions<A>,
@@ -103,6 +121,7 @@ fn are_written_same<A: Allocator>(
 }
 
 /// Whether the permissions of two rules are the same: of one class and written the same, or those of one permission set.
+#[inline(always)]
 fn are_same_permissions<A: Allocator>(
     numbers: &Numbers<'_>,
     permissions: &ResolvedPermissions<A>,
@@ -125,8 +144,8 @@ fn are_same_permissions<A: Allocator>(
 }
 
 /// Whether a rule of the old policy says what one of the new policy says, by the numbers that the new policy gives the old one's names. It
-/// isn't inlined, so that its loop over permissions has the registers for itself.
-#[inline(never)]
+/// is inlined where rules are gone along in pairs.
+#[inline(always)]
 pub fn is_same_content<A: Allocator>(
     numbers: &Numbers<'_>,
     rule: &NumberedRule<A>,

@@ -9,6 +9,7 @@ ghost use Rattle.cil_matching.specs.Spot.{spot_cmp};
 use crate::compared::{Compared, order_of_modules};
 use crate::inverse::place_at;
 use crate::numbers::{Numbers, is_number};
+use crate::paired_sets::{numbered_at, pairs_until};
 use crate::positions::Position;
 use crate::same_set::is_same_set;
 use cil_resolve::{NumberedSet, Resolved, resolved_sets_are_apart};
@@ -25,15 +26,6 @@ pub fn position<A: Allocator>(resolved: &Resolved<A>, i: usize) -> Position<'_>
         module: set.module,
         offset: set.at.offset,
     }
-}
-
-/// The set statement at a place, by the numbers of its names.
-fn numbered_at<A: Allocator>(resolved: &Resolved<A>, i: usize) -> &NumberedSet<A>
-    requires { i < length (sets_in resolved.now) }
-    ensures stands { slice_get (numbered_in resolved.now) i ≡ Some result.now }
-    ensures within { IsTrue (is_set_below (length resolved.now.names.items) result.now) }
-{
-    resolved.numbered_set(i).unwrap()
 }
 
 /// For each name of a policy the first place of its set statements, if it has any.
@@ -77,6 +69,7 @@ fn order_of<A: Allocator>(
 /// The place in the new policy of the set statement that stands where the old one's at a place does, or
 /// where to look for those behind it. It looks from a place on, and passes over what stands before that
 /// position and is of the same attribute.
+#[inline(never)]
 fn find_from<A: Allocator>(
     known: &mut Option<Compared>,
     numbers: &Numbers<'_>,
@@ -89,6 +82,7 @@ fn find_from<A: Allocator>(
     requires known { IfSome known.old (AreCompared old.now new.now) }
     ensures known { IfSome known.new (AreCompared old.now new.now) }
     ensures ok { IfOk result (StandAlike old.now new.now i) }
+    ensures within { IfOk result (λ j. j < length (sets_in new.now)) }
 {
     for j in next..new.sets_len() {
         match order_of(known, old, i, new, j) {
@@ -109,6 +103,7 @@ fn find_from<A: Allocator>(
 /// The place in the new policy of the same set statement, if it is the place that is given, where one
 /// stands at its position. Given the place of the one at its position, it finds it wherever the new
 /// policy has it.
+#[inline(never)]
 pub fn same<A: Allocator>(
     numbers: &Numbers<'_>,
     old: &Resolved<A>,
@@ -147,7 +142,8 @@ fn beginning(
 /// For each set statement of the old policy the place of the same one in the new one, where a walk
 /// along both finds it. The statements of an attribute stand together, in the order of their positions
 /// in both. Where the old policy comes to its next attribute, the walk goes on from the first statement
-/// of that in the new one, if it has any.
+/// of that in the new one, if it has any. Behind one that is found, statements are gone along in pairs
+/// as far as they are the same.
 pub fn walk<A: Allocator + Copy>(
     alloc: A,
     numbers: &Numbers<'_>,
@@ -163,18 +159,28 @@ pub fn walk<A: Allocator + Copy>(
     let mut known = None;
     let mut attribute = None;
     let mut next = 0;
+    let mut until = 0;
     for i in 0..old.sets_len() {
-        let current = old.set_attribute(i);
-        if current != attribute {
-            attribute = current;
-            next = beginning(numbers, &begins, attribute).unwrap_or(next);
+        if i < until {
+            places.push(Some(next))?;
+            next += 1;
+        } else {
+            let current = old.set_attribute(i);
+            if current != attribute {
+                attribute = current;
+                next = beginning(numbers, &begins, attribute).unwrap_or(next);
+            }
+            let found = find_from(&mut known, numbers, old, i, new, next);
+            places.push(same(numbers, old, i, new, found.ok()))?;
+            match found {
+                Ok(j) => {
+                    until = pairs_until(numbers, old, i, new, j);
+                    attribute = old.set_attribute(until - 1);
+                    next = j + 1;
+                }
+                Err(j) => next = j,
+            }
         }
-        let found = find_from(&mut known, numbers, old, i, new, next);
-        places.push(same(numbers, old, i, new, found.ok()))?;
-        next = match found {
-            Ok(j) => j.saturating_add(1),
-            Err(j) => j,
-        };
     }
     Ok(places)
 }
