@@ -1,5 +1,5 @@
 -- A rule's counters moved by what it reaches and permits.
-use Rattle.cil_table_updates.proofs.Common.{◌≡◌, ℕ, ◌&&◌, Bool, true, false, List, Some, slice_get, subst, refl, sym, ap, ◌∙◌, same_Some, is_kind, SymbolKey, NumberedRule, aims_by, covers_by, has_by, permits_by, granted, has_permit, has_source, one_if, reaches, takes, Permit, Reach, given, gives_by, IsReplaced, PermitTheSame, StaysReach, Policy}
+use Rattle.cil_table_updates.proofs.Common.{◌≡◌, ℕ, ◌&&◌, Bool, true, false, List, Some, slice_get, subst, refl, sym, ap, ◌∙◌, same_Some, is_kind, SymbolKey, NumberedRule, aims_by, covers_by, has_by, permits_by, granted, has_permit, has_source, one_if, reaches, takes, Permit, Reach, given, gives_by, IsReplaced, PermitTheSame, StaysReach, Policy, is_plain_list}
 use Rattle.cil_recorded.specs.Recorded.{State}
 use Rattle.cil_text.specs.declared.statement.RuleKind.{RuleKind}
 use Rattle.cil_table_updates.proofs.GivenLemmas.{given-rule}
@@ -42,3 +42,11 @@ module _ {A : Type 0} (rows : State) (old : Policy A) (i : ℕ) (new : Policy A)
       ∙ ap one_if (covers-same (subst (StaysReach rows new.numbering.now.symbols) second stays)
       (subst (λ (r : NumberedRule A). PermitTheSame old r new replaced.new_rule) first (subst (λ (r : NumberedRule A). PermitTheSame old one new r) second permits)) key t)
       ∙ sym (given-rule new key t j replaced.new_rule replaced.there)
+
+  -- so does one with a plain list that reaches what it did
+  pub plainly-given : (rule : NumberedRule A) → slice_get new.resolved.now.rules.items j ≡ Some rule → is_plain_list rule ≡ true → StaysReach rows new.numbering.now.symbols rule
+      → (key : SymbolKey) (t : ℕ) → given old key t i ≡ given new key t j
+  plainly-given rule there plain stays key t =
+      let second = same_Some rule replaced.new_rule (sym there ∙ replaced.there) in
+      let permits = replaced.permits (subst (λ (r : NumberedRule A). is_plain_list r ≡ true) second plain) in
+      stays-given replaced.old_rule rule replaced.here there stays (subst (λ (r : NumberedRule A). PermitTheSame old replaced.old_rule new r) (sym second) permits) key t

@@ -6,7 +6,7 @@ ghost use Rattle.cil_table_updates.specs.Common.{evaluations_in, below, AreLower
 use crate::changed_rows::ChangedRows;
 use crate::moves::{PolicyRule, put_rule, replace_rule, take_rule};
 use crate::policy::Policy;
-use crate::staying::rule_stays;
+use crate::staying::{plainly_stays, rule_stays};
 use crate::staying_sets::StayingSets;
 use cil_keyed_lines::KeyedLines;
 use cil_matching::RuleMatching;
@@ -160,15 +160,15 @@ fn put_or_replace<A: Allocator + Copy>(
         meter.old meter.new) }
     ensures evaluations { evaluations_in meter.new ≡ evaluations_in meter.old }
 {
+    let rule = &update.new.resolved.rules()[j];
     match update.matching.old_place(j) {
-        Some(i) => replace_changed(lines, alloc, &Stayed { update, i, j }, meter),
-        None => put_rule(
-            lines,
-            alloc,
-            update.new,
-            &update.new.resolved.rules()[j],
-            meter,
-        ),
+        Some(i) => {
+            if plainly_stays(update.changed, update.new.numbering, rule) {
+                return Ok(());
+            }
+            replace_changed(lines, alloc, &Stayed { update, i, j }, meter)
+        }
+        None => put_rule(lines, alloc, update.new, rule, meter),
     }
 }
 

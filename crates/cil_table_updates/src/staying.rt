@@ -1,6 +1,7 @@
 //! Rules that give what they did.
 
-ghost use Rattle.std.specs.Prelude.{◌≡◌, true, IfOk};
+ghost use Rattle.std.specs.Prelude.{◌≡◌, true, length, IfOk, IsTrue};
+ghost use Rattle.cil_resolve.specs.Below.{is_rule_below};
 ghost use Rattle.cil_table_updates.specs.Changed.{StaysReach};
 ghost use Rattle.cil_table_updates.specs.Common.{is_plain_list, AreAlike, AreStaying, IsRuleOf, PermitTheSame};
 
@@ -8,8 +9,33 @@ use crate::changed_rows::ChangedRows;
 use crate::moves::PolicyRule;
 use crate::same_permits::same_permits;
 use crate::staying_sets::StayingSets;
-use cil_resolve::ResolvedPermissions;
+use cil_resolve::{NumberedRule, ResolvedPermissions};
+use cil_symbols::Numbering;
 use std::alloc::{AllocError, Allocator};
+
+/// Whether a rule has its permissions by a plain list.
+fn is_plain<A: Allocator>(rule: &NumberedRule<A>) -> bool
+    ensures { result ≡ is_plain_list rule.now }
+{
+    match &rule.permissions {
+        ResolvedPermissions::OfClass(of) => of.written.is_none(),
+        ResolvedPermissions::OfSet(_) => false,
+    }
+}
+
+/// Whether a rule of a policy has its permissions by a plain list, and reaches what it did. This is so of most rules, and is told without
+/// a look at the old policy.
+pub fn plainly_stays<A: Allocator>(
+    changed: &ChangedRows<'_, A>,
+    numbering: &Numbering<A>,
+    rule: &NumberedRule<A>,
+) -> bool
+    requires { IsTrue (is_rule_below (length numbering.now.symbols) rule.now) }
+    ensures plain { result ≡ true → is_plain_list rule.now ≡ true }
+    ensures reach { result ≡ true → StaysReach changed.now numbering.now.symbols rule.now }
+{
+    is_plain(rule) && changed.reach_stays(numbering, rule)
+}
 
 /// Whether a rule of the new policy permits what the same one of the old policy did. A plain list
 /// names what it permits; of a permission set the answer is known; of another expression the

@@ -1,8 +1,37 @@
-use Rattle.cil_table_updates.proofs.Common.{◌≡◌, ◌+◌, ◌≤◌, ◌==◌, ◌∙◌, false, sym, ap, add-zero, arith, length, not, slice_get, subst, Some, on_ok_weaker, is_rule_below, adjustments_in, rises-same, across-none, across-some, count_now, gives_it, swaps, turns, given}
-use Rattle.cil_table_updates.proofs.AdjustedLemmas.{counted-other}
+use Rattle.cil_table_updates.proofs.Common.{◌≡◌, ◌+◌, ◌≤◌, ◌==◌, ◌∙◌, false, sym, ap, add-zero, arith, length, not, slice_get, subst, Some, on_ok_weaker, is_rule_below, adjustments_in, rises-none, rises-same, across, across-none, across-some, count_now, gives_it, swaps, turns, given}
+use Rattle.cil_table_updates.proofs.AdjustedLemmas.{counted-other, no-other}
 use Rattle.cil_table_updates.proofs.GivenLemmas.{given-rule}
+use Rattle.cil_table_updates.proofs.MoveLemmas.{plainly-given}
 use Rattle.cil_table_updates.proofs.PlaceLemmas.{never, passes-at, read-at}
 use Rattle.cil_table_updates.proofs.passes.put_or_replace.Goals as goal
+
+pub plainly_stays-requires : goal.plainly_stays-requires
+plainly_stays-requires g c =
+    passes-at (is_rule_below (length c.args.update.now.new.now.numbering.now.symbols)) c.args.update.now.new.now.resolved.now.rules.items c.args.j c.index-rules-j.result c.requires.new_ready.below
+    (read-at c.rules.result.now c.args.update.now.new.now.resolved.now.rules.items c.args.j c.index-rules-j.result c.rules.ensures.rules c.requires.within c.index-rules-j.is)
+
+pub returns-then-plainly_stays-clause-now : goal.returns-then-plainly_stays-clause-now
+returns-then-plainly_stays-clause-now g c key t =
+    let old = c.args.update.now.old.now in
+    let new = c.args.update.now.new.now in
+    let at = (c.old_place.ensures c.in-Some.i).0 c.in-Some.is in
+    let read = read-at c.rules.result.now new.resolved.now.rules.items c.args.j c.index-rules-j.result c.rules.ensures.rules c.requires.within c.index-rules-j.is in
+    ap (λ n. count_now c.args.lines.now key t + n)
+    (across-some (given old key t) c.args.update.now.matching.now.back c.in-Some.i c.args.j at
+    ∙ plainly-given c.args.update.now.changed.now old c.in-Some.i new c.args.j (c.requires.matched c.in-Some.i c.args.j at) c.index-rules-j.result read
+    (c.plainly_stays.ensures.plain c.if-plainly_stays.true) (c.plainly_stays.ensures.reach c.if-plainly_stays.true) key t)
+
+pub returns-then-plainly_stays-clause-adjustments : goal.returns-then-plainly_stays-clause-adjustments
+returns-then-plainly_stays-clause-adjustments g c =
+    let old = c.args.update.now.old.now in
+    let new = c.args.update.now.new.now in
+    let at = (c.old_place.ensures c.in-Some.i).0 c.in-Some.is in
+    let read = read-at c.rules.result.now new.resolved.now.rules.items c.args.j c.index-rules-j.result c.rules.ensures.rules c.requires.within c.index-rules-j.is in
+    rises-none (turns old new c.args.update.now.matching.now c.args.j) (adjustments_in c.args.meter.now)
+    (λ x. no-other (across (given old x.key x.target) c.args.update.now.matching.now.back c.args.j) (given new x.key x.target c.args.j)
+    (across-some (given old x.key x.target) c.args.update.now.matching.now.back c.in-Some.i c.args.j at
+    ∙ plainly-given c.args.update.now.changed.now old c.in-Some.i new c.args.j (c.requires.matched c.in-Some.i c.args.j at) c.index-rules-j.result read
+    (c.plainly_stays.ensures.plain c.if-plainly_stays.true) (c.plainly_stays.ensures.reach c.if-plainly_stays.true) x.key x.target))
 
 pub replace_changed-requires-clause-replaced : goal.replace_changed-requires-clause-replaced
 replace_changed-requires-clause-replaced g c = c.requires.matched c.in-Some.i c.args.j ((c.old_place.ensures c.in-Some.i).0 c.in-Some.is)
@@ -18,8 +47,8 @@ put_rule-requires-clause-below g c =
     passes-at (is_rule_below (length c.args.update.now.new.now.numbering.now.symbols)) c.args.update.now.new.now.resolved.now.rules.items c.args.j c.index-rules-j.result c.requires.new_ready.below
     (read-at c.rules.result.now c.args.update.now.new.now.resolved.now.rules.items c.args.j c.index-rules-j.result c.rules.ensures.rules c.requires.within c.index-rules-j.is)
 
-pub returns-in-Some-clause-now : goal.returns-in-Some-clause-now
-returns-in-Some-clause-now g c =
+pub returns-else-plainly_stays-clause-now : goal.returns-else-plainly_stays-clause-now
+returns-else-plainly_stays-clause-now g c =
     on_ok_weaker c.replace_changed.result
     (λ moved key t.
     ap (λ n. count_now c.replace_changed.new.lines key t + n)
@@ -41,8 +70,8 @@ returns-in-None-clause-now g c =
     (read-at c.rules.result.now c.args.update.now.new.now.resolved.now.rules.items c.args.j c.index-rules-j.result c.rules.ensures.rules c.requires.within c.index-rules-j.is))))
     c.put_rule.ensures.now
 
-pub returns-in-Some-clause-adjustments : goal.returns-in-Some-clause-adjustments
-returns-in-Some-clause-adjustments g c =
+pub returns-else-plainly_stays-clause-adjustments : goal.returns-else-plainly_stays-clause-adjustments
+returns-else-plainly_stays-clause-adjustments g c =
     let old = c.args.update.now.old.now in
     let new = c.args.update.now.new.now in
     on_ok_weaker c.replace_changed.result
