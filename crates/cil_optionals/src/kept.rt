@@ -6,8 +6,9 @@ ghost use Rattle.cil_bind.specs.Policy.{IsBoundTo};
 ghost use Rattle.cil_bind.specs.Nested.{AreNested};
 ghost use Rattle.cil_optionals.specs.Nested.{ShowsKept};
 
+use crate::listed::Listed;
 use crate::others::others;
-use crate::providers::providers;
+use crate::told::tell_all;
 use cil_bind::{Joined, Policy, Row};
 use cil_names::counted_in_32_bits;
 use cil_needs::{Need, greatest_set};
@@ -37,8 +38,10 @@ fn all_needs<'m, A: Allocator + Copy>(
     requires ready { (all : List Placed) × IsReady policy.now joined.now.modules.items all }
     ensures { IfOk result (λ needs. (all : List Placed) → IsReady policy.now joined.now.modules.items all → AreNeeds all policy.now.rows.items needs.items) }
 {
-    let mut needs = providers(alloc, policy)?;
-    let more = others(alloc, joined, policy)?;
+    let mut listed = Listed::new(alloc, joined.seed);
+    let mut needs = Vec::new(alloc);
+    tell_all(alloc, joined, policy, &mut listed, &mut needs)?;
+    let more = others(alloc, joined, policy, &listed)?;
     needs.extend(more)?;
     Ok(needs)
 }

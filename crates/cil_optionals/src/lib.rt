@@ -8,5 +8,6 @@ mod others;
 mod permissions;
 mod providers;
 mod references;
+mod told;
 
 pub use kept::kept_optionals;

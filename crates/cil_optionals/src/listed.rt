@@ -1,7 +1,7 @@
 //! What classes and commons list, and the commons that are given to classes.
 
 ghost use Rattle.std.specs.Prelude.{◌≡◌, ◌<◌, ◌+◌, ◌&&◌, ◌||◌, ◌==◌, ◌++◌, ◌∷◌, ℕ, [], List, Some, map, length, bytes_eq, position, slice_get, IfOk, OnOk};
-ghost use Rattle.cil_optionals.specs.Common.{list_any, Word, Placed, has_name, texts, read, texts_of, HavePermissions, IsReady};
+ghost use Rattle.cil_optionals.specs.Common.{list_any, Word, Placed, has_name, texts, read, texts_of, IsReady};
 ghost use Rattle.std.specs.Cmp.Rules.{hashing};
 ghost use Rattle.std.specs.Hash as fed;
 ghost use Rattle.std.proofs.Common.{rules};
@@ -54,14 +54,14 @@ pub struct Listed<'m, A: Allocator = Global> {
 }
 
 /// Whether statements of a kind list permissions of their own.
-fn lists_own(kind: StatementKind) -> bool
+pub fn lists_own(kind: StatementKind) -> bool
     ensures { result ≡ lists_own_kind kind }
 {
     matches!(kind, StatementKind::Class | StatementKind::Common)
 }
 
 /// Whether statements of a kind give a common to a class.
-fn gives_common(kind: StatementKind) -> bool
+pub fn gives_common(kind: StatementKind) -> bool
     ensures { result ≡ gives_common_kind kind }
 {
     matches!(kind, StatementKind::ClassCommon)
@@ -107,27 +107,8 @@ impl<'m, A: Allocator + Copy> Listed<'m, A> {
         }
     }
 
-    /// Takes up what the statements of a policy list and give.
-    pub fn add_all(
-        &mut self,
-        alloc: A,
-        joined: &Joined<'m, A>,
-        policy: &Policy<'m, A>,
-    ) -> Result<(), AllocError>
-        requires ready { (all : List Placed) × IsReady policy.now joined.now.modules.items all }
-        requires none { (all : List Placed) → IsReady policy.now joined.now.modules.items all → IsUpTo all 0 self.old }
-        requires inverse { IsInverse self.old }
-        ensures have { OnOk result ((all : List Placed) → IsReady policy.now joined.now.modules.items all → HavePermissions all (permissions_in self.new)) }
-        ensures inverse { OnOk result (IsInverse self.new) }
-    {
-        for i in 0..policy.rows.len() {
-            self.add(alloc, joined, policy, i)?;
-        }
-        Ok(())
-    }
-
     /// Takes up the permissions that the statement at a place lists, or the common that it gives to a class.
-    fn add(
+    pub fn add(
         &mut self,
         alloc: A,
         joined: &Joined<'m, A>,

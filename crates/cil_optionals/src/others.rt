@@ -3,7 +3,7 @@
 ghost use Rattle.std.specs.Prelude.{◌≡◌, ◌≢◌, ◌<◌, ◌+◌, ◌&&◌, ℕ, List, Some, length, slice_get, IfOk, IsTrue, OnOk};
 ghost use Rattle.cil_optionals.specs.Common.{Placed, restricted, NamedModule, are_found, are_there, optional_at, Asks, AreOthers, AreOthersTo, HasUnmet, HavePermissions, IsReady};
 ghost use Rattle.cil_specs.specs.Lookup.{references as references_of, named_permissions};
-ghost use Rattle.cil_optionals.specs.Given.{permissions_in, IsInverse, IsUpTo};
+ghost use Rattle.cil_optionals.specs.Given.{permissions_in, IsInverse};
 
 use crate::listed::Listed;
 use crate::modules::module_of;
@@ -114,7 +114,7 @@ fn others_by<'m, A: Allocator + Copy>(
 }
 
 /// What the statements in optionals need, and the optionals inside others, by what the policy's statements list and give.
-fn others_by_listed<'m, A: Allocator + Copy>(
+pub fn others<'m, A: Allocator + Copy>(
     alloc: A,
     joined: &Joined<'m, A>,
     policy: &Policy<'m, A>,
@@ -127,33 +127,4 @@ fn others_by_listed<'m, A: Allocator + Copy>(
 {
     let mut permissions = Permissions::of(alloc, listed, joined)?;
     others_by(alloc, joined, policy, &mut permissions)
-}
-
-/// What the statements in optionals need, and the optionals inside others, where nothing is taken up yet.
-fn others_listed<'m, A: Allocator + Copy>(
-    alloc: A,
-    joined: &Joined<'m, A>,
-    policy: &Policy<'m, A>,
-    listed: &mut Listed<'m, A>,
-) -> Result<Vec<Need, A>, AllocError>
-    requires ready { (all : List Placed) × IsReady policy.now joined.now.modules.items all }
-    requires none { (all : List Placed) → IsReady policy.now joined.now.modules.items all → IsUpTo all 0 listed.old }
-    requires inverse { IsInverse listed.old }
-    ensures { IfOk result (λ needs. (all : List Placed) → IsReady policy.now joined.now.modules.items all → AreOthers all policy.now.rows.items needs.items) }
-{
-    listed.add_all(alloc, joined, policy)?;
-    others_by_listed(alloc, joined, policy, listed)
-}
-
-/// What the statements in optionals need, and the optionals inside others.
-pub fn others<'m, A: Allocator + Copy>(
-    alloc: A,
-    joined: &Joined<'m, A>,
-    policy: &Policy<'m, A>,
-) -> Result<Vec<Need, A>, AllocError>
-    requires ready { (all : List Placed) × IsReady policy.now joined.now.modules.items all }
-    ensures { IfOk result (λ needs. (all : List Placed) → IsReady policy.now joined.now.modules.items all → AreOthers all policy.now.rows.items needs.items) }
-{
-    let mut listed = Listed::new(alloc, joined.seed);
-    others_listed(alloc, joined, policy, &mut listed)
 }

@@ -1,6 +1,6 @@
 //! What the nodes of names need.
 
-ghost use Rattle.std.specs.Prelude.{◌≡◌, ◌<◌, ◌+◌, ◌^◌, ℕ, List, false, length, IfOk, OnOk, IsTrue};
+ghost use Rattle.std.specs.Prelude.{◌≡◌, ◌<◌, ◌+◌, ◌^◌, ℕ, List, false, length, OnOk, IsTrue};
 ghost use Rattle.cil_optionals.specs.Common.{Placed, word_at, namespace_at, table_of, Knows, IsLead, NamedModule};
 ghost use Rattle.cil_parse.specs.declared.table.Table.TheVariants.{Scopes};
 ghost use Rattle.cil_optionals.specs.Providers.{node_of_name, further_out as looked_further, IsReady, AreProviders};
@@ -44,7 +44,7 @@ fn is_scopes(table: Table) -> bool
 
 /// Puts what the name that a statement declares needs behind others: the optional around the statement, or what the name leads to further
 /// out. Outside optionals it needs nothing. Most statements are of kinds that declare no name.
-fn provide<A: Allocator + Copy>(
+pub fn provide<A: Allocator + Copy>(
     policy: &Policy<'_, A>,
     i: usize,
     needs: &mut Vec<Need, A>,
@@ -74,20 +74,4 @@ fn provide<A: Allocator + Copy>(
         second: name_node(policy.rows.len(), next),
     })?;
     Ok(())
-}
-
-/// What the names that statements in optionals declare need.
-pub fn providers<A: Allocator + Copy>(
-    alloc: A,
-    policy: &Policy<'_, A>,
-) -> Result<Vec<Need, A>, AllocError>
-    requires ready { (parsed : List (NamedModule _)) × (all : List Placed) × IsReady policy.now parsed all }
-    ensures { IfOk result (λ needs. (parsed : List (NamedModule _)) (all : List Placed) → IsReady policy.now parsed all
-        → AreProviders all policy.now.rows.items (length all) needs.items) }
-{
-    let mut needs = Vec::new(alloc);
-    for i in 0..policy.rows.len() {
-        provide(policy, i, &mut needs)?;
-    }
-    Ok(needs)
 }

@@ -1,4 +1,6 @@
+use Rattle.cil_optionals.proofs.Common.{sym, subst, IfOk-weaker, permissions_in, HavePermissions}
 use Rattle.cil_optionals.proofs.others.others.Goals as goal
 
-pub others_listed-requires-clause-none : goal.others_listed-requires-clause-none
-others_listed-requires-clause-none g c = λ all ready. c.new-listed.ensures.up_to all
+pub returns : goal.returns
+returns g c =
+    IfOk-weaker c.others_by.result _ _ (λ needs others all ready have. others all ready (subst (λ l. HavePermissions all (permissions_in l)) (sym c.in_ok-permissions.ensures.listed) have)) c.others_by.ensures
