@@ -5,15 +5,17 @@ ghost use Rattle.std.specs.Prelude.{◌≡◌, ◌≤◌, ◌*◌, ◌-◌, ◌^
 ghost use Rattle.cil_keyed_lines.specs.Keyed.{of_keys, steps_in, RiseAtMost, StaysBefore};
 ghost use Rattle.cil_keyed_lines.specs.Moves.{came, ones_of, went};
 ghost use Rattle.cil_rule_shifts.specs.Amounts.{AreMoved};
-ghost use Rattle.cil_rule_shifts.specs.Groups.{is_among, AreShifted, ArePlain, CanMove, CanShift};
+ghost use Rattle.cil_rule_shifts.specs.Groups.{is_among, AreShifted, ArePlain, AreMovesOf, CanMove, CanShift};
+ghost use Rattle.cil_rule_shifts.specs.Reach.{takes};
 
 use crate::head::RuleHead;
 use crate::keys::{keys_of, keys_of_source};
-use crate::moved::moved_of;
+use crate::moved::{moved_of, only_move};
 use crate::reach::{Sources, has_sources, next_source};
 use crate::targets::Targets;
 use cil_keyed_lines::{KeyedLines, Moved, SymbolKey};
 use std::alloc::{AllocError, Allocator, Global};
+use std::slice::from_ref;
 
 /// Some sources of a rule with the targets that they had and those that they have, and whether their
 /// counters move for good. Otherwise the steps are logged, so that they can be taken back.
@@ -64,12 +66,31 @@ impl<A: Allocator + Copy> Group<'_, A> {
         requires group { CanShift (is_among self.sources) self lines.old }
         ensures { AreShifted (is_among self.entry.sources) self.entry lines.old lines.new result }
     {
+        if let Some(step) = only_move(0, self.was, self.is) {
+            return self.shift_by(lines, alloc, from_ref(&step));
+        }
         let moved = moved_of(alloc, 0, self.was, self.is)?;
         if moved.is_empty() {
             return Ok(0);
         }
+        self.shift_by(lines, alloc, &moved)
+    }
+
+    /// The same, by what moves at each source.
+    fn shift_by(
+        self,
+        lines: &mut KeyedLines<A>,
+        alloc: A,
+        moved: &[Moved],
+    ) -> Result<u128, AllocError>
+        requires alike { ArePlain self.was.now }
+        requires alike_now { ArePlain self.is.now }
+        requires group { CanShift (is_among self.sources) self lines.old }
+        requires moves { AreMovesOf (takes self.was.now 0) (takes self.is.now 0) moved.now }
+        ensures { AreShifted (is_among self.entry.sources) self.entry lines.old lines.new result }
+    {
         let keys = keys_of(alloc, self.sources, self.head)?;
-        shift_keys(lines, alloc, &keys, &moved, self.for_good)
+        shift_keys(lines, alloc, &keys, moved, self.for_good)
     }
 
     /// Moves the counters of the keys of one source from the targets that it had to those that it

@@ -50,6 +50,7 @@ pub struct Sources<'r, A: Allocator = Global> {
 }
 
 /// The sources of a word.
+#[inline(always)]
 fn mask<A: Allocator + Copy>(sources: Sources<'_, A>, word: usize) -> u64
     ensures { IsMask (is_among sources.entry) word result }
 {

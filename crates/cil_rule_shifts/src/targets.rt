@@ -33,6 +33,7 @@ impl<A: Allocator> Targets<A> {
     }
 
     /// The targets of a word that a source has.
+    #[inline(always)]
     pub fn word(&self, source: usize, word: usize) -> u64
         requires { word < 2 ^ 58 }
         ensures { (t : ℕ)

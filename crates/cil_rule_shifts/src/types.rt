@@ -1,6 +1,6 @@
 //! Some types.
 
-ghost use Rattle.std.specs.Prelude.{◌≡◌, ℕ, false, nat_eq};
+ghost use Rattle.std.specs.Prelude.{◌≡◌, ◌==◌, ℕ, false, nat_eq, IfSome};
 ghost use Rattle.cil_rule_shifts.specs.Reach.{has_type, IsFirstWord, IsMask};
 
 use cil_lines::Line;
@@ -28,6 +28,7 @@ impl<A: Allocator + Copy> Types<A> {
 
 impl<A: Allocator> Types<A> {
     /// The types of a word.
+    #[inline(always)]
     pub fn word(&self, word: usize) -> u64
         ensures { IsMask (has_type self.now) word result }
     {
@@ -47,6 +48,16 @@ impl<A: Allocator> Types<A> {
         }
     }
 
+    /// The only type, where it is told at once: that of one alone.
+    pub fn only(&self) -> Option<usize>
+        ensures { IfSome result (λ ty. (t : ℕ) → has_type self.now t ≡ (ty == t)) }
+    {
+        match self {
+            Types::One(one) => Some(*one),
+            Types::Many(_) => None,
+        }
+    }
+
     /// The first word from one on that has some of the types.
     pub fn next_word(&self, from: usize) -> Option<usize>
         ensures { IsFirstWord (has_type self.now) from result }
@@ -59,6 +70,7 @@ impl<A: Allocator> Types<A> {
 }
 
 /// The bit of a number in a word.
+#[inline(always)]
 pub fn bit_of(number: usize, word: usize) -> u64
     ensures { IsMask (nat_eq number) word result }
 {
