@@ -2,7 +2,7 @@
 pub use Rattle.cil_keyed_lines.specs.Names.{AreLogged, AreNames, IsOf, Naming, has_place, name_before, name_now, named_back, one_if, times, unnamed, uses}
 pub use Rattle.cil_keyed_lines.specs.declared.names.Rename.{Rename}
 pub use Rattle.cil_keyed_lines.specs.declared.named.Named.{Named}
-pub use Rattle.std.proofs.Common.{Bool, Err, IfSome, List, MatchOption, None, Ok, OnErr, OnOk, Option, Result, Some, [], ap, arith, bit_and, cond, drop, eq-eqb, eqb-true, false, get_or, if◌then◌else◌, inl, inr, length, nat_lt, position, refl, reverse, rules, set, slice_get, subst, suc, sym, take, true, true≢false, w64, zero, ℕ, ◌%◌, ◌&&◌, ◌*◌, ◌++◌, ◌+◌, ◌-◌, ◌/◌, ◌<◌, ◌==◌, ◌^◌, ◌||◌, ◌∙◌, ◌∷◌, ◌≡◌, ◌≢◌, ◌≤◌, ◌⊎◌}
+pub use Rattle.std.proofs.Common.{Bool, Err, IfSome, List, MatchOption, None, Ok, OnErr, OnOk, Option, Result, Some, [], ap, arith, bit_and, cond, drop, eq-eqb, eqb-true, false, get_or, if◌then◌else◌, inl, inr, length, nat_lt, not, position, refl, reverse, rules, set, slice_get, subst, suc, sym, take, true, true≢false, w64, zero, ℕ, ◌%◌, ◌&&◌, ◌*◌, ◌++◌, ◌+◌, ◌-◌, ◌/◌, ◌<◌, ◌==◌, ◌^◌, ◌||◌, ◌∙◌, ◌∷◌, ◌≡◌, ◌≢◌, ◌≤◌, ◌⊎◌}
 pub use Rattle.std.proofs.lemmas.Bool.{cases_eq, cases_lt, ne_eqb}
 pub use Rattle.std.specs.List.{All, IsDistinct, list_any, position_or_len, swap_remove}
 pub use Rattle.std.specs.Prelude.{slice_index, sum_by}

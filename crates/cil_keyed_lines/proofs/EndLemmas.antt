@@ -1,9 +1,11 @@
 -- Keys that are taken out with their lines, and the counters of the others.
-use Rattle.cil_keyed_lines.proofs.Common.{◌≡◌, ◌≢◌, ℕ, ◌-◌, ◌<◌, false, if◌then◌else◌, List, [], ◌∷◌, ◌++◌, length, get_or, set, take, position, slice_get, Option, None, Some, IfSome, refl, sym, ap, ◌∙◌, inl, inr, arith, list_any, IsDistinct, swap_remove, SymbolKey, count_by, is_key, with_key, AreAmong}
-use Rattle.std.proofs.lemmas.Bool.{cases_eq, cases_lt}
+use Rattle.cil_keyed_lines.proofs.Common.{◌≡◌, ◌≢◌, ℕ, ◌+◌, ◌-◌, ◌<◌, ◌==◌, Bool, false, true, true≢false, not, cond, nat_lt, eqb-true, index_of, one_if, Err, Ok, OnOk, Result, if◌then◌else◌, List, [], ◌∷◌, ◌++◌, length, get_or, set, take, position, slice_get, Option, None, Some, IfSome, refl, sym, ap, ◌∙◌, inl, inr, arith, list_any, IsDistinct, swap_remove, SymbolKey, count_by, is_key, with_key, AreAmong}
+use Rattle.std.specs.Prelude.{is_err}
+use Rattle.std.proofs.lemmas.Bool.{cases_eq, cases_lt, lt-ltb}
+use Rattle.std.proofs.lemmas.List.Folds.{position_or_len_push}
 use Rattle.std.proofs.lemmas.List.{get_or_default, length-append, length-set, length-take-le, get_or-take, get_or-set_same, get_or-set_other, get_or_at}
 use Rattle.std.proofs.lemmas.Option.{none-some, slice_get-get_or}
-use Rattle.cil_keyed_lines.proofs.KeyedLemmas.{count_absent, count_placed, key_placed, no_key, placed_at, placed_within}
+use Rattle.cil_keyed_lines.proofs.KeyedLemmas.{count_absent, count_placed, key_itself, key_placed, no_key, placed_at, placed_within}
 
 -- ---- a key that is taken out
 
@@ -93,9 +95,29 @@ module _ (keys news : List SymbolKey) (place : ℕ) (within : place < length key
 
 -- ---- a new key
 
-pub placed_new : (keys news : List SymbolKey) (key : SymbolKey) (n : ℕ) → n ≡ length keys → list_any (is_key key) keys ≡ false → news ≡ with_key keys key → IsDistinct is_key news
-    → position (is_key key) news ≡ Some n
-placed_new keys news key n long unknown is distinct =
-    let grown : news ≡ keys ++ key ∷ [] = is ∙ ap (λ b. if b then keys else keys ++ key ∷ []) unknown in
-    let within : n < length news = omega (arith, long, ap length grown, length-append keys (key ∷ [])) in
-    placed_at news n key distinct (slice_get-get_or news n key within ∙ ap (λ x. Some x) (ap (λ l. get_or l n key) grown ∙ get_or_at keys key [] key n (sym long)))
+pub len_with : (keys news : List SymbolKey) (key : SymbolKey) (b : Bool) → b ≡ not (list_any (is_key key) keys) → news ≡ with_key keys key → length news ≡ length keys + one_if b
+len_with keys news key b new is = ap length is ∙ by (list_any (is_key key) keys) new
+  where
+    by : (h : Bool) → b ≡ not h → length (if h then keys else keys ++ key ∷ []) ≡ length keys + one_if b
+    by true e = omega (arith, ap one_if e)
+    by false e = omega (arith, ap one_if e, length-append keys (key ∷ []))
+
+pub placed_with : (keys news : List SymbolKey) (key : SymbolKey) (n : ℕ) → n ≡ index_of keys key → n < length news → news ≡ with_key keys key → position (is_key key) news ≡ Some n
+placed_with keys news key n at less is =
+    ap (λ m. cond (nat_lt m (length news)) (Some m) None) index ∙ ap (λ b. cond b (Some n) None) (lt-ltb n (length news) less)
+  where
+    pushed : (b : Bool) → (index_of keys key == length keys) ≡ b → cond b (length keys + cond (is_key key key) 0 1) (index_of keys key) ≡ n
+    pushed true last = ap (λ b. length keys + cond b 0 1) (key_itself key) ∙ omega (arith, eqb-true (index_of keys key) (length keys) last, at)
+    pushed false other = sym at
+
+    by : (b : Bool) → index_of (if b then keys else keys ++ key ∷ []) key ≡ n
+    by true = sym at
+    by false = position_or_len_push (is_key key) keys key ∙ pushed (index_of keys key == length keys) refl
+
+    index : index_of news key ≡ n
+    index = ap (λ l. index_of l key) is ∙ by (list_any (is_key key) keys)
+
+-- what holds where there was no error
+pub was_ok : {V E P : Type 0} (r : Result V E) → is_err r ≡ false → OnOk r P → P
+was_ok (Ok v) none holds = holds
+was_ok (Err e) none holds = absurd (true≢false none)

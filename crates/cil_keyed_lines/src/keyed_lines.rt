@@ -1,6 +1,6 @@
 //! Lines of counters that keys share.
 
-ghost use Rattle.std.specs.Prelude.{◌≡◌, ◌↔◌, ℕ, ◌+◌, ◌-◌, ◌*◌, ◌<◌, ◌≤◌, ◌^◌, false, length, min, position, slice_get, true, Some, IfOk, IsTrue, MatchOption, OnErr, OnOk};
+ghost use Rattle.std.specs.Prelude.{[], ◌≡◌, ◌↔◌, ℕ, ◌+◌, ◌-◌, ◌*◌, ◌<◌, ◌≤◌, ◌^◌, false, length, min, not, position, slice_get, true, Some, IfOk, IsTrue, MatchOption, OnErr, OnOk};
 ghost use Rattle.std.specs.List.{list_any, IsDistinct};
 ghost use Rattle.std.specs.Option.{is_some};
 ghost use Rattle.indexmap.specs.IndexSet.{spare};
@@ -24,6 +24,7 @@ pub use past::Past;
 use std::alloc::{AllocError, Allocator, Global};
 use std::hash::{BuildHasherDefault, FoldHasher};
 use std::marker::Model;
+use std::mem;
 
 /// How many counters move where so many keys move alike, or the greatest `u128` where they are more.
 fn moved_counters(keys: usize, moved: &[Moved]) -> u128
@@ -38,31 +39,35 @@ fn moved_counters(keys: usize, moved: &[Moved]) -> u128
     ones.saturating_mul(keys as u128)
 }
 
-/// Puts in a key where there is room for it, and answers its place.
+/// The place of a key, which is put in behind the others where it isn't there, and whether it was new.
 fn insert<A: Allocator>(
     keys: &mut IndexSet<SymbolKey, BuildHasherDefault<FoldHasher>, A>,
     key: SymbolKey,
-) -> usize
-    requires { 0 < spare keys.old }
-    ensures keys { keys.new.keys ≡ with_key keys.old.keys key }
+) -> Result<(usize, bool), AllocError>
+    ensures place { IfOk result (λ r. (r.0 ≡ index_of keys.old.keys key)
+        × (r.0 < length keys.new.keys)) }
+    ensures new { IfOk result (λ r. r.1 ≡ not (list_any (is_key key) keys.old.keys)) }
+    ensures ok { OnOk result (keys.new.keys ≡ with_key keys.old.keys key) }
+    ensures err { OnErr result (keys.new.keys ≡ keys.old.keys) }
     ensures distinct { IsDistinct is_key keys.new.keys }
 {
     match keys.insert_full(key) {
-        Ok((place, _)) => place,
-        Err(_) => unreachable!("there is room for the key"),
+        Ok(placed) => Ok(placed),
+        Err(_) => Err(AllocError),
     }
 }
 
-/// Puts in a key that has no place, and its place behind the others. It names line 0.
+/// The place of a key, which is put in behind the others where it has none. It names line 0 then.
+/// One look-up tells whether it is there and where it goes.
 #[inline(never)]
 fn put_key<A: Allocator>(
     keys: &mut IndexSet<SymbolKey, BuildHasherDefault<FoldHasher>, A>,
     names: &mut Names<A>,
     key: SymbolKey,
-) -> Result<(), AllocError>
-    requires new { list_any (is_key key) keys.old.keys ≡ false }
-    requires distinct { IsDistinct is_key keys.old.keys }
+) -> Result<usize, AllocError>
     requires len { length names.old.named ≡ length keys.old.keys }
+    ensures place { IfOk result (λ i. position (is_key key) keys.new.keys ≡ Some i) }
+    ensures within { IfOk result (λ i. i < length keys.new.keys) }
     ensures ok { OnOk result (keys.new.keys ≡ with_key keys.old.keys key) }
     ensures err { OnErr result (keys.new.keys ≡ keys.old.keys) }
     ensures distinct { IsDistinct is_key keys.new.keys }
@@ -73,10 +78,13 @@ fn put_key<A: Allocator>(
     ensures before { (p : ℕ) → name_before names.new p ≡ name_before names.old p }
     ensures logged { AreLogged names.old → AreLogged names.new }
 {
-    keys.reserve(1)?;
-    names.push()?;
-    insert(keys, key);
-    Ok(())
+    let len = keys.len();
+    let (place, is_new) = insert(keys, key)?;
+    if is_new && names.push().is_err() {
+        keys.truncate(len);
+        return Err(AllocError);
+    }
+    Ok(place)
 }
 
 /// Lines of counters, each named by keys whose counters are the same. A key that names no line has no counter above 0.
@@ -95,6 +103,9 @@ pub struct KeyedLines<A: Allocator = Global> {
     /// The room of the logs while keys are taken out, and nothing otherwise.
     steps: Vec<Step, A>,
     changes: Vec<Rename, A>,
+    /// The memory of lists of places and of keys, from one to the next.
+    places: Vec<Named, A>,
+    listed: Vec<SymbolKey, A>,
 }
 
 impl<A: Allocator> Model for KeyedLines<A> {
@@ -124,7 +135,46 @@ impl<A: Allocator + Copy> KeyedLines<A> {
             packed: 0,
             steps: Vec::new(alloc),
             changes: Vec::new(alloc),
+            places: Vec::new(alloc),
+            listed: Vec::new(alloc),
         }
+    }
+
+    /// An empty list of places with room for so many: the memory of the last one, where that was kept.
+    fn take_places(&mut self, alloc: A, len: usize) -> Result<Vec<Named, A>, AllocError>
+        ensures empty { IfOk result (λ v. v.items ≡ []) }
+        ensures same { self.new ≡ self.old }
+    {
+        let mut places = Vec::new(alloc);
+        mem::swap(&mut self.places, &mut places);
+        places.clear();
+        places.reserve(len)?;
+        Ok(places)
+    }
+
+    /// Keeps the memory of a list of places for the next one.
+    fn keep_places(&mut self, places: Vec<Named, A>)
+        ensures same { self.new ≡ self.old }
+    {
+        self.places = places;
+    }
+
+    /// An empty list of keys: the memory of the last one, where that was kept. No counter changes.
+    pub fn take_keys(&mut self, alloc: A) -> Vec<SymbolKey, A>
+        ensures empty { result.items ≡ [] }
+        ensures same { self.new ≡ self.old }
+    {
+        let mut keys = Vec::new(alloc);
+        mem::swap(&mut self.listed, &mut keys);
+        keys.clear();
+        keys
+    }
+
+    /// Keeps the memory of a list of keys for the next one. No counter changes.
+    pub fn keep_keys(&mut self, keys: Vec<SymbolKey, A>)
+        ensures same { self.new ≡ self.old }
+    {
+        self.listed = keys;
     }
 
     /// The place of a key, which is put in where it has none. It is looked for first at the place at
@@ -143,11 +193,10 @@ impl<A: Allocator + Copy> KeyedLines<A> {
         ensures now { Stays self.old self.new }
         ensures before { StaysBefore self.old self.new }
     {
-        if let Some(place) = self.place_by(likely, key) {
-            return Ok(place);
+        if self.is_at(likely, key) {
+            return Ok(likely);
         }
-        let place = self.keys.len();
-        put_key(&mut self.keys, &mut self.names, key)?;
+        let place = put_key(&mut self.keys, &mut self.names, key)?;
         Ok(place)
     }
 
@@ -163,7 +212,7 @@ impl<A: Allocator + Copy> KeyedLines<A> {
         ensures now { Stays self.old self.new }
         ensures before { StaysBefore self.old self.new }
     {
-        let mut places = Vec::with_capacity(alloc, keys.len())?;
+        let mut places = self.take_places(alloc, keys.len())?;
         let mut likely = 0;
         for key in keys {
             let place = self.reach_key(likely, *key)?;
@@ -198,6 +247,7 @@ impl<A: Allocator + Copy> KeyedLines<A> {
         let mut places = self.places_of(alloc, keys)?;
         put_in_order(&mut places);
         self.move_keys(alloc, &places, moved)?;
+        self.keep_places(places);
         Ok(moved_counters(keys.len(), moved))
     }
 
@@ -283,17 +333,6 @@ impl<A: Allocator> KeyedLines<A> {
             Some(at) => *at == key,
             None => false,
         }
-    }
-
-    /// The place of a key, which is looked for first at the place at which it is likely.
-    fn place_by(&self, likely: usize, key: SymbolKey) -> Option<usize>
-        ensures place { result ≡ position (is_key key) self.now.keys }
-        ensures found { is_some result ≡ list_any (is_key key) self.now.keys }
-    {
-        if self.is_at(likely, key) {
-            return Some(likely);
-        }
-        self.place_of(key)
     }
 
     /// The place of a key.

@@ -1,24 +1,28 @@
-use Rattle.cil_keyed_lines.proofs.Common.{◌≡◌, ◌<◌, ◌∙◌, ap, arith, cases_lt, get_or, inl, inr, refl, times, index_of, length, listed, sym, take, Names, SymbolKey}
+use Rattle.cil_keyed_lines.proofs.Common.{◌≡◌, ◌<◌, ◌∙◌, ap, arith, cases_lt, get_or, inl, inr, times, index_of, length, listed, slice_get, sym, take, Names, SymbolKey}
 use Rattle.cil_text.specs.declared.statement.RuleKind.TheVariants.{Allow}
 use Rattle.cil_keyed_lines.proofs.KeyLemmas.{all_names, all_within, times_key, times_once}
 use Rattle.std.proofs.lemmas.List.{take_all}
 use Rattle.std.proofs.lemmas.List.Elements.{All-nil, All-push}
+use Rattle.cil_keyed_lines.specs.Keyed as keyed
 use Rattle.cil_keyed_lines.proofs.keyed_lines.KeyedLines.places_of.Goals as goal
 
 abbrev first : SymbolKey
 first = record { kind = Allow; source = 0; class = 0; permission = 0 }
 
 pub loop-key-init : goal.loop-key-init
-loop-key-init g c = record {
-  named = rw c.in_ok-places.ensures.items (All-nil (Names c.args.self.now.names));
-  within = rw c.in_ok-places.ensures.items (All-nil (λ x. x.place < length c.args.self.now.keys));
-  times = λ k. ap (λ v. times v (index_of c.args.self.now.keys k)) c.in_ok-places.ensures.items;
-  distinct = λ some. absurd (omega (arith, some));
-  none = λ _. c.in_ok-places.ensures.items;
-  grown = λ i k at. at;
-  now = λ k t. refl;
-  before = λ k t. refl;
-}
+loop-key-init g c =
+    let same = c.take_places.ensures.same in
+    let taken = c.take_places.new.self in
+    record {
+      named = rw c.in_ok-places.ensures.empty (All-nil (Names taken.names));
+      within = rw c.in_ok-places.ensures.empty (All-nil (λ x. x.place < length taken.keys));
+      times = λ k. ap (λ v. times v (index_of taken.keys k)) c.in_ok-places.ensures.empty;
+      distinct = λ some. absurd (omega (arith, some));
+      none = λ _. c.in_ok-places.ensures.empty;
+      grown = λ i k at. ap (λ s. slice_get s.keys i) same ∙ at;
+      now = λ k t. ap (λ s. keyed.count_now s k t) same;
+      before = λ k t. ap (λ s. keyed.count_before s k t) same;
+    }
 
 pub loop-key-preserved : goal.loop-key-preserved
 loop-key-preserved g c =

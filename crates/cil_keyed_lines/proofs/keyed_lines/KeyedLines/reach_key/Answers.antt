@@ -1,5 +1,4 @@
-use Rattle.cil_keyed_lines.proofs.Common.{◌≡◌, AreKeyed, false, list_any, is_key, rules}
-use Rattle.cil_keyed_lines.proofs.EndLemmas.{placed_new}
+use Rattle.cil_keyed_lines.proofs.Common.{AreKeyed}
 use Rattle.cil_keyed_lines.proofs.KeyLemmas.{before_grown, before_kept, places_kept, places_more, shared_names, stays_grown, stays_kept}
 use Rattle.cil_keyed_lines.proofs.keyed_lines.KeyedLines.reach_key.Given as given
 use Rattle.cil_keyed_lines.proofs.keyed_lines.KeyedLines.reach_key.Goals as goal
@@ -19,41 +18,36 @@ invariant_of-self g c = keyed g (goal.at.invariant_of-self g c).After-put_key
 pub invariant_of-self-2 : goal.invariant_of-self-2
 invariant_of-self-2 g c = keyed g (goal.at.invariant_of-self-2 g c).After-put_key
 
-pub returns-in_err-put_key-clause-now : goal.returns-in_err-put_key-clause-now
-returns-in_err-put_key-clause-now g c =
+pub returns-in_err-place-clause-now : goal.returns-in_err-place-clause-now
+returns-in_err-place-clause-now g c =
     let old = c.self.inside in
     let put = c.put_key.ensures in
     rw (← c.self.view_is)
-    (stays_kept old.keys.keys c.put_key.new.keys.keys old.names c.put_key.new.names old.lines old.keys_before old.lines_before c.self.invariant put.now put.before c.in_err-put_key.ensures.err)
+    (stays_kept old.keys.keys c.put_key.new.keys.keys old.names c.put_key.new.names old.lines old.keys_before old.lines_before c.self.invariant put.now put.before c.in_err-place.ensures.err)
 
-pub returns-in_err-put_key-clause-before : goal.returns-in_err-put_key-clause-before
-returns-in_err-put_key-clause-before g c =
+pub returns-in_err-place-clause-before : goal.returns-in_err-place-clause-before
+returns-in_err-place-clause-before g c =
     let old = c.self.inside in
     let put = c.put_key.ensures in
     rw (← c.self.view_is)
-    (before_kept old.keys.keys c.put_key.new.keys.keys old.names c.put_key.new.names old.lines old.keys_before old.lines_before c.self.invariant put.now put.before c.in_err-put_key.ensures.err)
+    (before_kept old.keys.keys c.put_key.new.keys.keys old.names c.put_key.new.names old.lines old.keys_before old.lines_before c.self.invariant put.now put.before c.in_err-place.ensures.err)
 
-pub returns-in_err-put_key-clause-places : goal.returns-in_err-put_key-clause-places
-returns-in_err-put_key-clause-places g c = rw (← c.self.view_is) (places_kept c.self.inside.keys.keys c.put_key.new.keys.keys c.in_err-put_key.ensures.err)
+pub returns-in_err-place-clause-places : goal.returns-in_err-place-clause-places
+returns-in_err-place-clause-places g c = rw (← c.self.view_is) (places_kept c.self.inside.keys.keys c.put_key.new.keys.keys c.in_err-place.ensures.err)
 
 pub returns-clause-now : goal.returns-clause-now
 returns-clause-now g c =
     let old = c.self.inside in
     let put = c.put_key.ensures in
     rw (← c.self.view_is)
-    (stays_grown old.keys.keys c.put_key.new.keys.keys old.names c.put_key.new.names old.lines old.keys_before old.lines_before c.self.invariant put.now put.before c.args.key c.in_ok-put_key.ensures.ok)
+    (stays_grown old.keys.keys c.put_key.new.keys.keys old.names c.put_key.new.names old.lines old.keys_before old.lines_before c.self.invariant put.now put.before c.args.key c.in_ok-place.ensures.ok)
 
 pub returns-clause-before : goal.returns-clause-before
 returns-clause-before g c =
     let old = c.self.inside in
     let put = c.put_key.ensures in
     rw (← c.self.view_is)
-    (before_grown old.keys.keys c.put_key.new.keys.keys old.names c.put_key.new.names old.lines old.keys_before old.lines_before c.self.invariant put.now put.before c.args.key c.in_ok-put_key.ensures.ok)
+    (before_grown old.keys.keys c.put_key.new.keys.keys old.names c.put_key.new.names old.lines old.keys_before old.lines_before c.self.invariant put.now put.before c.args.key c.in_ok-place.ensures.ok)
 
 pub returns-clause-places : goal.returns-clause-places
-returns-clause-places g c = rw (← c.self.view_is) (places_more c.self.inside.keys.keys c.put_key.new.keys.keys c.args.key c.in_ok-put_key.ensures.ok)
-
-pub returns-clause-place : goal.returns-clause-place
-returns-clause-place g c =
-    let unknown : list_any (is_key c.args.key) c.self.inside.keys.keys ≡ false = search rules in
-    placed_new c.self.inside.keys.keys c.put_key.new.keys.keys c.args.key c.len-place.result c.len-place.ensures.len unknown c.in_ok-put_key.ensures.ok c.put_key.ensures.distinct
+returns-clause-places g c = rw (← c.self.view_is) (places_more c.self.inside.keys.keys c.put_key.new.keys.keys c.args.key c.in_ok-place.ensures.ok)

@@ -27,9 +27,10 @@ pub returns-clause-now : goal.returns-clause-now
 returns-clause-now g c =
     let mid = c.places_of.new.self in
     let places = c.put_in_order.new.places.items in
-    moved_keys c.args.keys.now (went c.args.moved.now) (came c.args.moved.now) (count_now c.move_keys.new.self) (count_now c.args.self.now) (λ k. times places (index_of mid.keys k))
+    rw c.keep_places.ensures.same
+    (moved_keys c.args.keys.now (went c.args.moved.now) (came c.args.moved.now) (count_now c.move_keys.new.self) (count_now c.args.self.now) (λ k. times places (index_of mid.keys k))
     (once g (goal.at.returns-clause-now g c).After-deref)
-    (λ k t. (rw c.deref.ensures.value at c.in_ok-move_keys.ensures.now) k t ∙ ap (λ x. x + times places (index_of mid.keys k) * came c.args.moved.now t) (c.in_ok-places.ensures.now k t))
+    (λ k t. (rw c.deref.ensures.value at c.in_ok-move_keys.ensures.now) k t ∙ ap (λ x. x + times places (index_of mid.keys k) * came c.args.moved.now t) (c.in_ok-places.ensures.now k t)))
 
 -- no counter has risen by more than what was to come
 bounded : (g : given.Over) (c : After-move_keys g) → RiseAtMost c.args.self.now c.move_keys.new.self (of_keys c.args.keys.now (came c.args.moved.now))
@@ -44,4 +45,4 @@ pub returns-in_err-move_keys-clause-bounded : goal.returns-in_err-move_keys-clau
 returns-in_err-move_keys-clause-bounded g c = bounded g (goal.at.returns-in_err-move_keys-clause-bounded g c).After-move_keys
 
 pub returns-clause-bounded : goal.returns-clause-bounded
-returns-clause-bounded g c = bounded g (goal.at.returns-clause-bounded g c).After-move_keys
+returns-clause-bounded g c = rw c.keep_places.ensures.same (bounded g (goal.at.returns-clause-bounded g c).After-move_keys)
