@@ -3,7 +3,7 @@ use Rattle.cil_keyed_lines.proofs.Common.{◌≡◌, ◌≢◌, ℕ, ◌+◌, �
 use Rattle.std.specs.Prelude.{is_err}
 use Rattle.std.proofs.lemmas.Bool.{cases_eq, cases_lt, lt-ltb}
 use Rattle.std.proofs.lemmas.List.Folds.{position_or_len_push}
-use Rattle.std.proofs.lemmas.List.{get_or_default, length-append, length-set, length-take-le, get_or-take, get_or-set_same, get_or-set_other, get_or_at}
+use Rattle.std.proofs.lemmas.List.{get_or_default, length-append, length-set, length-take-le, get_or-take, get_or-set_same, get_or-set_other}
 use Rattle.std.proofs.lemmas.Option.{none-some, slice_get-get_or}
 use Rattle.cil_keyed_lines.proofs.KeyedLemmas.{count_absent, count_placed, key_itself, key_placed, no_key, placed_at, placed_within}
 

@@ -3,7 +3,6 @@
 ghost use Rattle.std.specs.Prelude.{[], ◌≡◌, ◌↔◌, ℕ, ◌+◌, ◌-◌, ◌*◌, ◌<◌, ◌≤◌, ◌^◌, false, length, min, not, position, slice_get, true, Some, IfOk, IsTrue, MatchOption, OnErr, OnOk};
 ghost use Rattle.std.specs.List.{list_any, IsDistinct};
 ghost use Rattle.std.specs.Option.{is_some};
-ghost use Rattle.indexmap.specs.IndexSet.{spare};
 ghost use Rattle.cil_lines.specs.Line.{IsPresence, IsNextPresent, NonePresent};
 ghost use Rattle.cil_keyed_lines.specs.Moves.{came, ones_of, went, AreMoves};
 ghost use Rattle.cil_keyed_lines.specs.Names.{name_before, name_now, times, AreLogged};
