@@ -2,6 +2,7 @@
 use Rattle.cil_check.proofs.Common.{◌≡◌, ℕ, ◌+◌, ◌<◌, arith, get_or, take, length, length-map, not, ◌&&◌, ◌||◌, Bool, true, false, List, [], ◌∷◌, ◌++◌, map, filter, cond, Option, Some, None, is_some, refl, sym, ap, ◌∙◌, subst, true≢false, append-nil, option_and_then, option_map, none-some, slice_get-map, slice_get_within, first_true, second_true, AllByRecursion, Word, Form, attribute_set, class_permission_set, rule, anonymous, by_name, itself, the_named, leaves, Placed, Table, types, classes, leads, references, permission_reference, is_alias, is_unfound, is_unset, element_words, kind_of, IsLead, HasFirsts, Actual, names_permissions, named_class, class_lead, first_at}
 use Rattle.std.proofs.Common.{◌-◌, ◌^◌, slice_get, unwrap_or}
 use Rattle.std.proofs.lemmas.List.Folds.{list_all_more}
+use Rattle.std.specs.List.{list_all}
 use Rattle.cil_specs.specs.Statements.{target_words}
 use Rattle.cil_parse.specs.declared.row.StatementKind.{StatementKind}
 use Rattle.cil_bind.specs.Binding.{AreLeads, kinds_of}
@@ -69,6 +70,19 @@ pub sound-all : (policy : List Placed) (kinds : List StatementKind) (actuals : L
     → AreLeads policy namespace refs bound → are_sound kinds actuals bound ≡ true → AllByRecursion (IsSound policy namespace) refs
 sound-all policy kinds actuals namespace refs bound same has are all =
     sound-each policy actuals namespace refs bound has are (ap (λ l. are_sound l actuals bound) (sym same) ∙ all)
+
+-- what is bound is sound where no alias lacks an actual type
+pub bound-sound : (policy : List Placed) (kinds : List StatementKind) (actuals : List (ℕ × ℕ)) (namespace : List (List ℕ)) (refs : List (Table × Word)) (bound : List (Option ℕ)) → kinds ≡ kinds_of policy
+    → HaveActuals kinds actuals → AreLeads policy namespace refs bound → list_all is_some bound ≡ true → are_sound kinds actuals bound ≡ true
+bound-sound policy kinds actuals namespace refs [] same have are all = refl
+bound-sound policy kinds actuals namespace [] (b ∷ bound) same have are all = absurd are
+bound-sound policy kinds actuals namespace (r ∷ refs) (None ∷ bound) same have are all = absurd (true≢false (sym all))
+bound-sound policy kinds actuals namespace (r ∷ refs) (Some place ∷ bound) same have are all =
+    let lead = led-at r.0 policy place (leads policy r.0 namespace r.1.text) are.0 in
+    let within = slice_get_within policy place lead.s lead.at in
+    let long : length kinds ≡ length policy = ap length same ∙ length-map policy (λ s. kind_of s.form) in
+    ap (λ b. b && are_sound kinds actuals bound) (have place (omega (arith, within, long)))
+    ∙ bound-sound policy kinds actuals namespace refs bound same have are.1 all
 
 -- so are all references that lead somewhere, where no alias lacks an actual type
 pub found-all : (policy : List Placed) (kinds : List StatementKind) (actuals : List (ℕ × ℕ)) (namespace : List (List ℕ)) (refs : List (Table × Word)) (bound : List (Option ℕ)) → kinds ≡ kinds_of policy → HasFirsts Actual policy actuals

@@ -1,7 +1,9 @@
 //! Policies without faults of the kinds that are seen at one statement.
 
-ghost use Rattle.std.specs.Prelude.{◌≡◌, ◌<◌, [], List, Some, true, length, slice_get, Contains, IsTrue};
-ghost use Rattle.cil_check.specs.Common.{Placed, AreNumbersOf, classes, has_name, kind_of, names_of, permissions_of, word_at, IsFirstOf, IsLead, IsSeen, IsNoted, class_lead, lacking_words, HasNoneBelow, IsCleanAt};
+ghost use Rattle.std.specs.Prelude.{◌≡◌, ◌<◌, [], List, Some, true, is_some, length, slice_get, Contains, IsTrue};
+ghost use Rattle.std.specs.List.{list_all};
+ghost use Rattle.cil_bind.specs.Binding.{AreLeads};
+ghost use Rattle.cil_check.specs.Common.{Placed, references, AreNumbersOf, classes, has_name, kind_of, names_of, permissions_of, word_at, IsFirstOf, IsLead, IsSeen, IsNoted, class_lead, lacking_words, HasNoneBelow, IsCleanAt};
 ghost use Rattle.cil_check.specs.Clean.{is_other, is_sound as is_sound_lead, are_sound as are_sound_leads, HaveActuals, IsSettled};
 ghost use Rattle.cil_check.specs.Recent.{IsKnown};
 ghost use Rattle.cil_check.specs.Kinds.{names_permissions as is_naming_kind, is_rule_of_set as is_rule_of_set_kind, is_plain as is_plain_kind};
@@ -49,6 +51,19 @@ fn is_plain(kind: StatementKind) -> bool
             | StatementKind::Common
             | StatementKind::ClassPermission
     )
+}
+
+/// Whether all of some references are bound.
+#[inline(always)]
+fn are_bound(bound: &References<'_>) -> bool
+    ensures { IsTrue result → list_all is_some bound.now ≡ true }
+{
+    for k in 0..bound.len() {
+        if !bound.place(k).is_some() {
+            return false;
+        }
+    }
+    true
 }
 
 impl<'p, 'm, A: Allocator + Copy> Checker<'p, 'm, A> {
@@ -188,6 +203,21 @@ impl<'p, 'm, A: Allocator + Copy> Checker<'p, 'm, A> {
         self.bound.is_inside(place)
     }
 
+    /// Whether all references of a statement are bound, and none to an alias without an actual type,
+    /// by whether no alias lacks one. Where none does, their kinds needn't be looked at.
+    #[inline(always)]
+    fn are_sound_by(&self, calm: bool, bound: &References<'_>) -> bool
+        ensures { IsTrue result → (policy : List Placed) (s : Placed) → IsNoted self.now policy
+            → (IsTrue calm → HaveActuals self.now.bound.policy.now.kinds.items self.now.actuals)
+            → AreLeads policy s.namespace (references s.form) bound.now
+            → are_sound_leads self.now.bound.policy.now.kinds.items self.now.actuals bound.now ≡ true }
+    {
+        if calm {
+            return are_bound(bound);
+        }
+        self.are_sound(bound)
+    }
+
     /// Whether a set statement leads to an attribute, and all its references are bound, to no
     /// alias without an actual type.
     fn is_clean_set(&self, place: usize, calm: bool) -> bool
@@ -207,7 +237,7 @@ impl<'p, 'm, A: Allocator + Copy> Checker<'p, 'm, A> {
         if self.is_settled(place, calm) {
             return true;
         }
-        self.are_sound(&bound)
+        self.are_sound_by(calm, &bound)
     }
 
     /// Whether the class of a place has a permission. One that it has is known then.
@@ -307,7 +337,7 @@ impl<'p, 'm, A: Allocator + Copy> Checker<'p, 'm, A> {
         let Some(class) = bound.last() else {
             return false;
         };
-        if !self.are_sound(&bound) {
+        if !self.are_sound_by(calm, &bound) {
             return false;
         }
         self.has_listed(place, class, known)

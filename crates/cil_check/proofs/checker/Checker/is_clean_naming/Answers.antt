@@ -29,7 +29,7 @@ returns-clause-clean g c = λ yes policy s noted at is have known.
     let b = c.args.self.now.bound.policy.now in
     let are = c.references-bound.ensures policy s noted.is at in
     let led = class-last policy s c.references-bound.result c.in-Some.class is are (sym c.last.ensures ∙ c.in-Some.is) in
-    let all = sound-all policy b.kinds.items c.args.self.now.actuals s.namespace (references s.form) c.references-bound.result noted.is.bound.kinds noted.has_actuals are (sym (c.are_sound.ensures policy noted) ∙ c.if-not-are_sound.false) in
+    let all = sound-all policy b.kinds.items c.args.self.now.actuals s.namespace (references s.form) c.references-bound.result noted.is.bound.kinds noted.has_actuals are (c.are_sound_by.ensures c.if-not-are_sound_by.false policy s noted have are) in
     naming-clean policy c.args.place s is noted.is.inside at
     (missing-neither policy s (none-unfound policy s.namespace (references s.form) all) (c.has_listed.ensures.none yes policy s noted at led known))
     (none-unset-of policy s.namespace s.form all)

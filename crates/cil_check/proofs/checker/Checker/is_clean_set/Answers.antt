@@ -30,7 +30,7 @@ returns g c = λ yes policy s noted at kind have.
     let bound = c.references-bound.result in
     let (attribute, expr, form) = form-set s.form kind in
     let are = c.references-bound.ensures policy s noted.is at in
-    let all = sound-all policy b.kinds.items c.args.self.now.actuals s.namespace (references s.form) bound noted.is.bound.kinds noted.has_actuals are (sym (c.are_sound.ensures policy noted) ∙ yes) in
+    let all = sound-all policy b.kinds.items c.args.self.now.actuals s.namespace (references s.form) bound noted.is.bound.kinds noted.has_actuals are (c.are_sound_by.ensures yes policy s noted have are) in
     let led = subst (λ o. IsLead types policy o (leads policy types s.namespace attribute.text))
     (sym c.place.ensures ∙ c.in-Some.is) (lead-of policy s.namespace (references s.form) bound 0 (types, attribute) are (ap (λ f. slice_get (references f) 0) form)) in
     let other = there-kind policy s.namespace Attribute attribute c.in-Some.first c.is.result led (λ t there. c.is.ensures policy t noted.is there) ∙ ap not c.if-not-is.false in
