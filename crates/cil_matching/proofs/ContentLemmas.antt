@@ -1,8 +1,7 @@
 -- Rules and set statements say the same by their numbers where they do by their names.
-use Rattle.cil_matching.proofs.Common.{◌≡◌, ◌∙◌, ◌==◌, ◌↔◌, ℕ, ◌<◌, Bool, true, false, true≢false, ◌&&◌, nat_lt, List, [], ◌∷◌, length, map, slice_get, slice_index_or, Option, None, Some, refl, sym, ap, arith, bytes_eq, list_all, and_parts, eqb-true, eq-eqb, ltb-true, slice_get-get_or, slice_get_within, get_or_from_slice_get, a_type, an_attribute, ResolvedTarget, at_itself, at_element, RuleContent, SetContent, content_of, set_content_of, kind_index, same-kind, is_that, is_number_of, is_element_by, is_set_by, is_target_by, is_written_by, are_permissions_by, SayTheSame, AreNumbers}
+use Rattle.cil_matching.proofs.Common.{◌≡◌, ◌∙◌, ◌==◌, ◌↔◌, ℕ, ◌<◌, Bool, true, false, true≢false, ◌&&◌, nat_lt, List, [], ◌∷◌, length, map, slice_get, slice_index_or, Option, None, Some, refl, sym, ap, arith, list_all, and_parts, eqb-true, eq-eqb, ltb-true, slice_get-get_or, slice_get_within, get_or_from_slice_get, a_type, an_attribute, ResolvedTarget, at_itself, at_element, RuleContent, SetContent, content_of, set_content_of, kind_index, same-kind, is_that, is_number_of, is_element_by, is_set_by, is_target_by, is_written_by, are_permissions_by, SayTheSame, AreNumbers}
 use Rattle.std.proofs.Common.{Box, not}
 use Rattle.std.proofs.Math.Bool.{and-false}
-use Rattle.std.proofs.lemmas.Slice.Eq.{bytes_eq-Decides}
 use Rattle.cil_specs.specs.Expr.{Expr, leaves, listed, map_leaves}
 use Rattle.cil_specs.specs.Rule as spec
 use Rattle.cil_specs.proofs.MeansLemmas.{leaves-mapped}

@@ -1,5 +1,5 @@
 -- Rules that two policies have one behind the other.
-use Rattle.cil_matching.proofs.Common.{◌≡◌, ◌∙◌, ℕ, ◌+◌, ◌<◌, true, inl, inr, List, [], Option, Some, refl, length, map, slice_get, slice_index_or, sym, ap, subst, arith, cases_lt, slice_get_within, Equal, Rule, SetStatement, IsSameRule, IsSameSet, rule_cmp, meaning_in, sets_in, AreNumbers, AreSameAt, Spot, rule_spot, set_spot, StandAlike, numbered_in}
+use Rattle.cil_matching.proofs.Common.{◌≡◌, ◌∙◌, ℕ, ◌+◌, ◌<◌, true, inl, inr, List, [], Option, Some, refl, length, slice_get, slice_index_or, sym, ap, subst, arith, cases_lt, slice_get_within, Equal, Rule, SetStatement, IsSameRule, IsSameSet, rule_cmp, meaning_in, sets_in, AreNumbers, AreSameAt, Spot, rule_spot, set_spot, StandAlike, numbered_in}
 use Rattle.cil_resolve.specs.Below.{is_set_below}
 use Rattle.cil_resolve.specs.Numbers.{rule_of, set_of}
 use Rattle.cil_resolve.specs.declared.numbered.NumberedRule.{NumberedRule}

@@ -1,5 +1,5 @@
 -- The places of one policy's rules in another one.
-use Rattle.cil_matching.proofs.Common.{◌≡◌, ◌∙◌, ◌↔◌, ℕ, ◌<◌, Bool, true, false, true≢false, List, [], ◌∷◌, length, map, get_or, slice_get, Option, None, Some, IsTrue, refl, sym, ap, subst, arith, IsStrictlySortedBy, Equal, tied_itself, length-map, none-some, same_Some, slice_get-get_or, slice_get_within, Rule, IsSameRule, content_of, rule_cmp, rule_total, meaning_in, SayTheSame, AreNumbers, AreSameAt, AreBefore, IsFoundAt, IsMissedAt, Spot, spot_cmp, rule_spot}
+use Rattle.cil_matching.proofs.Common.{◌≡◌, ◌∙◌, ◌↔◌, ℕ, ◌<◌, Bool, true, false, true≢false, List, length, get_or, slice_get, Option, None, Some, IsTrue, refl, sym, ap, subst, arith, IsStrictlySortedBy, Equal, tied_itself, length-map, none-some, same_Some, slice_get-get_or, slice_get_within, Rule, IsSameRule, content_of, rule_cmp, rule_total, meaning_in, SayTheSame, AreNumbers, AreSameAt, AreBefore, IsFoundAt, IsMissedAt, Spot, spot_cmp, rule_spot}
 use Rattle.std.specs.Bool.{then_some}
 use Rattle.cil_needs.proofs.GreatestLemmas.{all-got}
 use Rattle.cil_resolve.specs.Below.{is_rule_below, is_written_below}

@@ -1,4 +1,4 @@
-use Rattle.cil_matching.proofs.Common.{◌≡◌, ◌∙◌, true, false, true≢false, Option, is_some, refl, ℕ, ◌+◌, length, map, position, slice_get, None, Some, sym, ap, subst, arith, length-map, same_Some, slice_get-get_or, IsSameSet, sets_in, ArePassed, Spot, set_spot, same_spot, spot_of}
+use Rattle.cil_matching.proofs.Common.{◌≡◌, ◌∙◌, false, true≢false, Option, is_some, refl, ℕ, ◌+◌, length, map, position, slice_get, None, Some, sym, ap, subst, arith, length-map, same_Some, slice_get-get_or, IsSameSet, sets_in, ArePassed, Spot, set_spot, same_spot, spot_of}
 use Rattle.cil_matching.proofs.ApartLemmas.{sets-agree, apart-sets}
 use Rattle.cil_matching.proofs.FilledLemmas.{AreFilled, filled-first, filled-set, filled-kept, filled-all, open-apart, some-from}
 use Rattle.cil_matching.proofs.MatchedLemmas.{right-below, right-apart}
