@@ -20,9 +20,11 @@ enum Operator {
     All,
 }
 
-const OPERATORS: [(&[u8], Operator); 5] = [
+// The operators, by how many bytes they have.
+const OF_2: [(&[u8], Operator); 1] = [(b"or", Operator::Or)];
+
+const OF_3: [(&[u8], Operator); 4] = [
     (b"and", Operator::And),
-    (b"or", Operator::Or),
     (b"xor", Operator::Xor),
     (b"not", Operator::Not),
     (b"all", Operator::All),
@@ -39,7 +41,11 @@ impl Operator {
         ensures { MatchOption result (is_among operators text.now ≡ false)
             (λ operator. text.now ≡ operator_word operator) }
     {
-        look_up(&OPERATORS, text)
+        match text.len() {
+            2 => look_up(&OF_2, text),
+            3 => look_up(&OF_3, text),
+            _ => None,
+        }
     }
 }
 

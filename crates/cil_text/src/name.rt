@@ -61,19 +61,17 @@ fn is_name(text: &[u8]) -> bool
     }
 }
 
-/// Whether it is one of the words that stand for no declared thing.
+/// Whether it is one of the words that stand for no declared thing. Most names begin as none of them.
+#[inline(always)]
 fn is_reserved(name: &[u8]) -> bool
     ensures { result ≡ is_reserved name.now }
 {
-    match name.len() {
-        2 => name == b"or".as_slice(),
-        3 => name == b"all".as_slice()
-            || name == b"and".as_slice()
-            || name == b"xor".as_slice()
-            || name == b"not".as_slice(),
-        4 => name == b"self".as_slice(),
-        5 => name == b"other".as_slice(),
-        7 => name == b"notself".as_slice(),
+    match name {
+        [b'a', ..] => name == b"all".as_slice() || name == b"and".as_slice(),
+        [b'n', ..] => name == b"not".as_slice() || name == b"notself".as_slice(),
+        [b'o', ..] => name == b"or".as_slice() || name == b"other".as_slice(),
+        [b's', ..] => name == b"self".as_slice(),
+        [b'x', ..] => name == b"xor".as_slice(),
         _ => false,
     }
 }
