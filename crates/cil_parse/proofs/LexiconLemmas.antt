@@ -1,6 +1,8 @@
 -- Numbers of names that stay, and those that come.
 use Rattle.cil_parse.proofs.Common.{◌≡◌, ℕ, zero, suc, Bool, true, false, not, true≢false, List, [], ◌∷◌, ◌++◌, map, Bor, Option, Some, slice_get, bytes_eq, refl, sym, ap, subst, ◌∙◌, if◌then◌else◌, map-append, has_name, with_name, seen, Keeps, AreNumbersOf}
 use Rattle.indexmap.specs.IndexSet.{insert_key}
+use Rattle.std.specs.Prelude.{◌||◌}
+use Rattle.std.proofs.lemmas.Slice.Eq.{bytes_eq-Decides}
 use Rattle.cil_names.proofs.TextLemmas.{stored-text, with_name-texts}
 
 abbrev pub Name : Type 0
@@ -66,6 +68,18 @@ name-known names name all is new = by (has_name names name) refl
     by : (b : Bool) → b ≡ has_name names name → all ≡ names
     by true e = is ∙ ap (λ b. if b then names else names ++ name ∷ []) (sym e)
     by false e = absurd (true≢false (sym (new ∙ ap not (sym e))))
+
+-- what has a number is known
+pub number-known : (names : List (List ℕ)) (name : List ℕ) (n : ℕ) → slice_get names n ≡ Some name → has_name names name ≡ true
+number-known [] name n is = cc
+number-known (y ∷ names) name zero is =
+    let same : name ≡ y = cc in
+    ap (λ b. b || has_name names name) ((bytes_eq-Decides name y).1 same)
+number-known (y ∷ names) name (suc n) is = by (bytes_eq name y) (number-known names name n is)
+  where
+    by : (b : Bool) → has_name names name ≡ true → (b || has_name names name) ≡ true
+    by true others = refl
+    by false others = others
 
 pub with_name-kept : (names : List (List ℕ)) (name : List ℕ) (all : List (List ℕ)) → all ≡ with_name names name → Keeps names all
 with_name-kept names name all is = subst (Keeps names) (sym is) (with_name-keeps names name)

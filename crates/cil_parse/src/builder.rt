@@ -43,6 +43,7 @@ impl<'a, A: Allocator + Copy> Builder<'a, A> {
     }
 
     /// A word of the statement that comes.
+    #[inline(always)]
     fn word(&mut self, word: Word<'a>) -> Result<(), AllocError>
         ensures { OnOk result (Adds self.old self.new (word_of word.entry ∷ []) []) }
     {

@@ -6,6 +6,7 @@ ghost use Rattle.std.specs.List.{slice_split};
 ghost use Rattle.cil_text.specs.Name.{without_dot};
 
 use crate::lists::Lists;
+use crate::recalled::RecalledNames;
 use cil_names::{Names, Seed, in_32_bits};
 use std::alloc::{AllocError, Allocator, Global};
 
@@ -13,7 +14,7 @@ use std::alloc::{AllocError, Allocator, Global};
 /// numbers of its names.
 #[derive(Drop)]
 pub struct Lexicon<'a, A: Allocator = Global> {
-    pub texts: Names<'a, A>,
+    pub texts: RecalledNames<'a, A>,
     pub names: Names<'a, A>,
     pub components: Lists<u32, A>,
 }
@@ -45,7 +46,7 @@ impl<'a, A: Allocator + Copy> Lexicon<'a, A> {
         ensures empty { IfOk result (λ l. texts_in l ≡ []) }
     {
         Ok(Lexicon {
-            texts: Names::new(alloc, seed),
+            texts: RecalledNames::new(alloc, seed),
             names: Names::new(alloc, seed),
             components: Lists::with_capacity(alloc, 0, 0)?,
         })

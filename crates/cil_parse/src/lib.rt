@@ -10,6 +10,7 @@ mod lexicon;
 mod lists;
 mod parsed;
 mod permission_lists;
+mod recalled;
 mod row;
 mod table;
 mod view;
