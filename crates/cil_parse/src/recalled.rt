@@ -10,8 +10,9 @@ use std::marker::Model;
 /// How many numbers are noted.
 const PLACES: usize = 256;
 
-/// Distinct names, each with its number, as `Names` has them. Most words of a text came shortly before, as its classes and permissions:
-/// the numbers of those that came last are noted, each at a place that a few of its bytes tell. Contracts see it as the list of names.
+/// Distinct names, each with its number, as `Names` has them. Most words of a text came shortly before, as its
+/// classes and permissions: the numbers of those that came last are noted, each at a place that a few of its bytes
+/// tell. Contracts see it as the list of names.
 #[derive(Drop)]
 pub struct RecalledNames<'a, A: Allocator = Global> {
     names: Names<'a, A>,
