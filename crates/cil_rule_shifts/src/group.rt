@@ -89,8 +89,11 @@ impl<A: Allocator + Copy> Group<'_, A> {
         requires moves { AreMovesOf (takes self.was.now 0) (takes self.is.now 0) moved.now }
         ensures { AreShifted (is_among self.entry.sources) self.entry lines.old lines.new result }
     {
-        let keys = keys_of(alloc, self.sources, self.head)?;
-        shift_keys(lines, alloc, &keys, moved, self.for_good)
+        let empty = lines.take_keys(alloc);
+        let keys = keys_of(empty, self.sources, self.head)?;
+        let count = shift_keys(lines, alloc, &keys, moved, self.for_good);
+        lines.keep_keys(keys);
+        count
     }
 
     /// Moves the counters of the keys of one source from the targets that it had to those that it
@@ -105,8 +108,11 @@ impl<A: Allocator + Copy> Group<'_, A> {
         ensures { AreShifted (nat_eq source) self.entry lines.old lines.new result }
     {
         let moved = moved_of(alloc, source, self.was, self.is)?;
-        let keys = keys_of_source(alloc, source, self.head)?;
-        shift_keys(lines, alloc, &keys, &moved, self.for_good)
+        let empty = lines.take_keys(alloc);
+        let keys = keys_of_source(empty, source, self.head)?;
+        let count = shift_keys(lines, alloc, &keys, &moved, self.for_good);
+        lines.keep_keys(keys);
+        count
     }
 
     /// Moves the counters of the keys of the sources, source by source, and answers how many moved.

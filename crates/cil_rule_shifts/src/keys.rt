@@ -1,6 +1,6 @@
 //! The keys of sources for a rule's kind and permits.
 
-ghost use Rattle.std.specs.Prelude.{◌≡◌, ◌||◌, ◌==◌, true, false, nat_eq, IfOk, OnOk};
+ghost use Rattle.std.specs.Prelude.{[], ◌≡◌, ◌||◌, ◌==◌, true, false, nat_eq, IfOk, OnOk};
 ghost use Rattle.std.specs.List.{IsDistinct};
 ghost use Rattle.cil_keyed_lines.specs.Keyed.{has_key, is_key};
 ghost use Rattle.cil_keyed_lines.specs.declared.symbol_key.SymbolKey.{SymbolKey};
@@ -38,35 +38,39 @@ pub fn push_keys<A: Allocator>(
     Ok(())
 }
 
-/// The keys of one source.
-pub fn keys_of_source<A: Allocator + Copy>(
-    alloc: A,
+/// The keys of one source, in the memory of an empty list.
+pub fn keys_of_source<A: Allocator>(
+    empty: Vec<SymbolKey, A>,
     source: usize,
     head: RuleHead<'_>,
 ) -> Result<Vec<SymbolKey, A>, AllocError>
-    requires { AreInOrder head.permits.now }
+    requires permits { AreInOrder head.permits.now }
+    requires empty { empty.items ≡ [] }
     ensures { IfOk result (λ keys. AreKeysOf (nat_eq source) head.entry keys.items) }
 {
-    let mut keys = Vec::with_capacity(alloc, head.permits.len())?;
+    let mut keys = empty;
+    keys.reserve(head.permits.len())?;
     push_keys(&mut keys, source, head)?;
     Ok(keys)
 }
 
-/// The keys of some sources. Most rules have one.
+/// The keys of some sources, in the memory of an empty list. Most rules have one source.
 pub fn keys_of<A: Allocator + Copy>(
-    alloc: A,
+    empty: Vec<SymbolKey, A>,
     sources: Sources<'_, A>,
     head: RuleHead<'_>,
 ) -> Result<Vec<SymbolKey, A>, AllocError>
     requires permits { AreInOrder head.permits.now }
     requires sources { AreSources sources }
+    requires empty { empty.items ≡ [] }
     ensures { IfOk result (λ keys. AreKeysOf (is_among sources.entry) head.entry keys.items) }
 {
     if let Some(source) = only_source(sources) {
-        return keys_of_source(alloc, source, head);
+        return keys_of_source(empty, source, head);
     }
     let count = sources_len(sources).saturating_mul(head.permits.len());
-    let mut keys = Vec::with_capacity(alloc, count)?;
+    let mut keys = empty;
+    keys.reserve(count)?;
     let mut from = 0;
     while let Some(source) = next_source(sources, from) {
         push_keys(&mut keys, source, head)?;

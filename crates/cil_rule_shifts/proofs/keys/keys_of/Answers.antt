@@ -10,7 +10,7 @@ returns-in-Some g c =
     subst (λ f. IfOk c.keys_of_source.result (λ keys. AreKeysOf f c.args.head keys.items)) (λ i s. sym (c.in-Some.ensures s) i) c.keys_of_source.ensures
 
 pub loop-source-init : goal.loop-source-init
-loop-source-init g c = rw c.in_ok-keys.ensures.items (keys-new (is_among c.args.sources) c.args.head)
+loop-source-init g c = rw c.reserve.ensures.items (rw c.requires.empty (keys-new (is_among c.args.sources) c.args.head))
 
 pub push_keys-requires-clause-distinct : goal.push_keys-requires-clause-distinct
 push_keys-requires-clause-distinct g c = c.loop-source.invariant.distinct
