@@ -1,33 +1,39 @@
 -- References that are bound.
-use Rattle.cil_bind.proofs.Common.{◌≡◌, ℕ, zero, suc, ◌+◌, ◌≤◌, List, [], ◌∷◌, ◌++◌, length, get_or, take, Option, Some, None, refl, sym, ap, ◌∙◌, subst, arith, map-append, take_all, none-some, same_Some, Word, Placed, Table, leads, references, texts_of, citations_of, cited_by, IsBlockOf, AreCited, Row, IsLead, kind_of, StatementKind, AreLeads, AreBound, AreAllLed, AreLed, AreSpaced, IsSpaced, Spells, Statements, bound_rows, kinds_of, leads_at, table_of, namespace_at, AreFrom, IsFrom, NamedModule, ParsedModule, bound_in, placed}
+use Rattle.cil_bind.proofs.Common.{◌≡◌, ℕ, zero, suc, ◌+◌, ◌<◌, ◌≤◌, List, [], ◌∷◌, ◌++◌, map, length, get_or, take, Option, Some, None, refl, sym, ap, ◌∙◌, subst, arith, length-map, map-append, take_all, none-some, same_Some, Word, Placed, Table, leads, references, texts_of, citations_of, cited_by, IsBlockOf, AreCited, IsCited, IsLed, Citation, Row, IsLead, kind_of, StatementKind, AreLeads, AreBound, AreAllLed, AreLed, AreSpaced, IsSpaced, Spells, Statements, bound_rows, kinds_of, leads_at, table_of, namespace_at, AreFrom, IsFrom, NamedModule, ParsedModule, bound_in, placed}
 use Rattle.std.proofs.Common.{slice_get}
 use Rattle.std.proofs.lemmas.Option.{get_or_from_slice_get, slice_get_within}
 use Rattle.cil_parse.proofs.CitationLemmas.{cited-are}
 use Rattle.cil_bind.proofs.PositionLemmas.{take-last}
 
--- the references of a statement lead where what they look up leads
-module _ {A : Type 0} (names spaces : List (List ℕ)) (policy : List Placed) (p : ParsedModule A) (from : List ℕ) (leads_of : List (Option ℕ)) where
-  refs-lead : (name : List ℕ) (statements : Statements) (index block : ℕ) (namespace : List (List ℕ)) (refs : List (Table × Word)) (numbers : List ℕ) → Spells p statements
-      → IsBlockOf (placed name [] [] statements) index block namespace → IsSpaced names spaces p from → AreLed names spaces (texts_of p) policy (citations_of p) from leads_of
-      → AreCited (texts_of p) (citations_of p) block refs numbers → AreLeads policy namespace refs (leads_at leads_of numbers)
-  refs-lead name statements index block namespace [] [] spells inside spaced led cited = tt
-  refs-lead name statements index block namespace [] (n ∷ numbers) spells inside spaced led cited = absurd cited
-  refs-lead name statements index block namespace (r ∷ refs) [] spells inside spaced led cited = absurd cited
-  refs-lead name statements index block namespace (r ∷ refs) (n ∷ numbers) spells inside spaced led ((c, at, cited), others) =
+module _ {A : Type 0} (names spaces : List (List ℕ)) (policy : List Placed) (p : ParsedModule A) (from : List ℕ) where
+  -- a reference leads where what it looks up leads
+  pub cited-lead : (name : List ℕ) (statements : Statements) (index block : ℕ) (namespace : List (List ℕ)) (r : Table × Word) (n : ℕ) (c : Citation) (found : Option ℕ) → Spells p statements
+      → IsBlockOf (placed name [] [] statements) index block namespace → IsSpaced names spaces p from → slice_get (citations_of p) n ≡ Some c → IsCited (texts_of p) block r c
+      → IsLed names spaces (texts_of p) policy c (get_or from n 0) found → IsLead r.0 policy found (leads policy r.0 namespace r.1.text)
+  cited-lead name statements index block namespace r n c found spells inside spaced at cited led =
       let table = cited.0 in
       let within = cited.1 in
       let text = cited.2 in
       let space = spaced n c at in
       let here : namespace_at names spaces (get_or from n 0) ≡ namespace =
       space.1 name statements index namespace spells (subst (λ b. IsBlockOf (placed name [] [] statements) index b namespace) (sym within) inside) in
-      let lead = led n c at (slice_get_within (texts_of p) c.text r.1.text text) space.0 in
-      let found = get_or leads_of n None in
-      let is : get_or (texts_of p) c.text [] ≡ r.1.text = get_or_from_slice_get (texts_of p) c.text r.1.text [] text in (
-        subst (λ t. IsLead t policy found (leads policy t namespace r.1.text)) table
-            (subst (λ x. IsLead (table_of c.table) policy found (leads policy (table_of c.table) namespace x)) is
-            (subst (λ m. IsLead (table_of c.table) policy found (leads policy (table_of c.table) m (get_or (texts_of p) c.text []))) here lead)),
-        refs-lead name statements index block namespace refs numbers spells inside spaced led others,
-      )
+      let lead = led (slice_get_within (texts_of p) c.text r.1.text text) space.0 in
+      let is : get_or (texts_of p) c.text [] ≡ r.1.text = get_or_from_slice_get (texts_of p) c.text r.1.text [] text in
+      subst (λ t. IsLead t policy found (leads policy t namespace r.1.text)) table
+      (subst (λ x. IsLead (table_of c.table) policy found (leads policy (table_of c.table) namespace x)) is
+      (subst (λ m. IsLead (table_of c.table) policy found (leads policy (table_of c.table) m (get_or (texts_of p) c.text []))) here lead))
+
+  -- the references of a statement lead where what they look up leads
+  refs-lead : (leads_of : List (Option ℕ)) (name : List ℕ) (statements : Statements) (index block : ℕ) (namespace : List (List ℕ)) (refs : List (Table × Word)) (numbers : List ℕ) → Spells p statements
+      → IsBlockOf (placed name [] [] statements) index block namespace → IsSpaced names spaces p from → AreLed names spaces (texts_of p) policy (citations_of p) from leads_of
+      → AreCited (texts_of p) (citations_of p) block refs numbers → AreLeads policy namespace refs (leads_at leads_of numbers)
+  refs-lead leads_of name statements index block namespace [] [] spells inside spaced led cited = tt
+  refs-lead leads_of name statements index block namespace [] (n ∷ numbers) spells inside spaced led cited = absurd cited
+  refs-lead leads_of name statements index block namespace (r ∷ refs) [] spells inside spaced led cited = absurd cited
+  refs-lead leads_of name statements index block namespace (r ∷ refs) (n ∷ numbers) spells inside spaced led ((c, at, cited), others) = (
+    cited-lead name statements index block namespace r n c (get_or leads_of n None) spells inside spaced at cited (led n c at),
+    refs-lead leads_of name statements index block namespace refs numbers spells inside spaced led others,
+  )
 
 module _ {A : Type 0} (names spaces : List (List ℕ)) (policy : List Placed) (parsed : List (NamedModule A)) (from : List (List ℕ)) (leads_of : List (List (Option ℕ))) where
   row-bound : (row : Row) (s : Placed) → IsFrom parsed row s → AreSpaced names spaces parsed from → AreAllLed names spaces policy parsed from leads_of

@@ -19,3 +19,5 @@ pub mod WrittenLemmas
 pub mod TwiceLemmas
 pub mod PermissionLemmas
 pub mod KnownListLemmas
+pub mod MoveLemmas
+pub mod KeptRowLemmas

@@ -11,3 +11,4 @@ pub mod Nested
 pub mod Written
 pub mod Listing
 pub mod KnownLists
+pub mod Moves

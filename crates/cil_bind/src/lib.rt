@@ -3,11 +3,11 @@
 
 mod declarations;
 mod joined;
-mod kinds;
 mod known_lists;
 mod laws;
 mod lead;
 mod leads;
+mod moves;
 mod policy;
 mod redeclaration;
 mod references;

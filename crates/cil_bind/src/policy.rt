@@ -6,9 +6,9 @@ ghost use Rattle.cil_specs.specs.Joined.{Placed, Module, joined as joined_policy
 
 use crate::declarations::{Declarations, Declared};
 use crate::joined::Joined;
-use crate::kinds::kinds;
 use crate::lead::Lead;
-use crate::leads::leads;
+use crate::leads::{Asked, leads};
+use crate::moves::keep_rows;
 use crate::redeclaration::Redeclaration;
 use crate::references::References;
 use crate::rows::{Row, is_kept};
@@ -155,7 +155,7 @@ impl<'m, A: Allocator + Copy> Policy<'m, A> {
         self.leave_out(alloc, joined, kept)
     }
 
-    /// Leaves out the statements whose innermost optional isn't marked, and looks up anew where the others' references lead.
+    /// Leaves out the statements whose innermost optional isn't marked, and looks up anew where the others' references led to those.
     fn leave_out(
         &mut self,
         alloc: A,
@@ -166,21 +166,21 @@ impl<'m, A: Allocator + Copy> Policy<'m, A> {
         ensures { OnOk result ((policy : List Placed) (set : Optionals) → IsBoundTo self.old joined.now.modules.items policy → AreApart policy
             → AreMarked set kept.now self.old.rows.items policy → IsBoundTo self.new joined.now.modules.items (restricted set policy)) }
     {
-        retain_kept(&mut self.rows, kept);
-        let rows = self.rows.as_slice();
-        let kinds = kinds(alloc, rows)?;
+        let places = keep_rows(alloc, &mut self.rows, &mut self.kinds, kept)?;
         let room = self.lookup.declared.len();
-        let declarations = Declarations::of_once(alloc, room, rows, kinds.as_slice())?;
+        let rows = self.rows.as_slice();
+        let declarations = Declarations::of_once(alloc, room, rows, self.kinds.as_slice())?;
         self.lookup.declared = declarations.first;
-        let leads = leads(
-            alloc,
-            &self.lookup,
-            joined,
-            self.words.as_slice(),
-            &self.spaces,
-        )?;
+        let words = self.words.as_slice();
+        let moved = places.as_slice();
+        let asked = Asked {
+            words,
+            spaces: &self.spaces,
+            led: &self.leads,
+            places: moved,
+        };
+        let leads = leads(alloc, &self.lookup, joined, &asked)?;
         self.leads = leads;
-        self.kinds = kinds;
         Ok(())
     }
 
@@ -211,7 +211,14 @@ impl<'m, A: Allocator + Copy> Policy<'m, A> {
             declared: declarations.first,
         };
         let Numbers { words, spaces } = numbers;
-        let leads = leads(alloc, &lookup, joined, words.as_slice(), &spaces)?;
+        let none = Lists::with_capacity(alloc, 0, 0)?;
+        let asked = Asked {
+            words: words.as_slice(),
+            spaces: &spaces,
+            led: &none,
+            places: &[],
+        };
+        let leads = leads(alloc, &lookup, joined, &asked)?;
         Ok(Policy {
             names,
             words,
@@ -243,11 +250,4 @@ fn are_kept(rows: &[Row], kept: &[bool]) -> bool
     ensures { result ≡ list_all (λ row. slice_index_or kept.now row.optional false) rows.now }
 {
     rows.iter().all(|row| is_kept(row, kept))
-}
-
-/// Keeps the rows whose innermost optional is marked, and drops the others.
-fn retain_kept<A: Allocator>(rows: &mut Vec<Row, A>, kept: &[bool])
-    ensures { rows.new.items ≡ filter (λ row. slice_index_or kept.now row.optional false) rows.old.items }
-{
-    rows.retain(|row| is_kept(row, kept));
 }

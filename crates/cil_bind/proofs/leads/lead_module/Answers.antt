@@ -1,4 +1,5 @@
-use Rattle.cil_bind.proofs.Common.{◌∷◌, ◌++◌, [], None, get_or, length, refl, sym, ap, ◌∙◌, subst, arith, slice_get_within, texts_of, citations_of, IsLed}
+use Rattle.cil_bind.proofs.Common.{◌≡◌, ◌<◌, ◌∷◌, ◌++◌, [], None, get_or, length, refl, sym, ap, ◌∙◌, subst, arith, slice_get_within, texts_of, citations_of, Citation}
+use Rattle.cil_bind.specs.Moves.{IsFound}
 use Rattle.cil_bind.proofs.LedLemmas.{came-at, came-long, citation-at, no_citation}
 use Rattle.cil_bind.proofs.leads.lead_module.Goals as goal
 
@@ -20,16 +21,15 @@ loop-n-preserved g c =
       led = λ names policy knows nums k citation low at.
           let spaces = c.args.lookup.now.namespaces in
           let texts = texts_of c.args.«module».now in
-          let from = c.args.spaces.now in
+          let asked = c.args.asked.now in
           let all = c.citations-citation-items.result.now in
           let found = c.in_ok-found.found in
-          came-at (λ i f. IsLed names spaces texts policy citation (get_or from k 0) f) c.loop-n.leads.1 _ _ None n k invariant.long opened low
+          came-at (λ i f. IsFound names spaces texts policy asked.places.now asked.spaces.now asked.led.now k citation f) c.loop-n.leads.1 _ _ None n k invariant.long opened low
           (λ less. invariant.led names policy knows nums k citation less at)
           (λ same.
           let here = citation-at all (citations_of c.args.«module».now) n k citation c.citations-citation-items.ensures same at in
-          let space = c.space_at.ensures ∙ ap (λ i. get_or from i 0) (sym same) in
-          subst (λ it. IsLed names spaces texts policy it (get_or from k 0) found) here
-          (subst (λ i. IsLed names spaces texts policy (get_or all n no_citation) i found) space (c.in_ok-found.ensures names policy knows nums)));
+          subst (λ it. IsFound names spaces texts policy asked.places.now asked.spaces.now asked.led.now k it found) here
+          (subst (λ i. IsFound names spaces texts policy asked.places.now asked.spaces.now asked.led.now i (get_or all n no_citation) found) (sym same) (c.in_ok-found.ensures names policy knows nums)));
     }
 
 pub returns-clause-led : goal.returns-clause-led

@@ -1,4 +1,5 @@
-use Rattle.cil_bind.proofs.Common.{◌≡◌, ◌<◌, ℕ, List, Some, None, get_or, length, Placed, AreNumbersOf, names_of, texts_of, citations_of, Citation, Knows, IsLed}
+use Rattle.cil_bind.proofs.Common.{◌≡◌, ◌<◌, ℕ, List, Some, None, get_or, length, Placed, AreNumbersOf, names_of, texts_of, citations_of, Citation, Knows}
+use Rattle.cil_bind.specs.Moves.{IsFound}
 use Rattle.std.proofs.Common.{slice_get}
 use Rattle.cil_bind.proofs.leads.lead_module.Given as goal
 
@@ -7,7 +8,7 @@ abbrev pub invariant-loop-n : goal.invariant-loop-n
 invariant-loop-n g l = record {
   closed : l.leads.0 ≡ l.fn.leads.0;
   long : length l.leads.1 ≡ l.n;
-  led : (names : List (List ℕ)) (policy : List Placed) → Knows l.lookup.namespaces l.lookup.declared.entries names policy → AreNumbersOf names l.words (names_of l.«module»)
+  led : (names : List (List ℕ)) (policy : List Placed) → Knows l.lookup.namespaces l.lookup.declared.entries names policy → AreNumbersOf names l.asked.words.now (names_of l.«module»)
       → (k : ℕ) (c : Citation) → k < l.n → slice_get (citations_of l.«module») k ≡ Some c
-      → IsLed names l.lookup.namespaces (texts_of l.«module») policy c (get_or l.spaces k 0) (get_or l.leads.1 k None);
+      → IsFound names l.lookup.namespaces (texts_of l.«module») policy l.asked.places.now l.asked.spaces.now l.asked.led.now k c (get_or l.leads.1 k None);
 }

@@ -1,4 +1,5 @@
-use Rattle.cil_bind.proofs.Common.{◌≡◌, ◌<◌, [], get_or, length, rules, refl, sym, ap, ◌∙◌, subst, arith, slice_get_within, texts_of, citations_of, names_of, AreLed, AreNumbersOf, AreWorded, List, NamedModule, Vec, ℕ}
+use Rattle.cil_bind.proofs.Common.{◌≡◌, ◌<◌, [], get_or, length, rules, refl, sym, ap, ◌∙◌, subst, arith, slice_get_within, texts_of, citations_of, names_of, AreNumbersOf, AreWorded, List, NamedModule, Vec, ℕ}
+use Rattle.cil_bind.specs.Moves.{AreFound}
 use Rattle.cil_bind.proofs.WordLemmas.{worded-at, worded-long, numbers-long}
 use Rattle.cil_bind.proofs.LedLemmas.{came-at, came-long, item-at}
 use Rattle.cil_bind.proofs.leads.leads.Goals as goal
@@ -9,12 +10,12 @@ words-low names words items i worded low = let long = worded-long names words it
 
 pub bounds-words-i : goal.bounds-words-i
 bounds-words-i g c =
-    words-low c.requires.worded.0 c.args.words.now c.args.joined.now.modules.items c.loop-i.i c.requires.worded.1 (let low : c.loop-i.i < length c.args.joined.now.modules.items = search rules in low)
+    words-low c.requires.worded.0 c.args.asked.now.words.now c.args.joined.now.modules.items c.loop-i.i c.requires.worded.1 (let low : c.loop-i.i < length c.args.joined.now.modules.items = search rules in low)
 
 pub offset_bounds-words-i : goal.offset_bounds-words-i
 offset_bounds-words-i g c =
     let low : c.loop-i.i < length c.args.joined.now.modules.items = search rules in
-    let less = words-low c.requires.worded.0 c.args.words.now c.args.joined.now.modules.items c.loop-i.i c.requires.worded.1 low in
+    let less = words-low c.requires.worded.0 c.args.asked.now.words.now c.args.joined.now.modules.items c.loop-i.i c.requires.worded.1 low in
     omega (arith, less)
 
 pub get-requires : goal.get-requires
@@ -30,7 +31,7 @@ lead_module-requires-clause-words g c =
     let names = c.requires.worded.0 in
     ap length c.as_slice.ensures.value
     ∙ numbers-long names c.index-words-i.result.items (names_of c.index.result.now.«module».now)
-    (worded-at names c.args.words.now items c.loop-i.i c.index-words-i.result c.index.result.now c.requires.worded.1 low c.index-words-i.is c.index.ensures)
+    (worded-at names c.args.asked.now.words.now items c.loop-i.i c.index-words-i.result c.index.result.now c.requires.worded.1 low c.index-words-i.is c.index.ensures)
 
 pub loop-i-init : goal.loop-i-init
 loop-i-init g c = record {
@@ -53,14 +54,18 @@ loop-i-preserved g c =
           let d = c.index.result.now in
           let here : i < length items = search rules in
           let nums = subst (λ l. AreNumbersOf names l (names_of d.«module».now)) (sym c.as_slice.ensures.value)
-          (worded-at names c.args.words.now items i c.index-words-i.result d worded here c.index-words-i.is c.index.ensures) in
-          came-at (λ j l. AreLed names spaces (texts_of m.«module».now) policy (citations_of m.«module».now) (get_or c.args.spaces.now.0 k []) l) c.loop-i.leads.0 _ comes.came [] i k invariant.long comes.added low
+          (worded-at names c.args.asked.now.words.now items i c.index-words-i.result d worded here c.index-words-i.is c.index.ensures) in
+          let asked = c.args.asked.now in
+          let places = asked.places.now in
+          came-at (λ j l. AreFound names spaces (texts_of m.«module».now) policy places (citations_of m.«module».now) (get_or asked.spaces.now.0 k []) (get_or asked.led.now.0 k []) l) c.loop-i.leads.0 _ comes.came [] i k invariant.long comes.added low
           (λ less. invariant.led names policy knows worded k m less at)
           (λ same.
           let is : d ≡ m = c.index.ensures ∙ ap (λ j. get_or items j d) (sym same) ∙ item-at items items k m d refl at in
-          let from = c.get.ensures ∙ ap (λ j. get_or c.args.spaces.now.0 j []) (sym same) in
-          subst (λ n. AreLed names spaces (texts_of n.«module».now) policy (citations_of n.«module».now) (get_or c.args.spaces.now.0 k []) comes.came) is
-          (subst (λ l. AreLed names spaces (texts_of d.«module».now) policy (citations_of d.«module».now) l comes.came) from (comes.says names policy knows nums)));
+          let from = c.get.ensures ∙ ap (λ j. get_or asked.spaces.now.0 j []) (sym same) in
+          let led = c.led_at.ensures ∙ ap (λ j. get_or asked.led.now.0 j []) (sym same) in
+          subst (λ n. AreFound names spaces (texts_of n.«module».now) policy places (citations_of n.«module».now) (get_or asked.spaces.now.0 k []) (get_or asked.led.now.0 k []) comes.came) is
+          (subst (λ l. AreFound names spaces (texts_of d.«module».now) policy places (citations_of d.«module».now) l (get_or asked.led.now.0 k []) comes.came) from
+          (subst (λ l. AreFound names spaces (texts_of d.«module».now) policy places (citations_of d.«module».now) c.get.result.now l comes.came) led (comes.says names policy knows nums))));
     }
 
 pub returns-clause-long : goal.returns-clause-long

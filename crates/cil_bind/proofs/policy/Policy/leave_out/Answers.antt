@@ -1,17 +1,25 @@
-use Rattle.cil_bind.proofs.Common.{◌<◌, ◌^◌, length, ap, sym, ◌∙◌, subst, is_within, restricted, once-filtered, AreRows, AreFrom, AreWorded, kinds_told}
+use Rattle.cil_bind.proofs.Common.{◌<◌, ◌^◌, ◌≡◌, filter, length, ap, sym, ◌∙◌, subst, is_within, restricted, once-filtered, AreBound, AreRows, AreFrom, AreWorded, bound_rows, kinds_told}
+use Rattle.cil_bind.specs.Moves.{mark, AreAllFound}
 use Rattle.cil_bind.proofs.RestrictLemmas.{from-kept, stands-kept, few-kept}
 use Rattle.cil_bind.proofs.DeclareLemmas.{kinds-are}
+use Rattle.cil_bind.proofs.MoveLemmas.{rows-moved}
 use Rattle.cil_bind.proofs.PolicyLemmas.{bound-to}
 use Rattle.cil_bind.proofs.policy.Policy.leave_out.Goals as goal
 
+pub keep_rows-requires-clause-kinds : goal.keep_rows-requires-clause-kinds
+keep_rows-requires-clause-kinds g c =
+    let self = c.args.self.now in
+    let is = c.requires.1 in
+    is.kinds ∙ sym (kinds-are self.names self.lookup.namespaces self.rows.items c.requires.0 is.stands.rows_are)
+
 pub of_once-requires-clause-few : goal.of_once-requires-clause-few
 of_once-requires-clause-few g c =
-    subst (λ rows. length rows < 2 ^ 32) (sym (c.as_slice-rows.ensures.value ∙ c.retain_kept.ensures)) (few-kept c.args.kept.now c.args.self.now.rows.items c.requires.1.few)
+    subst (λ rows. length rows < 2 ^ 32) (sym (c.as_slice-rows.ensures.value ∙ c.in_ok-places.ensures.rows)) (few-kept c.args.kept.now c.args.self.now.rows.items c.requires.1.few)
 
 pub leads-requires-clause-worded : goal.leads-requires-clause-worded
 leads-requires-clause-worded g c =
     let self = c.args.self.now in
-    (self.names, subst (λ w. AreWorded self.names w c.args.joined.now.modules.items) (sym c.as_slice-2.ensures.value) c.requires.1.worded)
+    (self.names, subst (λ w. AreWorded self.names w c.args.joined.now.modules.items) (sym c.as_slice-words.ensures.value) c.requires.1.worded)
 
 pub leads-requires-clause-spaced : goal.leads-requires-clause-spaced
 leads-requires-clause-spaced g c = c.requires.1.spaces_long
@@ -19,15 +27,21 @@ leads-requires-clause-spaced g c = c.requires.1.spaces_long
 pub returns : goal.returns
 returns g c = λ policy set is apart marked.
     let self = c.args.self.now in
+    let kept = c.args.kept.now in
     let items = c.args.joined.now.modules.items in
     let spaces = self.lookup.namespaces in
     let rest = restricted set policy in
-    let rows = c.retain_kept.new.rows.items in
+    let rows = c.keep_rows.new.rows.items in
+    let stay : rows ≡ filter (mark kept) self.rows.items = c.in_ok-places.ensures.rows in
     let once = once-filtered (is_within set) policy is.once in
-    let stands = stands-kept self.names spaces set c.args.kept.now self.rows.items rows policy apart marked is.stands c.retain_kept.ensures in
-    let from = subst (λ r. AreFrom items r rest) (sym c.retain_kept.ensures) (from-kept items set c.args.kept.now self.rows.items policy marked is.from) in
+    let stands = stands-kept self.names spaces set kept self.rows.items rows policy apart marked is.stands stay in
+    let from = subst (λ r. AreFrom items r rest) (sym stay) (from-kept items set kept self.rows.items policy marked is.from) in
     bound-to _ items rest stands from
     (c.in_ok-declarations.ensures self.names spaces rest stands.numbered (subst (λ r. AreRows self.names spaces r rest) (sym c.as_slice-rows.ensures.value) stands.rows_are) once)
     once (record { worded = is.worded; spaced = is.spaced; long = is.spaces_long }) c.in_ok-leads.ensures.long
-    (λ knows. c.in_ok-leads.ensures.led self.names rest knows (subst (λ w. AreWorded self.names w items) (sym c.as_slice-2.ensures.value) is.worded))
-    (c.in_ok-kinds.ensures ∙ ap kinds_told c.as_slice-rows.ensures.value ∙ kinds-are self.names spaces rows rest stands.rows_are) (subst (λ r. length r < 2 ^ 32) (sym c.retain_kept.ensures) (few-kept c.args.kept.now self.rows.items is.few))
+    (λ knows.
+    let led = c.in_ok-leads.ensures.led self.names rest knows (subst (λ w. AreWorded self.names w items) (sym c.as_slice-words.ensures.value) is.worded) in
+    let found = subst (λ p. AreAllFound self.names spaces rest items p self.spaces.0 self.leads.0 c.in_ok-leads.leads.0) (c.as_slice-moved.ensures.value ∙ c.in_ok-places.ensures.places) led in
+    subst (λ r. AreBound rest rest (bound_rows items c.in_ok-leads.leads.0 r)) (sym stay)
+    (rows-moved set policy apart kept self.rows.items marked self.names spaces items self.spaces.0 self.leads.0 c.in_ok-leads.leads.0 is.spaced found self.rows.items policy marked is.from is.bound))
+    (c.in_ok-places.ensures.kinds ∙ kinds-are self.names spaces rows rest stands.rows_are) (subst (λ r. length r < 2 ^ 32) (sym stay) (few-kept kept self.rows.items is.few))
