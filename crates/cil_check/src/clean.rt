@@ -190,14 +190,14 @@ impl<'p, 'm, A: Allocator + Copy> Checker<'p, 'm, A> {
     /// Whether the statement of a place stands in an optional, by whether no alias lacks an actual
     /// type. In a kept optional all names are found, so it needn't be looked at for these.
     #[inline(always)]
-    fn is_settled(&self, place: usize, calm: bool) -> bool
+    fn is_settled(&self, place: usize, aliases_set: bool) -> bool
         requires { (policy : List Placed) × IsNoted self.now policy × (place < length policy) }
         ensures { IsTrue result → (policy : List Placed) (s : Placed) → IsNoted self.now policy
             → slice_get policy place ≡ Some s
-            → (IsTrue calm → HaveActuals self.now.bound.policy.now.kinds.items self.now.actuals)
+            → (IsTrue aliases_set → HaveActuals self.now.bound.policy.now.kinds.items self.now.actuals)
             → IsSettled policy s }
     {
-        if !calm {
+        if !aliases_set {
             return false;
         }
         self.bound.is_inside(place)
@@ -206,13 +206,13 @@ impl<'p, 'm, A: Allocator + Copy> Checker<'p, 'm, A> {
     /// Whether all references of a statement are bound, and none to an alias without an actual type,
     /// by whether no alias lacks one. Where none does, their kinds needn't be looked at.
     #[inline(always)]
-    fn are_sound_by(&self, calm: bool, bound: &References<'_>) -> bool
+    fn are_sound_by(&self, aliases_set: bool, bound: &References<'_>) -> bool
         ensures { IsTrue result → (policy : List Placed) (s : Placed) → IsNoted self.now policy
-            → (IsTrue calm → HaveActuals self.now.bound.policy.now.kinds.items self.now.actuals)
+            → (IsTrue aliases_set → HaveActuals self.now.bound.policy.now.kinds.items self.now.actuals)
             → AreLeads policy s.namespace (references s.form) bound.now
             → are_sound_leads self.now.bound.policy.now.kinds.items self.now.actuals bound.now ≡ true }
     {
-        if calm {
+        if aliases_set {
             return are_bound(bound);
         }
         self.are_sound(bound)
@@ -220,11 +220,11 @@ impl<'p, 'm, A: Allocator + Copy> Checker<'p, 'm, A> {
 
     /// Whether a set statement leads to an attribute, and all its references are bound, to no
     /// alias without an actual type.
-    fn is_clean_set(&self, place: usize, calm: bool) -> bool
+    fn is_clean_set(&self, place: usize, aliases_set: bool) -> bool
         requires { (policy : List Placed) × IsNoted self.now policy × (place < length policy) }
         ensures { IsTrue result → (policy : List Placed) (s : Placed) → IsNoted self.now policy
             → slice_get policy place ≡ Some s → kind_of s.form ≡ TypeAttributeSet
-            → (IsTrue calm → HaveActuals self.now.bound.policy.now.kinds.items self.now.actuals)
+            → (IsTrue aliases_set → HaveActuals self.now.bound.policy.now.kinds.items self.now.actuals)
             → IsCleanAt policy place s }
     {
         let bound = self.bound.references(place);
@@ -234,10 +234,10 @@ impl<'p, 'm, A: Allocator + Copy> Checker<'p, 'm, A> {
         if !self.bound.is(first, Kind::Attribute) {
             return false;
         }
-        if self.is_settled(place, calm) {
+        if self.is_settled(place, aliases_set) {
             return true;
         }
-        self.are_sound_by(calm, &bound)
+        self.are_sound_by(aliases_set, &bound)
     }
 
     /// Whether the class of a place has a permission. One that it has is known then.
@@ -318,26 +318,26 @@ impl<'p, 'm, A: Allocator + Copy> Checker<'p, 'm, A> {
     /// Whether a statement that names permissions of a class has no missing word and no alias
     /// without an actual type. Other faults it can't have.
     #[inline(always)]
-    fn is_clean_naming(&self, place: usize, calm: bool, known: &mut Known<A>) -> bool
+    fn is_clean_naming(&self, place: usize, aliases_set: bool, known: &mut Known<A>) -> bool
         requires { (policy : List Placed) × (s : Placed) × IsNoted self.now policy
             × (slice_get policy place ≡ Some s) × (is_naming_kind (kind_of s.form) ≡ true) }
         ensures clean { IsTrue result → (policy : List Placed) (s : Placed)
             → IsNoted self.now policy → slice_get policy place ≡ Some s
             → is_naming_kind (kind_of s.form) ≡ true
-            → (IsTrue calm → HaveActuals self.now.bound.policy.now.kinds.items self.now.actuals)
+            → (IsTrue aliases_set → HaveActuals self.now.bound.policy.now.kinds.items self.now.actuals)
             → IsKnown self.now policy known.old → IsCleanAt policy place s }
         ensures known { (policy : List Placed) (s : Placed) → IsNoted self.now policy
             → slice_get policy place ≡ Some s → is_naming_kind (kind_of s.form) ≡ true
             → IsKnown self.now policy known.old → IsKnown self.now policy known.new }
     {
-        if self.is_settled(place, calm) {
+        if self.is_settled(place, aliases_set) {
             return true;
         }
         let bound = self.bound.references(place);
         let Some(class) = bound.last() else {
             return false;
         };
-        if !self.are_sound_by(calm, &bound) {
+        if !self.are_sound_by(aliases_set, &bound) {
             return false;
         }
         self.has_listed(place, class, known)
@@ -358,18 +358,18 @@ impl<'p, 'm, A: Allocator + Copy> Checker<'p, 'm, A> {
     /// whether no alias lacks an actual type. Its kind tells which it can have: those of most are
     /// told by what its references are bound to, and only others are looked at whole.
     #[inline(always)]
-    fn is_clean_by(&self, place: usize, calm: bool, known: &mut Known<A>) -> bool
+    fn is_clean_by(&self, place: usize, aliases_set: bool, known: &mut Known<A>) -> bool
         requires { (policy : List Placed) × IsNoted self.now policy × (place < length policy) }
         ensures clean { IsTrue result → (policy : List Placed) (s : Placed)
             → IsNoted self.now policy → slice_get policy place ≡ Some s
-            → (IsTrue calm → HaveActuals self.now.bound.policy.now.kinds.items self.now.actuals)
+            → (IsTrue aliases_set → HaveActuals self.now.bound.policy.now.kinds.items self.now.actuals)
             → IsKnown self.now policy known.old → IsCleanAt policy place s }
         ensures known { (policy : List Placed) → IsNoted self.now policy
             → IsKnown self.now policy known.old → IsKnown self.now policy known.new }
     {
         let kind = self.bound.kind(place);
         if names_permissions(kind) {
-            return self.is_clean_naming(place, calm, known);
+            return self.is_clean_naming(place, aliases_set, known);
         }
         if is_plain(kind) {
             return true;
@@ -378,7 +378,7 @@ impl<'p, 'm, A: Allocator + Copy> Checker<'p, 'm, A> {
             return self.is_clean_rule_of_set(place);
         }
         if let StatementKind::TypeAttributeSet = kind {
-            return self.is_clean_set(place, calm);
+            return self.is_clean_set(place, aliases_set);
         }
         self.is_clean_whole(place)
     }
@@ -391,10 +391,10 @@ impl<'p, 'm, A: Allocator + Copy> Checker<'p, 'm, A> {
         ensures { IsTrue result → (policy : List Placed) → IsNoted self.now policy
             → HasNoneBelow 48 policy }
     {
-        let calm = self.have_actuals();
+        let aliases_set = self.have_actuals();
         let mut known = Known::new(alloc);
         for i in 0..self.bound.len() {
-            if !self.is_clean_by(i, calm, &mut known) {
+            if !self.is_clean_by(i, aliases_set, &mut known) {
                 return false;
             }
         }

@@ -14,9 +14,10 @@ use cil_needs::Need;
 use cil_parse::StatementKind;
 use std::alloc::{AllocError, Allocator};
 
-/// Whether statements of a kind declare a name, list permissions or give a common. Most statements do none of it.
+/// Whether statements of a kind declare a name, list permissions or give a common. Most do none of it.
 fn tells(kind: StatementKind) -> bool
-    ensures { result ≡ (declares_name_kind kind || (lists_own_kind kind || gives_common_kind kind)) }
+    ensures { result
+        ≡ (declares_name_kind kind || (lists_own_kind kind || gives_common_kind kind)) }
 {
     declares_name(kind) || lists_own(kind) || gives_common(kind)
 }
@@ -33,9 +34,11 @@ fn tell<'m, A: Allocator + Copy>(
     requires ready { (all : List Placed) × IsReady policy.now joined.now.modules.items all }
     requires within { i < length policy.now.rows.items }
     requires inverse { IsInverse listed.old }
-    ensures providers { OnOk result ((all : List Placed) → IsReady policy.now joined.now.modules.items all → AreProviders all policy.now.rows.items i needs.old.items
+    ensures providers { OnOk result ((all : List Placed) → IsReady policy.now joined.now.modules.items all
+        → AreProviders all policy.now.rows.items i needs.old.items
         → AreProviders all policy.now.rows.items (i + 1) needs.new.items) }
-    ensures up_to { OnOk result ((all : List Placed) → IsReady policy.now joined.now.modules.items all → IsUpTo all i listed.old → IsUpTo all (i + 1) listed.new) }
+    ensures up_to { OnOk result ((all : List Placed) → IsReady policy.now joined.now.modules.items all
+        → IsUpTo all i listed.old → IsUpTo all (i + 1) listed.new) }
     ensures inverse { OnOk result (IsInverse listed.new) }
 {
     if !tells(policy.kinds[i]) {
@@ -56,11 +59,15 @@ pub fn tell_all<'m, A: Allocator + Copy>(
     needs: &mut Vec<Need, A>,
 ) -> Result<(), AllocError>
     requires ready { (all : List Placed) × IsReady policy.now joined.now.modules.items all }
-    requires first { (all : List Placed) → IsReady policy.now joined.now.modules.items all → AreProviders all policy.now.rows.items 0 needs.old.items }
-    requires none { (all : List Placed) → IsReady policy.now joined.now.modules.items all → IsUpTo all 0 listed.old }
+    requires first { (all : List Placed) → IsReady policy.now joined.now.modules.items all
+        → AreProviders all policy.now.rows.items 0 needs.old.items }
+    requires none { (all : List Placed) → IsReady policy.now joined.now.modules.items all
+        → IsUpTo all 0 listed.old }
     requires inverse { IsInverse listed.old }
-    ensures providers { OnOk result ((all : List Placed) → IsReady policy.now joined.now.modules.items all → AreProviders all policy.now.rows.items (length all) needs.new.items) }
-    ensures have { OnOk result ((all : List Placed) → IsReady policy.now joined.now.modules.items all → HavePermissions all (permissions_in listed.new)) }
+    ensures providers { OnOk result ((all : List Placed) → IsReady policy.now joined.now.modules.items all
+        → AreProviders all policy.now.rows.items (length all) needs.new.items) }
+    ensures have { OnOk result ((all : List Placed) → IsReady policy.now joined.now.modules.items all
+        → HavePermissions all (permissions_in listed.new)) }
     ensures inverse { OnOk result (IsInverse listed.new) }
 {
     for i in 0..policy.rows.len() {

@@ -22,7 +22,7 @@ loop-i-preserved g c = record {
       let count = c.len-i-end.ensures policy noted.is in
       let less : c.loop-i.i < length policy = omega (arith, count) in
       let (s, at) = there-at policy c.loop-i.i less in
-      clean-next policy c.loop-i.i s at (c.is_clean_by.ensures.clean c.if-not-is_clean_by.false policy s noted at c.have_actuals-calm.ensures (c.loop-i.invariant.known policy noted)) (c.loop-i.invariant.clean policy noted);
+      clean-next policy c.loop-i.i s at (c.is_clean_by.ensures.clean c.if-not-is_clean_by.false policy s noted at c.have_actuals-aliases_set.ensures (c.loop-i.invariant.known policy noted)) (c.loop-i.invariant.clean policy noted);
   known = λ policy noted. c.is_clean_by.ensures.known policy noted (c.loop-i.invariant.known policy noted);
 }
 

@@ -14,5 +14,5 @@ returns g c = λ yes policy s noted at have.
     let within = slice_get_within policy c.args.place s at in
     let found = noted.is.inside s (c.args.place, within, get_or_from_slice_get policy c.args.place s s at) (c.is_inside.ensures yes policy s noted.is at) in
     let are = bound-at policy policy (bound_of b.policy.now b.joined.now.modules.items) c.args.place s noted.is.bound.bound at in
-    let all = found-all policy b.policy.now.kinds.items c.args.self.now.actuals s.namespace (references s.form) _ noted.is.bound.kinds noted.has_actuals (have c.if-not-calm.false) are (refs-found policy s found) in
+    let all = found-all policy b.policy.now.kinds.items c.args.self.now.actuals s.namespace (references s.form) _ noted.is.bound.kinds noted.has_actuals (have c.if-not-aliases_set.false) are (refs-found policy s found) in
     record { found = found; actual = none-unset-of policy s.namespace s.form all }
