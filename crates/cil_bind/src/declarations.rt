@@ -104,12 +104,7 @@ impl<A: Allocator + Copy> Declarations<A> {
     }
 
     /// What rows declare that are known to declare each name once, with room for so many names. Those about names have these places.
-    pub fn of_once(
-        alloc: A,
-        room: usize,
-        rows: &[Row],
-        places: &[u32],
-    ) -> Result<Self, AllocError>
+    pub fn of_once(alloc: A, room: usize, rows: &[Row], places: &[u32]) -> Result<Self, AllocError>
         requires few { length rows.now < 2 ^ 32 }
         requires places { places.now ≡ name_places 0 (kinds_told rows.now) }
         ensures { IfOk result (λ d. (names spaces : List (List ℕ)) (policy : List Placed) → AreNumbered names spaces → AreRows names spaces rows.now policy → IsOnce policy

@@ -38,8 +38,7 @@ returns-then-branch g c = λ names spaces policy nums are.
     let before = c.loop-k.declarations.first.entries in
     let so_far = to-place (IsDeclaredTo names spaces before policy) (kinds_told rows) places c.requires.places (declared-over names spaces rows policy before are) k c.loop-k-test.true (c.loop-k.invariant names spaces policy nums are) in
     let less = place-there (kinds_told rows) places k c.requires.places c.loop-k-test.true in
-    let long = length-map rows (λ row. row.kind) in
-    (
+    let long = length-map rows (λ row. row.kind) in (
       so_far.1,
       taken-twice names spaces rows policy (get_or places k 0) c.declare.new.self.first.entries c.in_ok-declare.field-0 are (omega (arith, less, long))
           (c.in_ok-declare.ensures names spaces policy nums are so_far.0 so_far.1) c.if-branch.true,
