@@ -128,7 +128,7 @@ place-there kinds places k are low =
     omega (arith, less, same)
 
 -- statements of a kind that isn't about names declare none
-other-declares-none : (kind : StatementKind) → is_about_names kind ≡ false → declares_name kind ≡ false
+pub other-declares-none : (kind : StatementKind) → is_about_names kind ≡ false → declares_name kind ≡ false
 other-declares-none kinds.Block e = absurd (true≢false e)
 other-declares-none kinds.Optional e = absurd (true≢false e)
 other-declares-none kinds.TypeName e = absurd (true≢false e)
