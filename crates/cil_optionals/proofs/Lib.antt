@@ -7,3 +7,4 @@ pub mod OthersLemmas
 pub mod PermissionLemmas
 pub mod ListedLemmas
 pub mod KnownLemmas
+pub mod ToldLemmas

@@ -54,14 +54,14 @@ pub struct Listed<'m, A: Allocator = Global> {
 }
 
 /// Whether statements of a kind list permissions of their own.
-pub fn lists_own(kind: StatementKind) -> bool
+fn lists_own(kind: StatementKind) -> bool
     ensures { result ≡ lists_own_kind kind }
 {
     matches!(kind, StatementKind::Class | StatementKind::Common)
 }
 
 /// Whether statements of a kind give a common to a class.
-pub fn gives_common(kind: StatementKind) -> bool
+fn gives_common(kind: StatementKind) -> bool
     ensures { result ≡ gives_common_kind kind }
 {
     matches!(kind, StatementKind::ClassCommon)

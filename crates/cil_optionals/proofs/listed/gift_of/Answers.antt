@@ -1,6 +1,5 @@
-use Rattle.cil_optionals.proofs.Common.{◌≡◌, ℕ, List, [], ◌∷◌, length, get_or, Option, Some, None, refl, sym, ap, ◌∙◌, arith}
+use Rattle.cil_optionals.proofs.Common.{◌≡◌, ℕ, List, [], ◌∷◌, length, get_or, Option, Some, None, refl, sym, arith}
 use Rattle.cil_optionals.specs.Given.{gift}
-use Rattle.cil_optionals.proofs.listed.gift_of.Goals as goal
 
 -- other lists than those of two references
 gift-other : (bound : List (Option ℕ)) → (length bound ≡ 2 → ⊥) → gift bound ≡ None
