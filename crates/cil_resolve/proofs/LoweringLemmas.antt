@@ -1,14 +1,16 @@
 -- What statements of a policy without faults mean, by numbers.
-use Rattle.cil_resolve.proofs.Common.{◌≡◌, ℕ, Bool, true, false, not, ◌&&◌, List, [], get_or, map, Contains, Option, Some, None, is_some, refl, sym, ap, ◌∙◌, subst, true≢false, unwrap_or, none-some, same_Some, Word, Placed, Table, types, classes, permission_sets, leads, references, declared_in, actual_statement, is_alias, is_attribute, WordExpr, leaves, element_words, kinds_asked, contains-first, element_or_none, class_name, name_or_none, Form, attribute_set, class, class_permission, IsFaultless, none-there, IsLead, IsFirstOf, numbered_id, IsElement, HaveElements, is_set, number_in, HavePlaces, Element}
+use Rattle.cil_resolve.proofs.Common.{◌≡◌, ◌<◌, length, seen-lead, ℕ, Bool, true, false, not, ◌&&◌, List, [], get_or, map, Contains, Option, Some, None, is_some, refl, sym, ap, ◌∙◌, subst, true≢false, unwrap_or, none-some, same_Some, Word, Placed, Table, types, classes, permission_sets, leads, references, declared_in, actual_statement, is_alias, is_attribute, WordExpr, leaves, element_words, kinds_asked, contains-first, element_or_none, class_name, name_or_none, Form, attribute_set, class, class_permission, IsFaultless, none-there, IsLead, IsFirstOf, numbered_id, IsElement, HaveElements, is_set, number_in, HavePlaces, Element}
 use Rattle.std.proofs.Common.{slice_get}
 use Rattle.cil_check.specs.Checker.{IsNoted}
 use Rattle.cil_specs.specs.Rule.{element_of}
 use Rattle.cil_specs.proofs.CircularLemmas.{attribute-word}
 use Rattle.cil_expression.specs.declared.expression.Element.TheVariants as elements
-use Rattle.cil_resolve.specs.Lowering.{IsLowering}
+use Rattle.cil_check.specs.declared.bound.Seen.{Seen}
+use Rattle.cil_resolve.specs.Lowering.{IsLowering, Refers}
 use Rattle.cil_resolve.specs.Numbering.{HavePermissions}
 use Rattle.cil_resolve.specs.declared.lowering.Lowering.{Lowering}
 use Rattle.cil_resolve.proofs.ElementLemmas.{first-declares, full-name-in}
+use Rattle.cil_resolve.proofs.StatementLemmas.{contained}
 use Rattle.cil_resolve.proofs.FaultlessLemmas.{word-found, kind-found, alias-set}
 
 -- where a look-up that leads somewhere was found
@@ -22,6 +24,12 @@ pub found-at : (table : Table) (policy : List Placed) (found : Option ℕ) (lead
 found-at table policy None lead leads some = absurd (true≢false (sym some ∙ ap is_some (sym leads.is)))
 found-at table policy (Some i) None leads some = absurd (true≢false (sym some))
 found-at table policy (Some i) (Some t) leads some = record { t = t; lead_is = refl; at = leads.is; first = leads.first }
+
+-- what leads somewhere leads to a place
+pub led-within : (table : Table) (policy : List Placed) (found : Option ℕ) (lead : Option Placed) → IsLead table policy found lead → is_some lead ≡ true
+    → (n : ℕ) × (found ≡ Some n) × (n < length policy)
+led-within table policy None lead leads some = absurd (true≢false (sym some ∙ ap is_some (sym leads.is)))
+led-within table policy (Some n) lead leads some = (n, refl, leads.within)
 
 -- what is found is the same whatever would stand for nothing
 pub found-any : (table : Table) (policy : List Placed) (found : Option ℕ) (lead : Option Placed) → IsLead table policy found lead → is_some lead ≡ true → (other : ℕ)
@@ -95,6 +103,12 @@ module _ (policy : List Placed) (faultless : IsFaultless policy) (s : Placed) (t
       ∙ have (unwrap_or found 0) a.t a.at (ap (λ f. is_some (numbered_id f)) is)
       ∙ ap (λ n. Some (get_or places n 0)) (found-any types policy found (leads policy types s.namespace attribute.text) lead some other)
 
+-- each reference of a statement that is seen leads to a place
+pub refers-within : {A : Type 0} (l : Lowering A) (seen : Seen A) (k : ℕ) (r : Refers l seen k) → (n : ℕ) × (get_or seen.bound k None ≡ Some n) × (n < length r.policy)
+refers-within l seen k r =
+    led-within r.table r.policy (get_or seen.bound k None) (leads r.policy r.table r.s.namespace r.word.text) (seen-lead seen r.policy r.s k r.table r.word r.is.seen_is r.at)
+    (word-found r.policy r.is.lowering.faultless r.s r.is.there r.table r.word (contained (references r.s.form) k (r.table, r.word) r.at))
+
 -- the same of a place that was found
 pub record IsFoundAt (table : Table) (policy : List Placed) (i : ℕ) (lead : Option Placed) : Type 0 where
   pub t : Placed
@@ -120,12 +134,15 @@ no-found table policy (Some n) lead leads is = absurd (none-some n (sym is))
 
 -- what the lowering rests on, by the lists that it is made of
 pub lowering-of : {A : Type 0} (l : Lowering A) (policy : List Placed) (places : List ℕ) (elements : List Element) → IsNoted l.checker.now policy → IsFaultless policy → HavePlaces l.numbering.now.names.items policy l.numbering.now.places.items
+    → length l.numbering.now.places.items ≡ length policy → length elements ≡ length policy
     → HavePermissions l.checker.now.bound.policy.now.names l.numbering.now.names.items policy l.numbering.now.permissions.items → places ≡ l.numbering.now.places.items
     → (HavePlaces l.numbering.now.names.items policy places → HaveElements l.numbering.now.names.items policy elements) → l.elements.now ≡ elements → IsLowering l policy
-lowering-of l policy places elements noted faultless have permissions read made same = record {
+lowering-of l policy places elements noted faultless have places_long elements_long permissions read made same = record {
   noted = noted;
   faultless = faultless;
   places = have;
   permissions = permissions;
   elements = subst (HaveElements l.numbering.now.names.items policy) (sym same) (made (subst (HavePlaces l.numbering.now.names.items policy) (sym read) have));
+  places_long = places_long;
+  elements_long = ap length same ∙ elements_long;
 }

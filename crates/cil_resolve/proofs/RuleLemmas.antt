@@ -1,5 +1,5 @@
 -- Rules by numbers.
-use Rattle.cil_resolve.proofs.Common.{◌≡◌, ℕ, Bool, true, false, ◌&&◌, ◌||◌, nat_lt, List, [], ◌∷◌, length, get_or, map, flat_map, Contains, inl, inr, arith, contains-cases, WordExpr, meaning_of, Option, Some, None, is_some, bytes_eq, refl, sym, ap, ◌∙◌, subst, true≢false, if◌then◌else◌, list_all, lt-ltb, none-some, slice_get-get_or, Word, Placed, RuleKind, allow, auditallow, dontaudit, neverallow, Target, Form, block, optional, type_name, type_alias, alias_actual, type_attribute, attribute_set, common, class, class_common, class_order, class_permission, class_permission_set, rule, unwrap_or, list_any-append, contains-first, contains-other, contains-map, rule_kind, IsLead, IsFaultless, lead-of, bound-at, Table, commons, classes, has_name, texts, own_permissions, listed_by, leads, references, named_permissions, gives_common, common_permissions, permissions_of, both_true, rule_kind_of, is_element_below, is_target_below, is_rule_below, is_written_below, keeps_no_list, ArePermissions, AreRules, GivesNumbered, listed_names, ClassPermissions, GivePermissions, IsRuleStart, rule_with, are_permissions_below, texts_in, place_of, IsElement, resolved_target_of, at_element, itself, the_named, Element}
+use Rattle.cil_resolve.proofs.Common.{◌≡◌, ℕ, Bool, true, false, ◌&&◌, ◌||◌, nat_lt, List, [], ◌∷◌, length, get_or, map, flat_map, Contains, inl, inr, arith, contains-cases, WordExpr, meaning_of, Option, Some, None, is_some, bytes_eq, refl, sym, ap, ◌∙◌, subst, true≢false, if◌then◌else◌, list_all, lt-ltb, none-some, slice_get-get_or, Word, Placed, RuleKind, anonymous, allow, auditallow, dontaudit, neverallow, Target, Form, block, optional, type_name, type_alias, alias_actual, type_attribute, attribute_set, common, class, class_common, class_order, class_permission, class_permission_set, rule, unwrap_or, list_any-append, contains-first, contains-other, contains-map, rule_kind, IsLead, IsFaultless, lead-of, bound-at, Table, commons, classes, has_name, texts, own_permissions, listed_by, leads, references, named_permissions, gives_common, common_permissions, permissions_of, both_true, rule_kind_of, is_element_below, is_target_below, is_rule_below, is_written_below, keeps_no_list, ArePermissions, AreRules, GivesNumbered, listed_names, ClassPermissions, GivePermissions, IsRuleStart, rule_with, are_permissions_below, texts_in, place_of, IsElement, resolved_target_of, at_element, itself, the_named, Element}
 use Rattle.std.proofs.Common.{slice_get}
 use Rattle.cil_bind.specs.Binding.{AreBound}
 use Rattle.cil_resolve.proofs.FaultlessLemmas.{permission-found}
@@ -76,6 +76,15 @@ class-gives names policy the_class permissions p are =
       no_list = are.no_list;
       gives = are.gives;
     }
+
+-- a rule of a class, by its parts
+pub class-rule-made : {A : Type 0} (modules names : List (List ℕ)) (policy : List Placed) (s : Placed) (r : RuleStart) (p : NumberedPermissions A) (x : NumberedRule A) (kind : RuleKind) (source : Word) (target : Target)
+    (the_class : Word) (permissions : WordExpr) → s.form ≡ rule kind source target (anonymous the_class permissions) → IsRuleStart modules names policy s kind source target (anonymous the_class permissions) r
+    → ArePermissions names policy (spec.class_name policy s.namespace the_class) permissions p → x ≡ rule_with r (permits.OfClass p) → AreRules modules names policy (x ∷ []) (spec.rule_of policy s s.form)
+class-rule-made modules names policy s r p x kind source target the_class permissions form start are is =
+    subst (λ y. AreRules modules names policy (y ∷ []) (spec.rule_of policy s s.form)) (sym is)
+    (subst (λ f. AreRules modules names policy (rule_with r (permits.OfClass p) ∷ []) (spec.rule_of policy s f)) (sym form)
+    (rule-made modules names policy s r (permits.OfClass p) kind source target (anonymous the_class permissions) start (class-gives names policy (spec.class_name policy s.namespace the_class) permissions p are)))
 
 -- no rules
 pub no-rules : {A : Type 0} (modules names : List (List ℕ)) (policy : List Placed) (rules : List (NumberedRule A)) → rules ≡ [] → AreRules modules names policy rules []

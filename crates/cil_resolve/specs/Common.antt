@@ -13,8 +13,8 @@ pub use Rattle.cil_resolve.specs.Apart.{StandApart}
 pub use Rattle.cil_resolve.specs.Below.{is_element_below, is_rule_below, is_written_below}
 pub use Rattle.cil_resolve.specs.FullNames.{full_name_of, is_numbered, is_numbered_kind, numbered_id, space_text}
 pub use Rattle.cil_resolve.specs.Judged.{AreJudged, IsInOrder, IsJudged, IsWhole}
-pub use Rattle.cil_resolve.specs.KnownPermissions.{AreListNumbers, HaveNumbers, KnowNumbers, known_at, list_at, lists_of}
-pub use Rattle.cil_resolve.specs.Lowering.{AddsClass, AddsRule, AddsSet, AreElements, ArePartsOf, ArePermissionSets, ArePermissions, AreRules, AreSets, HaveElements, IsClass, IsDeclared, IsElement, IsExpression, IsIn, IsLowering, IsPermissionSet, IsRule, IsRuleOfClass, IsRuleOfSet, IsRuleStart, IsSet, IsSpeltBy, KnowSets, NamesPermissions, WritesPermissions, common_of, is_set, modules_of, permission_set_if, rule_if, rule_with, set_if}
+pub use Rattle.cil_resolve.specs.KnownPermissions.{AddsRuleAt, AreListNumbers, HaveNumbers, IsRuleAt, KnowNumbers, NamesAt, PermitsAt, StayKnown, known_at, list_at, lists_of}
+pub use Rattle.cil_resolve.specs.Lowering.{AddsClass, AddsRule, AddsSetAt, AreElements, ArePartsOf, ArePermissionSets, ArePermissions, AreRules, AreSets, HaveElements, IsClass, IsDeclared, IsElement, IsExpression, IsIn, IsLowering, IsPermissionSet, IsRule, IsRuleOfClass, IsRuleOfSet, IsRuleStart, IsSeenExpression, IsSet, IsSpeltBy, KnowSets, Refers, SeenAt, SeesSet, StandsAt, WritesPermissions, common_of, is_set, modules_of, permission_set_if, rule_if, rule_with, set_if}
 pub use Rattle.cil_resolve.specs.Meter.{adjustments_in, evaluations_in}
 pub use Rattle.cil_resolve.specs.Modules.{AreParsedFrom}
 pub use Rattle.cil_resolve.specs.Naming.{AreNaming, is_naming, naming}

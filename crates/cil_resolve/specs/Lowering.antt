@@ -7,7 +7,7 @@ use Rattle.cil_specs.specs.Names.{Word}
 use Rattle.cil_specs.specs.Expr.{Expr, WordExpr, leaves, map_leaves}
 use Rattle.cil_specs.specs.Meaning.{class_permits, meaning_of, permissions_permit}
 use Rattle.cil_specs.specs.Statements.{Form, RuleKind, Target, ClassPermissions, anonymous, by_name, class_common, class_permission_set, attribute_set, rule}
-use Rattle.cil_specs.specs.Lookup.{types, classes, commons, leads, named_permissions, permission_reference, references, gives_common, actual_statement, is_alias, is_type, is_attribute}
+use Rattle.cil_specs.specs.Lookup.{Table, types, classes, commons, leads, named_permissions, permission_reference, references, gives_common, actual_statement, is_alias, is_type, is_attribute}
 use Rattle.cil_specs.specs.Rule as spec
 use Rattle.cil_specs.specs.Rule.{element_at, element_of as element_led, declared_as, class_as, is_class, set_statement_of, permission_set_of, permission_sets_of, resolved_target_of as target_led, rule_of, texts_of}
 use Rattle.cil_bind.specs.Lookup.{IsFirstOf}
@@ -87,6 +87,8 @@ pub record IsLowering {A : Type 0} (l : Lowering A) (policy : List Placed) : Typ
   pub places : HavePlaces l.numbering.now.names.items policy l.numbering.now.places.items
   pub permissions : HavePermissions l.checker.now.bound.policy.now.names l.numbering.now.names.items policy l.numbering.now.permissions.items
   pub elements : HaveElements l.numbering.now.names.items policy l.elements.now
+  pub places_long : length l.numbering.now.places.items ≡ length policy
+  pub elements_long : length l.elements.now ≡ length policy
 
 -- what is seen of one of its statements
 pub record IsIn {A : Type 0} (l : Lowering A) (seen : Seen A) (policy : List Placed) (s : Placed) : Type 0 where
@@ -94,6 +96,22 @@ pub record IsIn {A : Type 0} (l : Lowering A) (seen : Seen A) (policy : List Pla
   pub there : Contains policy s
   pub seen_is : IsSeen seen policy s
   pub worded : AreNumbersOf l.checker.now.bound.policy.now.names seen.words.now (names_of seen.«module».now)
+
+-- What is seen is a statement with a reference of this index.
+pub record Refers {A : Type 0} (l : Lowering A) (seen : Seen A) (k : ℕ) : Type 0 where
+  pub policy : List Placed
+  pub s : Placed
+  pub table : Table
+  pub word : Word
+  pub is : IsIn l seen policy s
+  pub at : slice_get (references s.form) k ≡ Some (table, word)
+
+-- At this place stands a statement whose form is one of these; and one that is seen.
+abbrev pub StandsAt : {A : Type 0} → Lowering A → ℕ → (Form → Type 0) → Type 0
+StandsAt l i Is = (policy : List Placed) × (s : Placed) × IsLowering l policy × (slice_get policy i ≡ Some s) × Is s.form
+
+abbrev pub SeenAt : {A : Type 0} → Lowering A → Seen A → ℕ → (Form → Type 0) → Type 0
+SeenAt l seen i Is = (policy : List Placed) × (s : Placed) × IsIn l seen policy s × (slice_get policy i ≡ Some s) × Is s.form
 
 -- where the common of a statement leads
 abbrev pub common_in : List Placed → List (List ℕ) → Form → Option Placed
@@ -224,6 +242,10 @@ pub record AreElements (names : List (List ℕ)) (elements : List Element) (are 
 abbrev pub IsSet : Form → Type 0
 IsSet form = (attribute : Word) × (expr : WordExpr) × (form ≡ attribute_set attribute expr)
 
+-- what is seen is a set statement
+abbrev pub SeesSet : {A : Type 0} → Lowering A → Seen A → Type 0
+SeesSet l seen = (policy : List Placed) × (s : Placed) × IsIn l seen policy s × IsSet s.form
+
 -- the expression is this one, by names
 pub record IsExpression {A : Type 0} (names : List (List ℕ)) (e : SetExpression A) (is : Expr spec.Element) : Type 0 where
   pub named : map_leaves (element_of names) (set_expr_in e) ≡ is
@@ -239,6 +261,16 @@ pub record AddsSet {A : Type 0} (modules names : List (List ℕ)) (policy : List
   pub set : NumberedSet A
   pub pushed : after ≡ before ++ set ∷ []
   pub is : AreSets modules names (set ∷ []) (set_if policy s)
+
+-- behind some set statements stands that of this place
+abbrev pub AddsSetAt : {A : Type 0} → Lowering A → ℕ → List (NumberedSet A) → List (NumberedSet A) → Type 0
+AddsSetAt l i before after = (policy : List Placed) (s : Placed) → IsLowering l policy → slice_get policy i ≡ Some s → IsSet s.form
+    → AddsSet (modules_of l.checker.now.bound.joined.now) l.numbering.now.names.items policy s before after
+
+-- the expression is that of the set statement that is seen
+abbrev pub IsSeenExpression : {A : Type 0} → Lowering A → Seen A → SetExpression A → Type 0
+IsSeenExpression l seen e = (policy : List Placed) (s : Placed) (attribute : Word) (expr : WordExpr) → IsIn l seen policy s → s.form ≡ attribute_set attribute expr
+    → IsExpression l.numbering.now.names.items e (map_leaves (element_led policy s.namespace) expr)
 
 -- The types, attributes, classes, set statements and rules that some statements of a policy are, and what the policy says of permission
 -- sets.

@@ -68,7 +68,9 @@ pub fn elements<A: Allocator + Copy>(
     places: &[u32],
 ) -> Result<Vec<Element, A>, AllocError>
     requires { (policy : List Placed) × IsNoted checker.now policy × AreNaming policy naming.now }
-    ensures { IfOk result (λ elements. (names : List (List ℕ)) (policy : List Placed) → IsNoted checker.now policy → IsFaultless policy → AreNaming policy naming.now
+    ensures long { IfOk result (λ elements. (policy : List Placed) → IsNoted checker.now policy
+        → length elements.items ≡ length policy) }
+    ensures have { IfOk result (λ elements. (names : List (List ℕ)) (policy : List Placed) → IsNoted checker.now policy → IsFaultless policy → AreNaming policy naming.now
         → HavePlaces names policy places.now → HaveElements names policy elements.items) }
 {
     let mut elements = vec![in alloc; Element::Type(0); checker.bound.len()]?;

@@ -1,7 +1,7 @@
 //! A policy without faults by the numbers of its names.
 
-ghost use Rattle.std.specs.Prelude.{◌≡◌, ◌<◌, ◌++◌, ◌∷◌, List, [], Some, length, slice_get, slice_index_or, Contains, IsTrue, IfOk, OnOk};
-ghost use Rattle.cil_resolve.specs.Common.{Word, Placed, types, classes, permission_sets, leads, references, is_numbered, IsElement, IsLowering, IsIn, IsDeclared, IsClass, AddsClass, ArePartsOf, ArePermissionSets, modules_of, AreNaming, KnowNumbers, KnowSets, number_in};
+ghost use Rattle.std.specs.Prelude.{◌≡◌, ◌<◌, ◌++◌, ◌∷◌, List, [], Some, None, length, slice_get, slice_index_or, Contains, IsTrue, IfOk, OnOk};
+ghost use Rattle.cil_resolve.specs.Common.{Word, Placed, types, classes, permission_sets, leads, references, is_numbered, IsElement, IsLowering, IsIn, Refers, IsDeclared, IsClass, AddsClass, ArePartsOf, ArePermissionSets, modules_of, AreNaming, KnowNumbers, KnowSets, StayKnown, number_in};
 ghost use Rattle.cil_specs.specs.PolicyFault.{element_words};
 ghost use Rattle.cil_specs.specs.Rule.{element_of as element_led, class_name, is_class, name_or_none, permission_sets_of};
 
@@ -51,17 +51,44 @@ impl<'l, 'p, 'm, A: Allocator + Copy> Lowering<'l, 'p, 'm, A> {
         policy.rows[i].module
     }
 
+    /// The statement of a place, as it is seen.
+    #[inline(always)]
+    pub(crate) fn seen(&self, i: usize) -> Seen<'p, 'm, A>
+        requires { (policy : List Placed) × (s : Placed) × IsLowering self.now policy
+            × (slice_get policy i ≡ Some s) }
+        ensures { (policy : List Placed) (s : Placed) → IsLowering self.now policy
+            → slice_get policy i ≡ Some s → IsIn self.now result policy s }
+    {
+        self.checker.bound.seen(i)
+    }
+
+    /// The place that a reference of a statement leads to. In a policy without faults each leads
+    /// somewhere.
+    #[inline(always)]
+    pub(crate) fn place(&self, seen: &Seen<'p, 'm, A>, k: usize) -> usize
+        requires { Refers self.now seen.now k }
+        ensures led { slice_index_or seen.now.bound k None ≡ Some result }
+        ensures element { result < length self.now.elements.now }
+        ensures number { result < length self.now.numbering.now.places.items }
+    {
+        let Some(place) = seen.lead(k) else {
+            unreachable!("the reference leads somewhere");
+        };
+        place as usize
+    }
+
     /// What a reference of a statement stands for, an alias for its actual type.
     pub(crate) fn element(&self, seen: &Seen<'p, 'm, A>, k: usize) -> Element
+        requires { Refers self.now seen.now k }
         ensures { (policy : List Placed) (s : Placed) (word : Word) → IsIn self.now seen.now policy s → slice_get (references s.form) k ≡ Some (types, word) → Contains (element_words s.form) word
             → IsElement self.now.numbering.now.names.items result (element_led policy s.namespace word) }
     {
-        let place = seen.lead(k).unwrap_or(u32::MAX);
-        element_in(self.elements, place as usize)
+        element_in(self.elements, self.place(seen, k))
     }
 
     /// The number of the class, or of the permission set, that a reference of a statement leads to.
     pub(crate) fn number(&self, seen: &Seen<'p, 'm, A>, k: usize) -> usize
+        requires { Refers self.now seen.now k }
         ensures class { (policy : List Placed) (s : Placed) (word : Word) → IsIn self.now seen.now policy s
             → slice_get (references s.form) k ≡ Some (classes, word)
             → number_in self.now.numbering.now.names.items (class_name policy s.namespace word) ≡ Some result }
@@ -70,8 +97,7 @@ impl<'l, 'p, 'm, A: Allocator + Copy> Lowering<'l, 'p, 'm, A> {
             → number_in self.now.numbering.now.names.items
             (name_or_none permission_sets (leads policy permission_sets s.namespace word.text)) ≡ Some result }
     {
-        let place = seen.lead(k).unwrap_or(u32::MAX);
-        number_at(&self.numbering.places, place as usize) as usize
+        self.numbering.places[self.place(seen, k)] as usize
     }
 
     /// The type or the attribute that the statement of a place declares.
@@ -130,8 +156,7 @@ impl<'l, 'p, 'm, A: Allocator + Copy> Lowering<'l, 'p, 'm, A> {
             → slice_get policy i ≡ Some s → KnowNumbers self.now known.old policy → KnowSets self.now given.now policy
             → ArePartsOf (modules_of self.now.checker.now.bound.joined.now) self.now.numbering.now.names.items policy statements parts.old
             → ArePartsOf (modules_of self.now.checker.now.bound.joined.now) self.now.numbering.now.names.items policy (statements ++ s ∷ []) parts.new) }
-        ensures known { OnOk result ((policy : List Placed) (s : Placed) → IsLowering self.now policy
-            → slice_get policy i ≡ Some s → KnowNumbers self.now known.old policy → KnowNumbers self.now known.new policy) }
+        ensures known { OnOk result (StayKnown self.now known.old known.new) }
     {
         match self.checker.bound.kind(i as usize) {
             StatementKind::TypeName => parts.types.push(self.declared(i as usize))?,

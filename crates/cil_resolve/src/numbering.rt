@@ -40,6 +40,8 @@ impl<A: Allocator + Copy> Numbering<A> {
     /// The names of a policy, whose naming statements stand at these places.
     pub fn of(alloc: A, bound: &BoundPolicy<'_, '_, A>, naming: &[u32]) -> Result<Self, AllocError>
         requires { (policy : List Placed) × IsOf bound.now policy × AreNaming policy naming.now }
+        ensures long { IfOk result (λ n. (policy : List Placed) → IsOf bound.now policy
+            → length n.places.items ≡ length policy) }
         ensures places { IfOk result (λ n. (policy : List Placed) → IsOf bound.now policy → AreNaming policy naming.now → HavePlaces n.names.items policy n.places.items) }
         ensures permissions { IfOk result (λ n. (policy : List Placed) → IsOf bound.now policy → AreNaming policy naming.now → HavePermissions bound.now.policy.now.names n.names.items policy n.permissions.items) }
     {
@@ -156,7 +158,9 @@ fn place_numbers<A: Allocator + Copy>(
     names: &Names<'_, A>,
 ) -> Result<Vec<u32, A>, AllocError>
     requires is { (policy : List Placed) × IsOf bound.now policy × AreNaming policy naming.now × (full_names.now.0 ≡ map full_name_of (naming_in policy)) × AreNamesOf policy names.now }
-    ensures { IfOk result (λ places. (policy : List Placed) → IsOf bound.now policy → AreNaming policy naming.now → full_names.now.0 ≡ map full_name_of (naming_in policy) → HavePlaces names.now policy places.items) }
+    ensures long { IfOk result (λ places. (policy : List Placed) → IsOf bound.now policy
+        → length places.items ≡ length policy) }
+    ensures have { IfOk result (λ places. (policy : List Placed) → IsOf bound.now policy → AreNaming policy naming.now → full_names.now.0 ≡ map full_name_of (naming_in policy) → HavePlaces names.now policy places.items) }
 {
     let mut places = vec![in alloc; 0; bound.len()]?;
     for k in 0..naming.len() {

@@ -1,7 +1,7 @@
 //! The permissions that statements name, by numbers.
 
 ghost use Rattle.std.specs.Prelude.{◌≡◌, ◌<◌, [], ℕ, List, Some, length, slice_get, slice_index_or, is_some, IsTrue, IfOk, OnOk};
-ghost use Rattle.cil_resolve.specs.Common.{list_all, Word, Placed, texts, has_name, read, texts_of, IsOneName, IsLowering, IsIn, KnowNumbers, HaveNumbers, AreListNumbers, list_at, lists_of, known_at, AreNumbersIn, listed_names, number_in};
+ghost use Rattle.cil_resolve.specs.Common.{list_all, Word, Placed, texts, has_name, read, texts_of, IsOneName, IsLowering, IsIn, KnowNumbers, StayKnown, HaveNumbers, AreListNumbers, list_at, lists_of, known_at, AreNumbersIn, listed_names, number_in};
 ghost use Rattle.cil_bind.specs.Common.{Comes};
 ghost use Rattle.cil_parse.specs.Forms.{permissions_in};
 ghost use Rattle.cil_parse.specs.Lexicon.{AreNumbersOf};
@@ -146,8 +146,7 @@ impl<'l, 'p, 'm, A: Allocator + Copy> Lowering<'l, 'p, 'm, A> {
         ensures numbers { IfOk result (λ numbers. (policy : List Placed) (s : Placed) → IsLowering self.now policy → slice_get policy i ≡ Some s → KnowNumbers self.now known.old policy
             → IsTrue (list_all (has_name (listed_names policy)) (texts (permissions_in s.form)))
             → AreNumbersIn self.now.numbering.now.names.items (texts (permissions_in s.form)) numbers) }
-        ensures known { OnOk result ((policy : List Placed) (s : Placed) → IsLowering self.now policy → slice_get policy i ≡ Some s → KnowNumbers self.now known.old policy
-            → KnowNumbers self.now known.new policy) }
+        ensures known { OnOk result (StayKnown self.now known.old known.new) }
     {
         let at = self.list_place(i);
         if let Some(numbers) = known.get(at)? {

@@ -1,7 +1,7 @@
 //! The statements of permission sets, by the numbers of their names.
 
 ghost use Rattle.std.specs.Prelude.{◌≡◌, ◌<◌, ◌++◌, ◌∷◌, [], List, Some, flat_map, length, slice_get, IfOk, OnOk};
-ghost use Rattle.cil_resolve.specs.Common.{Placed, IsIn, IsLowering, IsPermissionSet, ArePermissionSets, AreNaming, KnowNumbers, modules_of, permission_set_if};
+ghost use Rattle.cil_resolve.specs.Common.{Placed, IsIn, IsLowering, IsPermissionSet, ArePermissionSets, AreNaming, KnowNumbers, SeenAt, StayKnown, modules_of, permission_set_if};
 ghost use Rattle.cil_specs.specs.Rule.{permission_sets_of};
 
 use crate::known_permissions::KnownPermissions;
@@ -19,14 +19,12 @@ impl<'l, 'p, 'm, A: Allocator + Copy> Lowering<'l, 'p, 'm, A> {
         seen: &Seen<'p, 'm, A>,
         i: usize,
     ) -> Result<NumberedPermissionSet<A>, AllocError>
-        requires { (policy : List Placed) × (s : Placed) × IsIn self.now seen.now policy s
-            × (slice_get policy i ≡ Some s) × IsPermissionSet s.form }
+        requires { SeenAt self.now seen.now i IsPermissionSet }
         ensures set { IfOk result (λ set. (policy : List Placed) (s : Placed) → IsIn self.now seen.now policy s
             → slice_get policy i ≡ Some s → IsPermissionSet s.form → KnowNumbers self.now known.old policy
             → ArePermissionSets (modules_of self.now.checker.now.bound.joined.now) self.now.numbering.now.names.items
             policy (set ∷ []) (permission_set_if policy s)) }
-        ensures known { OnOk result ((policy : List Placed) (s : Placed) → IsIn self.now seen.now policy s
-            → slice_get policy i ≡ Some s → KnowNumbers self.now known.old policy → KnowNumbers self.now known.new policy) }
+        ensures known { OnOk result (StayKnown self.now known.old known.new) }
     {
         Ok(NumberedPermissionSet {
             module: self.module(i),
@@ -50,13 +48,12 @@ impl<'l, 'p, 'm, A: Allocator + Copy> Lowering<'l, 'p, 'm, A> {
             policy sets.old.items (flat_map (permission_set_if policy) statements)
             → ArePermissionSets (modules_of self.now.checker.now.bound.joined.now) self.now.numbering.now.names.items
             policy sets.new.items (flat_map (permission_set_if policy) (statements ++ s ∷ []))) }
-        ensures known { OnOk result ((policy : List Placed) (s : Placed) → IsLowering self.now policy
-            → slice_get policy i ≡ Some s → KnowNumbers self.now known.old policy → KnowNumbers self.now known.new policy) }
+        ensures known { OnOk result (StayKnown self.now known.old known.new) }
     {
         let StatementKind::ClassPermissionSet = self.checker.bound.kind(i) else {
             return Ok(());
         };
-        let seen = self.checker.bound.seen(i);
+        let seen = self.seen(i);
         let set = self.permission_set(known, &seen, i)?;
         sets.push(set)?;
         Ok(())

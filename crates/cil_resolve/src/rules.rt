@@ -3,7 +3,7 @@
 ghost use Rattle.std.specs.Prelude.{◌≡◌, ◌==◌, ◌∷◌, [], length, List, Some, slice_get, IfOk, IsTrue, OnOk};
 ghost use Rattle.cil_specs.specs.Statements.{ClassPermissions, Target, rule};
 ghost use Rattle.cil_specs.specs.Statements as spec;
-ghost use Rattle.cil_resolve.specs.Common.{Word, Placed, AddsRule, AreRules, IsIn, IsLowering, IsRule, IsRuleOfClass, IsRuleOfSet, IsRuleStart, KnowNumbers, KnowSets, modules_of, rule_if, rule_with};
+ghost use Rattle.cil_resolve.specs.Common.{Word, Placed, AddsRule, AreRules, IsIn, AddsRuleAt, IsLowering, IsRule, IsRuleAt, IsRuleOfClass, IsRuleOfSet, IsRuleStart, KnowNumbers, KnowSets, SeenAt, StandsAt, StayKnown, modules_of, rule_if, rule_with};
 
 use crate::given_sets::GivenSets;
 use crate::known_permissions::KnownPermissions;
@@ -46,8 +46,7 @@ impl<'l, 'p, 'm, A: Allocator + Copy> Lowering<'l, 'p, 'm, A> {
     /// The rule of a place but for its permissions.
     #[inline(always)]
     fn rule_start(&self, seen: &Seen<'p, 'm, A>, i: usize) -> RuleStart
-        requires { (policy : List Placed) × (s : Placed) × IsIn self.now seen.now policy s
-            × (slice_get policy i ≡ Some s) × IsRule s.form }
+        requires { SeenAt self.now seen.now i IsRule }
         ensures { (policy : List Placed) (s : Placed) (kind : spec.RuleKind) (source : Word) (target : Target) (permissions : ClassPermissions)
             → IsIn self.now seen.now policy s → slice_get policy i ≡ Some s → s.form ≡ rule kind source target permissions
             → IsRuleStart (modules_of self.now.checker.now.bound.joined.now) self.now.numbering.now.names.items
@@ -78,16 +77,11 @@ impl<'l, 'p, 'm, A: Allocator + Copy> Lowering<'l, 'p, 'm, A> {
         known: &mut KnownPermissions<A>,
         i: usize,
     ) -> Result<NumberedRule<A>, AllocError>
-        requires { (policy : List Placed) × (s : Placed) × IsLowering self.now policy
-            × (slice_get policy i ≡ Some s) × IsRuleOfClass s.form }
-        ensures rule { IfOk result (λ rule. (policy : List Placed) (s : Placed) → IsLowering self.now policy
-            → slice_get policy i ≡ Some s → IsRuleOfClass s.form → KnowNumbers self.now known.old policy
-            → AreRules (modules_of self.now.checker.now.bound.joined.now) self.now.numbering.now.names.items
-            policy (rule ∷ []) (rule_if policy s)) }
-        ensures known { OnOk result ((policy : List Placed) (s : Placed) → IsLowering self.now policy
-            → slice_get policy i ≡ Some s → KnowNumbers self.now known.old policy → KnowNumbers self.now known.new policy) }
+        requires { StandsAt self.now i IsRuleOfClass }
+        ensures rule { IfOk result (IsRuleAt self.now known.old i) }
+        ensures known { OnOk result (StayKnown self.now known.old known.new) }
     {
-        let seen = self.checker.bound.seen(i);
+        let seen = self.seen(i);
         let start = self.rule_start(&seen, i);
         let permissions = self.statement_permissions(known, &seen, i, start.reference)?;
         Ok(start.with(ResolvedPermissions::OfClass(permissions)))
@@ -101,15 +95,13 @@ impl<'l, 'p, 'm, A: Allocator + Copy> Lowering<'l, 'p, 'm, A> {
         seen: &Seen<'p, 'm, A>,
         i: usize,
     ) -> Result<NumberedRule<A>, AllocError>
-        requires is { (policy : List Placed) × (s : Placed) × IsIn self.now seen.now policy s
-            × (slice_get policy i ≡ Some s) × IsRuleOfClass s.form }
+        requires is { SeenAt self.now seen.now i IsRuleOfClass }
         requires plain { IsTrue (length seen.now.view.nodes.now == 0) }
         ensures rule { IfOk result (λ rule. (policy : List Placed) (s : Placed) → IsIn self.now seen.now policy s
             → slice_get policy i ≡ Some s → IsRuleOfClass s.form → KnowNumbers self.now known.old policy
             → AreRules (modules_of self.now.checker.now.bound.joined.now) self.now.numbering.now.names.items
             policy (rule ∷ []) (rule_if policy s)) }
-        ensures known { OnOk result ((policy : List Placed) (s : Placed) → IsIn self.now seen.now policy s
-            → slice_get policy i ≡ Some s → KnowNumbers self.now known.old policy → KnowNumbers self.now known.new policy) }
+        ensures known { OnOk result (StayKnown self.now known.old known.new) }
     {
         let start = self.rule_start(seen, i);
         let permissions = self.plain_permissions(known, seen, i, start.reference)?;
@@ -122,14 +114,13 @@ impl<'l, 'p, 'm, A: Allocator + Copy> Lowering<'l, 'p, 'm, A> {
         given: &GivenSets<A>,
         i: usize,
     ) -> Result<NumberedRule<A>, AllocError>
-        requires { (policy : List Placed) × (s : Placed) × IsLowering self.now policy
-            × (slice_get policy i ≡ Some s) × IsRuleOfSet s.form }
+        requires { StandsAt self.now i IsRuleOfSet }
         ensures { IfOk result (λ rule. (policy : List Placed) (s : Placed) → IsLowering self.now policy
             → slice_get policy i ≡ Some s → IsRuleOfSet s.form → KnowSets self.now given.now policy
             → AreRules (modules_of self.now.checker.now.bound.joined.now) self.now.numbering.now.names.items
             policy (rule ∷ []) (rule_if policy s)) }
     {
-        let seen = self.checker.bound.seen(i);
+        let seen = self.seen(i);
         let start = self.rule_start(&seen, i);
         let permissions = given.find(self.number(&seen, start.reference))?;
         Ok(start.with(ResolvedPermissions::OfSet(permissions)))
@@ -144,16 +135,11 @@ impl<'l, 'p, 'm, A: Allocator + Copy> Lowering<'l, 'p, 'm, A> {
         rules: &mut Vec<NumberedRule<A>, A>,
         i: usize,
     ) -> Result<(), AllocError>
-        requires { (policy : List Placed) × (s : Placed) × IsLowering self.now policy
-            × (slice_get policy i ≡ Some s) × IsRuleOfClass s.form }
-        ensures rule { OnOk result ((policy : List Placed) (s : Placed) → IsLowering self.now policy
-            → slice_get policy i ≡ Some s → IsRuleOfClass s.form → KnowNumbers self.now known.old policy
-            → AddsRule (modules_of self.now.checker.now.bound.joined.now) self.now.numbering.now.names.items
-            policy s rules.old.items rules.new.items) }
-        ensures known { OnOk result ((policy : List Placed) (s : Placed) → IsLowering self.now policy
-            → slice_get policy i ≡ Some s → KnowNumbers self.now known.old policy → KnowNumbers self.now known.new policy) }
+        requires { StandsAt self.now i IsRuleOfClass }
+        ensures rule { OnOk result (AddsRuleAt self.now known.old i rules.old.items rules.new.items) }
+        ensures known { OnOk result (StayKnown self.now known.old known.new) }
     {
-        let seen = self.checker.bound.seen(i);
+        let seen = self.seen(i);
         if !seen.view.nodes.is_empty() {
             return self.add_any_rule_of_class(known, rules, i);
         }
@@ -170,14 +156,9 @@ impl<'l, 'p, 'm, A: Allocator + Copy> Lowering<'l, 'p, 'm, A> {
         rules: &mut Vec<NumberedRule<A>, A>,
         i: usize,
     ) -> Result<(), AllocError>
-        requires { (policy : List Placed) × (s : Placed) × IsLowering self.now policy
-            × (slice_get policy i ≡ Some s) × IsRuleOfClass s.form }
-        ensures rule { OnOk result ((policy : List Placed) (s : Placed) → IsLowering self.now policy
-            → slice_get policy i ≡ Some s → IsRuleOfClass s.form → KnowNumbers self.now known.old policy
-            → AddsRule (modules_of self.now.checker.now.bound.joined.now) self.now.numbering.now.names.items
-            policy s rules.old.items rules.new.items) }
-        ensures known { OnOk result ((policy : List Placed) (s : Placed) → IsLowering self.now policy
-            → slice_get policy i ≡ Some s → KnowNumbers self.now known.old policy → KnowNumbers self.now known.new policy) }
+        requires { StandsAt self.now i IsRuleOfClass }
+        ensures rule { OnOk result (AddsRuleAt self.now known.old i rules.old.items rules.new.items) }
+        ensures known { OnOk result (StayKnown self.now known.old known.new) }
     {
         let rule = self.rule_of_class(known, i)?;
         rules.push(rule)?;
@@ -192,8 +173,7 @@ impl<'l, 'p, 'm, A: Allocator + Copy> Lowering<'l, 'p, 'm, A> {
         rules: &mut Vec<NumberedRule<A>, A>,
         i: usize,
     ) -> Result<(), AllocError>
-        requires { (policy : List Placed) × (s : Placed) × IsLowering self.now policy
-            × (slice_get policy i ≡ Some s) × IsRuleOfSet s.form }
+        requires { StandsAt self.now i IsRuleOfSet }
         ensures { OnOk result ((policy : List Placed) (s : Placed) → IsLowering self.now policy
             → slice_get policy i ≡ Some s → IsRuleOfSet s.form → KnowSets self.now given.now policy
             → AddsRule (modules_of self.now.checker.now.bound.joined.now) self.now.numbering.now.names.items

@@ -1,13 +1,12 @@
 //! Set statements by the numbers of their names.
 
 ghost use Rattle.std.specs.Prelude.{◌≡◌, ◌∷◌, [], List, Some, map, slice_get, IfOk, IfSome, OnOk};
-ghost use Rattle.cil_resolve.specs.Common.{Word, WordExpr, leaves, map_leaves, attribute_set, Placed, types, leads, IsIn, IsLowering, AreElements, IsSet, IsExpression, AddsSet, AreSets, modules_of, set_if, number_in};
+ghost use Rattle.cil_resolve.specs.Common.{Word, WordExpr, leaves, map_leaves, attribute_set, Placed, types, leads, IsIn, AreElements, IsSet, IsExpression, IsSeenExpression, SeenAt, SeesSet, StandsAt, AddsSetAt, AreSets, modules_of, set_if, number_in};
 ghost use Rattle.cil_specs.specs.Rule.{element_of as element_led, name_or_none};
 
 use crate::lowering::Lowering;
 use crate::numbered::NumberedSet;
 use crate::one_name::{is_list_of_name, is_name};
-use crate::words::number_at;
 use cil_check::Seen;
 use cil_expression::{Element, SetExpression};
 use std::alloc::{AllocError, Allocator};
@@ -15,15 +14,16 @@ use std::alloc::{AllocError, Allocator};
 impl<'l, 'p, 'm, A: Allocator + Copy> Lowering<'l, 'p, 'm, A> {
     /// The number of the attribute of a set statement.
     fn attribute(&self, seen: &Seen<'p, 'm, A>) -> usize
+        requires { SeesSet self.now seen.now }
         ensures { (policy : List Placed) (s : Placed) (attribute : Word) (expr : WordExpr) → IsIn self.now seen.now policy s → s.form ≡ attribute_set attribute expr
             → number_in self.now.numbering.now.names.items (name_or_none types (leads policy types s.namespace attribute.text)) ≡ Some result }
     {
-        let declared = seen.lead(0).unwrap_or(u32::MAX);
-        number_at(&self.numbering.places, declared as usize) as usize
+        self.numbering.places[self.place(seen, 0)] as usize
     }
 
     /// What the names of the expression of a set statement stand for, in their order.
     fn set_elements(&self, seen: &Seen<'p, 'm, A>) -> Result<Vec<Element, A>, AllocError>
+        requires { SeesSet self.now seen.now }
         ensures { IfOk result (λ elements. (policy : List Placed) (s : Placed) (attribute : Word) (expr : WordExpr) → IsIn self.now seen.now policy s → s.form ≡ attribute_set attribute expr
             → AreElements self.now.numbering.now.names.items elements.items (map (element_led policy s.namespace) (leaves expr))) }
     {
@@ -38,9 +38,8 @@ impl<'l, 'p, 'm, A: Allocator + Copy> Lowering<'l, 'p, 'm, A> {
     /// The expression of a set statement, if it is one name, alone or as the only element of a list: it takes no memory.
     #[inline(always)]
     fn short_expression(&self, seen: &Seen<'p, 'm, A>) -> Option<SetExpression<A>>
-        ensures { IfSome result (λ e. (policy : List Placed) (s : Placed) (attribute : Word) (expr : WordExpr)
-            → IsIn self.now seen.now policy s → s.form ≡ attribute_set attribute expr
-            → IsExpression self.now.numbering.now.names.items e (map_leaves (element_led policy s.namespace) expr)) }
+        requires { SeesSet self.now seen.now }
+        ensures { IfSome result (IsSeenExpression self.now seen.now) }
     {
         if is_name(seen.view.nodes) {
             return Some(SetExpression::named(self.element(seen, 1)));
@@ -53,9 +52,8 @@ impl<'l, 'p, 'm, A: Allocator + Copy> Lowering<'l, 'p, 'm, A> {
 
     /// The expression of a set statement.
     fn set_expression(&self, seen: &Seen<'p, 'm, A>) -> Result<SetExpression<A>, AllocError>
-        requires { (policy : List Placed) × (s : Placed) × IsIn self.now seen.now policy s × IsSet s.form }
-        ensures { IfOk result (λ e. (policy : List Placed) (s : Placed) (attribute : Word) (expr : WordExpr) → IsIn self.now seen.now policy s → s.form ≡ attribute_set attribute expr
-            → IsExpression self.now.numbering.now.names.items e (map_leaves (element_led policy s.namespace) expr)) }
+        requires { SeesSet self.now seen.now }
+        ensures { IfOk result (IsSeenExpression self.now seen.now) }
     {
         let nodes = Vec::from_slice(self.alloc, seen.view.nodes)?;
         let names = self.set_elements(seen)?;
@@ -70,8 +68,7 @@ impl<'l, 'p, 'm, A: Allocator + Copy> Lowering<'l, 'p, 'm, A> {
         i: usize,
         expression: SetExpression<A>,
     ) -> NumberedSet<A>
-        requires { (policy : List Placed) × (s : Placed) × IsIn self.now seen.now policy s
-            × (slice_get policy i ≡ Some s) }
+        requires { SeenAt self.now seen.now i IsSet }
         ensures { (policy : List Placed) (s : Placed) (attribute : Word) (expr : WordExpr)
             → IsIn self.now seen.now policy s → slice_get policy i ≡ Some s → s.form ≡ attribute_set attribute expr
             → IsExpression self.now.numbering.now.names.items expression (map_leaves (element_led policy s.namespace) expr)
@@ -93,13 +90,10 @@ impl<'l, 'p, 'm, A: Allocator + Copy> Lowering<'l, 'p, 'm, A> {
         sets: &mut Vec<NumberedSet<A>, A>,
         i: usize,
     ) -> Result<(), AllocError>
-        requires { (policy : List Placed) × (s : Placed) × IsLowering self.now policy × (slice_get policy i ≡ Some s) × IsSet s.form }
-        ensures { OnOk result ((policy : List Placed) (s : Placed) → IsLowering self.now policy
-            → slice_get policy i ≡ Some s → IsSet s.form
-            → AddsSet (modules_of self.now.checker.now.bound.joined.now) self.now.numbering.now.names.items
-            policy s sets.old.items sets.new.items) }
+        requires { StandsAt self.now i IsSet }
+        ensures { OnOk result (AddsSetAt self.now i sets.old.items sets.new.items) }
     {
-        let seen = self.checker.bound.seen(i);
+        let seen = self.seen(i);
         let Some(expression) = self.short_expression(&seen) else {
             return self.add_any_set(sets, i);
         };
@@ -110,13 +104,10 @@ impl<'l, 'p, 'm, A: Allocator + Copy> Lowering<'l, 'p, 'm, A> {
     /// The same, whatever its expression.
     #[inline(never)]
     fn add_any_set(&self, sets: &mut Vec<NumberedSet<A>, A>, i: usize) -> Result<(), AllocError>
-        requires { (policy : List Placed) × (s : Placed) × IsLowering self.now policy × (slice_get policy i ≡ Some s) × IsSet s.form }
-        ensures { OnOk result ((policy : List Placed) (s : Placed) → IsLowering self.now policy
-            → slice_get policy i ≡ Some s → IsSet s.form
-            → AddsSet (modules_of self.now.checker.now.bound.joined.now) self.now.numbering.now.names.items
-            policy s sets.old.items sets.new.items) }
+        requires { StandsAt self.now i IsSet }
+        ensures { OnOk result (AddsSetAt self.now i sets.old.items sets.new.items) }
     {
-        let seen = self.checker.bound.seen(i);
+        let seen = self.seen(i);
         let expression = self.set_expression(&seen)?;
         sets.push(self.set_with(&seen, i, expression))?;
         Ok(())

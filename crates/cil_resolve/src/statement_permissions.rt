@@ -4,7 +4,7 @@ ghost use Rattle.std.specs.Prelude.{◌≡◌, ◌==◌, ℕ, not, filter, lengt
 ghost use Rattle.cil_specs.specs.Rule.{class_name};
 ghost use Rattle.cil_parse.specs.Forms.{is_plain};
 ghost use Rattle.cil_expression.specs.Expression.{expr_in};
-ghost use Rattle.cil_resolve.specs.Common.{Word, WordExpr, Placed, holds_by, IsIn, IsLowering, NamesPermissions, WritesPermissions, IsSpeltBy, ArePermissions, KnowNumbers};
+ghost use Rattle.cil_resolve.specs.Common.{Word, WordExpr, Placed, holds_by, IsIn, IsLowering, NamesAt, PermitsAt, WritesPermissions, IsSpeltBy, ArePermissions, StayKnown};
 ghost use Rattle.cil_resolve.specs.Numbers.{written_in, is_no_list};
 
 use crate::known_permissions::KnownPermissions;
@@ -112,7 +112,7 @@ impl<'l, 'p, 'm, A: Allocator + Copy> Lowering<'l, 'p, 'm, A> {
             → IsLowering self.now policy → slice_get policy i ≡ Some s → WritesPermissions s.form k the_class permissions
             → ArePermissions self.now.numbering.now.names.items policy (class_name policy s.namespace the_class) permissions p) }
     {
-        let seen = self.checker.bound.seen(i);
+        let seen = self.seen(i);
         self.written_permissions(&seen, k)
     }
 
@@ -125,14 +125,9 @@ impl<'l, 'p, 'm, A: Allocator + Copy> Lowering<'l, 'p, 'm, A> {
         i: usize,
         k: usize,
     ) -> Result<NumberedPermissions<A>, AllocError>
-        requires { (policy : List Placed) × (s : Placed) × (the_class : Word) × (permissions : WordExpr)
-            × IsIn self.now seen.now policy s × (slice_get policy i ≡ Some s) × NamesPermissions s.form k the_class permissions }
-        ensures permissions { IfOk result (λ p. (policy : List Placed) (s : Placed) (the_class : Word) (permissions : WordExpr)
-            → IsIn self.now seen.now policy s → slice_get policy i ≡ Some s → KnowNumbers self.now known.old policy
-            → NamesPermissions s.form k the_class permissions
-            → ArePermissions self.now.numbering.now.names.items policy (class_name policy s.namespace the_class) permissions p) }
-        ensures known { OnOk result ((policy : List Placed) (s : Placed) → IsIn self.now seen.now policy s
-            → slice_get policy i ≡ Some s → KnowNumbers self.now known.old policy → KnowNumbers self.now known.new policy) }
+        requires { NamesAt self.now seen.now i k }
+        ensures permissions { IfOk result (PermitsAt self.now seen.now known.old i k) }
+        ensures known { OnOk result (StayKnown self.now known.old known.new) }
     {
         if !seen.view.nodes.is_empty() {
             return self.written_at(i, k);
@@ -149,15 +144,10 @@ impl<'l, 'p, 'm, A: Allocator + Copy> Lowering<'l, 'p, 'm, A> {
         i: usize,
         k: usize,
     ) -> Result<NumberedPermissions<A>, AllocError>
-        requires is { (policy : List Placed) × (s : Placed) × (the_class : Word) × (permissions : WordExpr)
-            × IsIn self.now seen.now policy s × (slice_get policy i ≡ Some s) × NamesPermissions s.form k the_class permissions }
+        requires is { NamesAt self.now seen.now i k }
         requires plain { IsTrue (length seen.now.view.nodes.now == 0) }
-        ensures permissions { IfOk result (λ p. (policy : List Placed) (s : Placed) (the_class : Word) (permissions : WordExpr)
-            → IsIn self.now seen.now policy s → slice_get policy i ≡ Some s → KnowNumbers self.now known.old policy
-            → NamesPermissions s.form k the_class permissions
-            → ArePermissions self.now.numbering.now.names.items policy (class_name policy s.namespace the_class) permissions p) }
-        ensures known { OnOk result ((policy : List Placed) (s : Placed) → IsIn self.now seen.now policy s
-            → slice_get policy i ≡ Some s → KnowNumbers self.now known.old policy → KnowNumbers self.now known.new policy) }
+        ensures permissions { IfOk result (PermitsAt self.now seen.now known.old i k) }
+        ensures known { OnOk result (StayKnown self.now known.old known.new) }
     {
         Ok(NumberedPermissions {
             class: self.number(seen, k),

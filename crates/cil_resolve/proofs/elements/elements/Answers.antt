@@ -38,8 +38,11 @@ loop-k-preserved g c =
           (c.loop-k.invariant.made names policy noted faultless naming have);
     }
 
-pub returns : goal.returns
-returns g c names policy noted faultless naming have i s at first set =
+pub returns-clause-long : goal.returns-clause-long
+returns-clause-long g c = c.loop-k.invariant.long
+
+pub returns-clause-have : goal.returns-clause-have
+returns-clause-have g c names policy noted faultless naming have i s at first set =
     let past = c.loop-k-test.false in
     filled-at (FitsElement names policy) («Type» 0) policy c.args.naming.now c.loop-k.k c.loop-k.elements.items i s naming (omega (arith, past)) (c.loop-k.invariant.made names policy noted faultless naming have) at
     (type-naming s.form (first-declares types policy i s at first)) s at first set

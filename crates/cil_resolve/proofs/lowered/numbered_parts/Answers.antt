@@ -19,8 +19,9 @@ parts-requires g c =
     let numbered = subst (AreNaming policy) (sym c.deref.ensures.value) naming in (
       policy,
       lowering-of _ policy c.deref-3.result.now c.in_ok-elements.elements.items noted faultless (c.in_ok-numbering.ensures.places policy noted.is numbered)
+          (c.in_ok-numbering.ensures.long policy noted.is) (c.in_ok-elements.ensures.long policy noted)
           (c.in_ok-numbering.ensures.permissions policy noted.is numbered) c.deref-3.ensures.value
-          (c.in_ok-elements.ensures c.in_ok-numbering.numbering.names.items policy noted faultless (subst (AreNaming policy) (sym c.deref-2.ensures.value) naming)) c.deref-4.ensures.value,
+          (c.in_ok-elements.ensures.have c.in_ok-numbering.numbering.names.items policy noted faultless (subst (AreNaming policy) (sym c.deref-2.ensures.value) naming)) c.deref-4.ensures.value,
       naming,
     )
 
@@ -30,6 +31,7 @@ returns g c policy noted faultless =
     let numbered = subst (AreNaming policy) (sym c.deref.ensures.value) naming in
     c.in_ok-parts.ensures policy
     (lowering-of _ policy c.deref-3.result.now c.in_ok-elements.elements.items noted faultless (c.in_ok-numbering.ensures.places policy noted.is numbered)
+    (c.in_ok-numbering.ensures.long policy noted.is) (c.in_ok-elements.ensures.long policy noted)
     (c.in_ok-numbering.ensures.permissions policy noted.is numbered) c.deref-3.ensures.value
-    (c.in_ok-elements.ensures c.in_ok-numbering.numbering.names.items policy noted faultless (subst (AreNaming policy) (sym c.deref-2.ensures.value) naming)) c.deref-4.ensures.value)
+    (c.in_ok-elements.ensures.have c.in_ok-numbering.numbering.names.items policy noted faultless (subst (AreNaming policy) (sym c.deref-2.ensures.value) naming)) c.deref-4.ensures.value)
     naming

@@ -44,8 +44,11 @@ loop-k-preserved g c =
           (c.loop-k.invariant.placed policy is places full);
     }
 
-pub returns : goal.returns
-returns g c policy is places full i s at numbered =
+pub returns-clause-long : goal.returns-clause-long
+returns-clause-long g c = c.loop-k.invariant.long
+
+pub returns-clause-have : goal.returns-clause-have
+returns-clause-have g c policy is places full i s at numbered =
     let past = c.loop-k-test.false in
     filled-at (FitsPlace c.args.names.now policy) 0 policy c.args.naming.now c.loop-k.k c.loop-k.places.items i s places (omega (arith, past)) (c.loop-k.invariant.placed policy is places full) at
     (numbered-naming (kind_of s.form) (kind-numbered s.form ∙ numbered)) s at numbered

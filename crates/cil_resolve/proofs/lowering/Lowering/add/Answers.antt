@@ -119,5 +119,4 @@ returns-in_default-clause-parts g c policy statements s is at knows sets so_far 
     (no-rule-kind kind other.not-Rule other.not-RuleToSelf other.not-RuleOfSet other.not-RuleToSelfOfSet) so_far
 
 pub returns-in_ok-add_rule_of_class-in-Rule-clause-known : goal.returns-in_ok-add_rule_of_class-in-Rule-clause-known
-returns-in_ok-add_rule_of_class-in-Rule-clause-known g c policy s is at knows =
-    c.in_ok-add_rule_of_class-in-Rule.ensures.known policy s is at knows
+returns-in_ok-add_rule_of_class-in-Rule-clause-known g c = c.in_ok-add_rule_of_class-in-Rule.ensures.known

@@ -38,7 +38,7 @@ loop-i-preserved g c policy is naming =
       give = subst (λ l. GivesSets l c.in_ok-given.given) c.deref-2.ensures.value c.in_ok-given.ensures;
     } in (
       subst (λ l. ArePartsOf modules names policy l c.add.new.parts) (sym (take-last policy i s at)) (c.in_ok-add.ensures.parts policy (take i policy) s is at knows sets so_far),
-      c.in_ok-add.ensures.known policy s is at knows,
+      c.in_ok-add.ensures.known policy is knows,
     )
 
 pub returns : goal.returns

@@ -1,4 +1,4 @@
-use Rattle.cil_resolve.proofs.Common.{◌∙◌, ◌∷◌, [], sym, ap, subst, references, slice_get_within, ArePermissionSets, modules_of}
+use Rattle.cil_resolve.proofs.Common.{◌∙◌, ◌∷◌, [], sym, ap, subst, permission_sets, references, slice_get_within, ArePermissionSets, modules_of}
 use Rattle.std.proofs.Common.{slice_get}
 use Rattle.cil_specs.specs.Rule as spec
 use Rattle.cil_resolve.specs.declared.numbered.NumberedPermissionSet.{NumberedPermissionSet}
@@ -15,6 +15,11 @@ pub statement_permissions-requires : goal.statement_permissions-requires
 statement_permissions-requires g c =
     let (policy, s, is, at, (set, the_class, permissions, form)) = c.requires in
     (policy, s, the_class, permissions, is, at, set-names s.form set the_class permissions form)
+
+pub number-requires : goal.number-requires
+number-requires g c =
+    let (policy, s, is, at, (set, the_class, permissions, form)) = c.requires in
+    record { policy = policy; s = s; table = permission_sets; word = set; is = is; at = ap (λ f. slice_get (references f) 0) form }
 
 pub returns-clause-set : goal.returns-clause-set
 returns-clause-set g c policy s is at (set, the_class, permissions, form) knows =

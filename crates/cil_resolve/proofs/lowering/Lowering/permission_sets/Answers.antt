@@ -19,7 +19,7 @@ loop-k-preserved g c policy is places knew =
     let (so_far, knows) = c.loop-k.invariant policy is places knew in (
       subst (λ l. ArePermissionSets modules names policy c.add_permission_set.new.sets.items (flat_map (permission_set_if policy) l)) (sym (take-last (naming policy) k s among))
           (c.in_ok-add_permission_set.ensures.sets policy (take k (naming policy)) s is at knows so_far),
-      c.in_ok-add_permission_set.ensures.known policy s is at knows,
+      c.in_ok-add_permission_set.ensures.known policy is knows,
     )
 
 pub returns-clause-sets : goal.returns-clause-sets

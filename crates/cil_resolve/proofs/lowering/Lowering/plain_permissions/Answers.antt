@@ -1,6 +1,11 @@
-use Rattle.cil_resolve.proofs.Common.{◌∙◌, ap, subst, texts, nodes_in, AreNumbersIn}
+use Rattle.cil_resolve.proofs.Common.{◌∙◌, ap, subst, classes, texts, nodes_in, AreNumbersIn}
 use Rattle.cil_resolve.proofs.GivenLemmas.{a-list, permissions-listed, plain-given}
 use Rattle.cil_resolve.proofs.lowering.Lowering.plain_permissions.Goals as goal
+
+pub number-requires : goal.number-requires
+number-requires g c =
+    let (policy, s, the_class, permissions, is, at, names_them) = c.requires.is in
+    record { policy = policy; s = s; table = classes; word = the_class; is = is; at = names_them.refers }
 
 pub returns-clause-permissions : goal.returns-clause-permissions
 returns-clause-permissions g c policy s the_class permissions is at knows names_them =
@@ -14,4 +19,4 @@ returns-clause-permissions g c policy s the_class permissions is at knows names_
     (c.in_ok-shared_permissions.ensures.numbers policy s is.lowering at knows (permissions-listed l seen policy s is c.args.k the_class permissions names_them)))
 
 pub returns-clause-known : goal.returns-clause-known
-returns-clause-known g c policy s is at knows = c.in_ok-shared_permissions.ensures.known policy s is.lowering at knows
+returns-clause-known g c = c.in_ok-shared_permissions.ensures.known

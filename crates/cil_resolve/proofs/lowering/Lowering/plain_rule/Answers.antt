@@ -1,8 +1,6 @@
-use Rattle.cil_resolve.proofs.Common.{◌∷◌, [], sym, subst, anonymous, AreRules, modules_of, rule_with}
-use Rattle.cil_specs.specs.Rule as spec
-use Rattle.cil_resolve.specs.declared.numbered.ResolvedPermissions.TheVariants as permits
+use Rattle.cil_resolve.proofs.Common.{anonymous, modules_of}
 use Rattle.cil_resolve.proofs.FormLemmas.{rule-names}
-use Rattle.cil_resolve.proofs.RuleLemmas.{class-gives, rule-made}
+use Rattle.cil_resolve.proofs.RuleLemmas.{class-rule-made}
 use Rattle.cil_resolve.proofs.lowering.Lowering.plain_rule.Goals as goal
 
 pub rule_start-start-requires : goal.rule_start-start-requires
@@ -27,10 +25,7 @@ returns-clause-rule g c policy s is at (kind, source, target, the_class, permiss
     let p = c.in_ok-permissions.permissions in
     let start = c.rule_start-start.ensures policy s kind source target (anonymous the_class permissions) is at form in
     let are = c.in_ok-permissions.ensures.permissions policy s the_class permissions is at knows (rule-names s.form r.reference kind source target the_class permissions form start.refers) in
-    subst (λ x. AreRules modules names policy (x ∷ []) (spec.rule_of policy s s.form)) (sym c.with.ensures)
-    (subst (λ f. AreRules modules names policy (rule_with r (permits.OfClass p) ∷ []) (spec.rule_of policy s f)) (sym form)
-    (rule-made modules names policy s r (permits.OfClass p) kind source target (anonymous the_class permissions) start (class-gives names policy (spec.class_name policy s.namespace the_class) permissions p are)))
+    class-rule-made modules names policy s r p c.with.result kind source target the_class permissions form start are c.with.ensures
 
 pub returns-clause-known : goal.returns-clause-known
-returns-clause-known g c policy s is at knows =
-    c.in_ok-permissions.ensures.known policy s is at knows
+returns-clause-known g c = c.in_ok-permissions.ensures.known

@@ -1,21 +1,27 @@
-use Rattle.cil_resolve.proofs.Common.{◌∙◌, ◌∷◌, [], Some, sym, ap, subst, slice_get_within, by_name, permission_sets, leads, name_or_none, AreRules, IsIn, IsOrdered, modules_of, rule_with, set_gives}
+use Rattle.cil_resolve.proofs.Common.{◌∙◌, ◌∷◌, [], Some, sym, ap, subst, by_name, permission_sets, leads, name_or_none, AreRules, IsIn, IsOrdered, modules_of, rule_with, set_gives}
 use Rattle.std.specs.Rc.{rc_value}
 use Rattle.cil_specs.specs.Rule as spec
 use Rattle.cil_resolve.specs.declared.numbered.ResolvedPermissions.TheVariants as permits
 use Rattle.cil_resolve.proofs.RuleLemmas.{rule-made}
 use Rattle.cil_resolve.proofs.SetGivenLemmas.{set-given}
-use Rattle.cil_resolve.proofs.StatementLemmas.{seen-in}
 use Rattle.cil_resolve.proofs.lowering.Lowering.rule_of_set.Goals as goal
 
 pub seen-seen-requires : goal.seen-seen-requires
 seen-seen-requires g c =
     let (policy, s, is, at, of_set) = c.requires in
-    record { is = (policy, is.noted.is, slice_get_within policy c.args.i s at) }
+    (policy, s, is, at)
 
 pub rule_start-start-requires : goal.rule_start-start-requires
 rule_start-start-requires g c =
     let (policy, s, is, at, (kind, source, target, set, form)) = c.requires in
-    (policy, s, seen-in c.args.self.now c.seen-seen.result policy s c.args.i is at (c.seen-seen.ensures.seen policy s is.noted.is at) (c.seen-seen.ensures.worded policy is.noted.is), at, (kind, source, target, by_name set, form))
+    (policy, s, c.seen-seen.ensures policy s is at, at, (kind, source, target, by_name set, form))
+
+pub number-requires : goal.number-requires
+number-requires g c =
+    let (policy, s, is, at, (kind, source, target, set, form)) = c.requires in
+    let is_in : IsIn c.args.self.now c.seen-seen.result policy s = c.seen-seen.ensures policy s is at in
+    let start = c.rule_start-start.ensures policy s kind source target (by_name set) is_in at form in
+    record { policy = policy; s = s; table = permission_sets; word = set; is = is_in; at = start.refers }
 
 pub returns : goal.returns
 returns g c policy s is at (kind, source, target, set, form) know =
@@ -24,7 +30,7 @@ returns g c policy s is at (kind, source, target, set, form) know =
     let names = l.numbering.now.names.items in
     let r = c.rule_start-start.result in
     let p = c.in_ok-permissions.permissions in
-    let is_in : IsIn c.args.self.now c.seen-seen.result policy s = seen-in c.args.self.now c.seen-seen.result policy s c.args.i is at (c.seen-seen.ensures.seen policy s is.noted.is at) (c.seen-seen.ensures.worded policy is.noted.is) in
+    let is_in : IsIn c.args.self.now c.seen-seen.result policy s = c.seen-seen.ensures policy s is at in
     let start = c.rule_start-start.ensures policy s kind source target (by_name set) is_in at form in
     let name = name_or_none permission_sets (leads policy permission_sets s.namespace set.text) in
     let numbered = c.number.ensures.set policy s set is_in start.refers ∙ ap Some (sym c.in_ok-permissions.ensures.set) in

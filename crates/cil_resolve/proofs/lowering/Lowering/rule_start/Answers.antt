@@ -1,10 +1,23 @@
-use Rattle.cil_resolve.proofs.Common.{◌≡◌, ◌∙◌, ◌∷◌, [], inl, inr, Contains, sym, ap, subst, references, element_words, target_words, contains-first, contains-other, rule_kind_of, kind_of, rule_kind, rule, modules_of}
+use Rattle.cil_resolve.proofs.Common.{◌≡◌, ◌∙◌, ◌∷◌, [], inl, inr, Contains, sym, ap, subst, types, references, element_words, target_words, contains-first, contains-other, rule_kind_of, kind_of, rule_kind, rule, modules_of}
 use Rattle.std.proofs.Common.{slice_get}
 use Rattle.cil_check.proofs.AskedLemmas.{is_to_word, is_to_self}
 use Rattle.cil_resolve.proofs.FormLemmas.{code_in, rule-code, word-aimed, self-aimed}
 use Rattle.cil_resolve.proofs.RuleLemmas.{kind-back, start-itself, start-named}
 use Rattle.cil_resolve.proofs.lowering.Lowering.rule_start.Goals as goal
 use Rattle.cil_resolve.proofs.lowering.Lowering.rule_start.Goals.{in-RuleToSelf, in-RuleToSelf-2, in-Rule2}
+
+pub element-requires : goal.element-requires
+element-requires g c =
+    let (policy, s, is, at, (kind, source, target, permissions, form)) = c.requires in
+    let are = ap kind_of (sym form) ∙ sym (c.kind.ensures policy s is.lowering.noted.is at) in
+    let (word, aimed) = word-aimed kind source target permissions (ap is_to_word are ∙ elim c.in-Rule.is [ inl e ↦ ap is_to_word e | inr e ↦ ap is_to_word e ]) in
+    let named = form ∙ ap (λ t. rule kind source t permissions) aimed in
+    record { policy = policy; s = s; table = types; word = word; is = is; at = ap (λ f. slice_get (references f) 1) named }
+
+pub element-requires-2 : goal.element-requires-2
+element-requires-2 g c =
+    let (policy, s, is, at, (kind, source, target, permissions, form)) = c.requires in
+    record { policy = policy; s = s; table = types; word = source; is = is; at = ap (λ f. slice_get (references f) 0) form }
 
 pub returns : goal.returns
 returns g c policy s kind source target permissions is at form =

@@ -1,8 +1,20 @@
-use Rattle.cil_resolve.proofs.Common.{◌≡◌, ◌≤◌, ◌<◌, ◌+◌, suc, ◌++◌, ◌∷◌, [], length, map, take, sym, ap, subst, arith, take_all, leaves, words_in, shown-long, word-there, AreElements}
+use Rattle.cil_resolve.proofs.Common.{◌≡◌, ◌≤◌, ◌<◌, ◌+◌, suc, ◌++◌, ◌∷◌, [], length, map, take, sym, ap, subst, arith, take_all, types, leaves, words_in, shown-long, word-there, AreElements}
 use Rattle.cil_specs.specs.Rule.{element_of}
 use Rattle.cil_resolve.proofs.SetLemmas.{elements-push, leaf-refers}
 use Rattle.cil_resolve.proofs.StatementLemmas.{map-one}
 use Rattle.cil_resolve.proofs.lowering.Lowering.set_elements.Goals as goal
+
+pub element-requires : goal.element-requires
+element-requires g c =
+    let (policy, s, is, (attribute, expr, form)) = c.requires in
+    let k = c.loop-k.k in
+    let list = leaves expr in
+    let long = shown-long c.args.seen.now policy s is.seen_is in
+    let whole : length (words_in s.form) ≡ suc (length list) = ap (λ f. length (words_in f)) form in
+    let less : k < length list = omega (arith, long, whole) in
+    let (word, at) = word-there list k less in
+    let (refers, named) = leaf-refers s attribute expr k word form at in
+    record { policy = policy; s = s; table = types; word = word; is = is; at = refers }
 
 pub loop-k-preserved : goal.loop-k-preserved
 loop-k-preserved g c policy s attribute expr is form =

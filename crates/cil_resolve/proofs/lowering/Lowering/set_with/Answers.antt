@@ -4,8 +4,13 @@ use Rattle.cil_resolve.proofs.lowering.Lowering.set_with.Goals as goal
 
 pub module-requires : goal.module-requires
 module-requires g c =
-    let (policy, s, is, at) = c.requires in
+    let (policy, s, is, at, set) = c.requires in
     (policy, is.lowering, slice_get_within policy c.args.i s at)
+
+pub attribute-requires : goal.attribute-requires
+attribute-requires g c =
+    let (policy, s, is, at, set) = c.requires in
+    (policy, s, is, set)
 
 pub returns : goal.returns
 returns g c policy s attribute expr is at form made =

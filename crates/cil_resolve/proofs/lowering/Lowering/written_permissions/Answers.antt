@@ -1,7 +1,12 @@
-use Rattle.cil_resolve.proofs.Common.{◌==◌, ◌∙◌, Some, ap, sym, subst, filter, unwrap_or, expr_in}
+use Rattle.cil_resolve.proofs.Common.{◌==◌, ◌∙◌, Some, classes, ap, sym, subst, filter, unwrap_or, expr_in}
 use Rattle.cil_specs.specs.Expr.{holds_by}
 use Rattle.cil_resolve.proofs.GivenLemmas.{IsClassAt, class-at, written-given}
 use Rattle.cil_resolve.proofs.lowering.Lowering.written_permissions.Goals as goal
+
+pub number-class-requires : goal.number-class-requires
+number-class-requires g c =
+    let (policy, s, the_class, permissions, is, writes) = c.requires in
+    record { policy = policy; s = s; table = classes; word = the_class; is = is; at = writes.is.refers }
 
 pub returns : goal.returns
 returns g c policy s the_class permissions is writes =

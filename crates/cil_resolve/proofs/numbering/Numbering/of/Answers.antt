@@ -20,7 +20,7 @@ permission_numbers-requires g c =
 
 pub returns-clause-places : goal.returns-clause-places
 returns-clause-places g c policy is naming =
-    subst (λ names. HavePlaces names policy c.in_ok-place_numbers.field-0.items) (sym c.in_ok-to_texts.ensures) (c.in_ok-place_numbers.ensures policy is naming (c.in_ok-full_names.ensures policy is naming))
+    subst (λ names. HavePlaces names policy c.in_ok-place_numbers.field-0.items) (sym c.in_ok-to_texts.ensures) (c.in_ok-place_numbers.ensures.have policy is naming (c.in_ok-full_names.ensures policy is naming))
 
 pub returns-clause-permissions : goal.returns-clause-permissions
 returns-clause-permissions g c policy is naming =
