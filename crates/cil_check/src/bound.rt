@@ -1,7 +1,7 @@
 //! The statements of a bound policy.
 
 ghost use Rattle.std.specs.Prelude.{◌≡◌, ◌<◌, ◌∷◌, [], ℕ, List, None, IsTrue, length, slice_get, slice_index_or, Some};
-ghost use Rattle.cil_bind.specs.Binding.{AreLeads};
+ghost use Rattle.cil_bind.specs.Binding.{AreLeads, kinds_of};
 ghost use Rattle.cil_specs.specs.Lookup.{references as references_of};
 ghost use Rattle.cil_check.specs.Common.{Word, components, Placed, read, kind_of, texts_of, names_of, AreNumbersOf, test_of, IsOf, IsSeen, policy_kind_of, fault_at, IsFoundFault};
 
@@ -85,6 +85,13 @@ impl<'p, 'm, A: Allocator> BoundPolicy<'p, 'm, A> {
         ensures { (policy : List Placed) → IsOf self.now policy → result ≡ length policy }
     {
         self.policy.rows.len()
+    }
+
+    /// The kinds of the statements, in their order.
+    pub fn kinds(&self) -> &'p [StatementKind]
+        ensures { (policy : List Placed) → IsOf self.now policy → result.now ≡ kinds_of policy }
+    {
+        self.policy.kinds.as_slice()
     }
 
     /// Where the references of the statement of a place lead.
