@@ -6,16 +6,11 @@ use Rattle.std.specs.List.{list_all}
 use Rattle.cil_specs.specs.Statements.{target_words}
 use Rattle.cil_parse.specs.declared.row.StatementKind.{StatementKind}
 use Rattle.cil_bind.specs.Binding.{AreLeads, kinds_of}
-use Rattle.cil_check.specs.Clean.{HaveActuals, are_sound, is_other, is_sound, is_sound_at}
+use Rattle.cil_check.specs.Clean.{HaveActuals, IsSound, are_sound, is_other, is_sound, is_sound_at}
 use Rattle.cil_check.specs.declared.kinds.Kind.TheVariants.{Alias}
 use Rattle.cil_check.proofs.SeenLemmas.{kind-form}
 use Rattle.cil_check.proofs.AskedLemmas.{nowhere-unset}
 use Rattle.cil_check.proofs.WordLemmas.{Led, led-at, unset-noted}
-
--- a reference leads somewhere, and not to an alias without an actual type
-pub record IsSound (policy : List Placed) (namespace : List (List ℕ)) (r : Table × Word) : Type 0 where
-  pub found : is_unfound policy namespace r ≡ false
-  pub actual : r.0 ≡ types → is_unset policy namespace r.1 ≡ false
 
 either-not : (a b : Bool) → (not a || b) ≡ true → (a && not b) ≡ false
 either-not true true is = refl

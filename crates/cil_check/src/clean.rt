@@ -1,10 +1,10 @@
 //! Policies without faults of the kinds that are seen at one statement.
 
 ghost use Rattle.std.specs.Prelude.{◌≡◌, ◌<◌, [], List, Some, true, is_some, length, slice_get, Contains, IsTrue};
-ghost use Rattle.std.specs.List.{list_all};
+ghost use Rattle.std.specs.List.{list_all, AllByRecursion};
 ghost use Rattle.cil_bind.specs.Binding.{AreLeads};
 ghost use Rattle.cil_check.specs.Common.{Placed, references, AreNumbersOf, classes, has_name, kind_of, names_of, permissions_of, word_at, IsFirstOf, IsLead, IsSeen, IsNoted, class_lead, lacking_words, HasNoneBelow, IsCleanAt};
-ghost use Rattle.cil_check.specs.Clean.{is_other, is_sound as is_sound_lead, are_sound as are_sound_leads, HaveActuals, IsSettled};
+ghost use Rattle.cil_check.specs.Clean.{is_other, is_sound as is_sound_lead, are_sound as are_sound_leads, HaveActuals, IsSettled, IsSound};
 ghost use Rattle.cil_check.specs.Recent.{IsKnown};
 ghost use Rattle.cil_check.specs.Kinds.{names_permissions as is_naming_kind, is_rule_of_set as is_rule_of_set_kind, is_plain as is_plain_kind};
 ghost use Rattle.cil_parse.specs.declared.row.StatementKind.TheVariants.{TypeAttributeSet};
@@ -179,7 +179,11 @@ impl<'p, 'm, A: Allocator + Copy> Checker<'p, 'm, A> {
         ensures { IsTrue result
             → HaveActuals self.now.bound.policy.now.kinds.items self.now.actuals }
     {
-        for i in 0..self.bound.policy.kinds.len() {
+        let kinds = self.bound.kinds();
+        for i in 0..kinds.len() {
+            if !Kind::Alias.is(kinds[i]) {
+                continue;
+            }
             if !self.is_sound(Some(i as u32)) {
                 return false;
             }
@@ -203,19 +207,33 @@ impl<'p, 'm, A: Allocator + Copy> Checker<'p, 'm, A> {
         self.bound.is_inside(place)
     }
 
-    /// Whether all references of a statement are bound, and none to an alias without an actual type,
-    /// by whether no alias lacks one. Where none does, their kinds needn't be looked at.
+    /// Whether all references of the statement of a place are bound, and none to an alias without
+    /// an actual type.
+    #[inline(never)]
+    fn are_sound_at(&self, place: usize) -> bool
+        requires { (policy : List Placed) × IsNoted self.now policy × (place < length policy) }
+        ensures { IsTrue result → (policy : List Placed) (s : Placed) → IsNoted self.now policy
+            → slice_get policy place ≡ Some s
+            → AllByRecursion (IsSound policy s.namespace) (references s.form) }
+    {
+        self.are_sound(&self.bound.references(place))
+    }
+
+    /// The same by whether no alias lacks an actual type, and by where the references lead. Where no
+    /// alias lacks one, the kinds of what they lead to needn't be looked at.
     #[inline(always)]
-    fn are_sound_by(&self, aliases_set: bool, bound: &References<'_>) -> bool
+    fn are_sound_by(&self, aliases_set: bool, place: usize, bound: &References<'_>) -> bool
+        requires { (policy : List Placed) × IsNoted self.now policy × (place < length policy) }
         ensures { IsTrue result → (policy : List Placed) (s : Placed) → IsNoted self.now policy
             → (IsTrue aliases_set → HaveActuals self.now.bound.policy.now.kinds.items self.now.actuals)
+            → slice_get policy place ≡ Some s
             → AreLeads policy s.namespace (references s.form) bound.now
-            → are_sound_leads self.now.bound.policy.now.kinds.items self.now.actuals bound.now ≡ true }
+            → AllByRecursion (IsSound policy s.namespace) (references s.form) }
     {
         if aliases_set {
             return are_bound(bound);
         }
-        self.are_sound(bound)
+        self.are_sound_at(place)
     }
 
     /// Whether a set statement leads to an attribute, and all its references are bound, to no
@@ -237,7 +255,7 @@ impl<'p, 'm, A: Allocator + Copy> Checker<'p, 'm, A> {
         if self.is_settled(place, aliases_set) {
             return true;
         }
-        self.are_sound_by(aliases_set, &bound)
+        self.are_sound_by(aliases_set, place, &bound)
     }
 
     /// Whether the class of a place has a permission. One that it has is known then.
@@ -263,7 +281,7 @@ impl<'p, 'm, A: Allocator + Copy> Checker<'p, 'm, A> {
     }
 
     /// Whether a class has all permissions that a statement names of it.
-    #[inline(never)]
+    #[inline(always)]
     fn has_named(&self, class: u32, seen: &Seen<'p, 'm, A>, known: &mut Known<A>) -> bool
         requires { (policy : List Placed) × (s : Placed) × IsNoted self.now policy
             × IsSeen seen.now policy s }
@@ -288,6 +306,23 @@ impl<'p, 'm, A: Allocator + Copy> Checker<'p, 'm, A> {
         true
     }
 
+    /// The same of the statement of a place.
+    #[inline(never)]
+    fn has_named_at(&self, place: usize, class: u32, known: &mut Known<A>) -> bool
+        requires { (policy : List Placed) × (s : Placed) × IsNoted self.now policy
+            × (slice_get policy place ≡ Some s) }
+        ensures none { IsTrue result → (policy : List Placed) (s : Placed)
+            → IsNoted self.now policy → slice_get policy place ≡ Some s
+            → IsLead classes policy (Some class) (class_lead policy s)
+            → IsKnown self.now policy known.old → lacking_words policy s ≡ [] }
+        ensures known { (policy : List Placed) (s : Placed) → IsNoted self.now policy
+            → slice_get policy place ≡ Some s
+            → IsLead classes policy (Some class) (class_lead policy s)
+            → IsKnown self.now policy known.old → IsKnown self.now policy known.new }
+    {
+        self.has_named(class, &self.bound.seen(place), known)
+    }
+
     /// Whether a class lacks none of the permissions that the statement of a place names of it.
     /// Those of a list that the class is known to have are not gone over.
     #[inline(always)]
@@ -308,7 +343,7 @@ impl<'p, 'm, A: Allocator + Copy> Checker<'p, 'm, A> {
         if known.lists.knows(list, class) {
             return true;
         }
-        if !self.has_named(class, &self.bound.seen(place), known) {
+        if !self.has_named_at(place, class, known) {
             return false;
         }
         known.lists.note(list, class);
@@ -337,7 +372,7 @@ impl<'p, 'm, A: Allocator + Copy> Checker<'p, 'm, A> {
         let Some(class) = bound.last() else {
             return false;
         };
-        if !self.are_sound_by(aliases_set, &bound) {
+        if !self.are_sound_by(aliases_set, place, &bound) {
             return false;
         }
         self.has_listed(place, class, known)
@@ -351,7 +386,7 @@ impl<'p, 'm, A: Allocator + Copy> Checker<'p, 'm, A> {
             → slice_get policy place ≡ Some s → is_rule_of_set_kind (kind_of s.form) ≡ true
             → IsCleanAt policy place s }
     {
-        self.are_sound(&self.bound.references(place))
+        self.are_sound_at(place)
     }
 
     /// Whether the statement of a place has no fault of the kinds that are seen at one statement, by

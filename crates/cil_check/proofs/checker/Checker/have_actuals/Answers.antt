@@ -1,4 +1,4 @@
-use Rattle.cil_check.proofs.Common.{◌≡◌, true, sym, subst, ◌∙◌, arith, Some, inl, inr, cases_lt}
+use Rattle.cil_check.proofs.Common.{◌≡◌, true, length, sym, ap, subst, ◌∙◌, arith, Some, inl, inr, cases_lt}
 use Rattle.cil_check.specs.Clean.{is_sound}
 use Rattle.cil_check.proofs.checker.Checker.have_actuals.Goals as goal
 
@@ -15,4 +15,8 @@ loop-i-preserved g c = λ place less.
     ]
 
 pub returns : goal.returns
-returns g c = λ yes place less. c.loop-i.invariant place (let past = c.loop-i-test.false in let many = c.len-i-end.ensures in omega (arith, less, past, many))
+returns g c = λ yes place less.
+    let (policy, noted) = c.requires in
+    let many = ap length (c.kinds-kinds.ensures policy noted.is ∙ sym noted.is.bound.kinds) in
+    let past = c.loop-i-test.false in
+    c.loop-i.invariant place (omega (arith, less, past, many))
