@@ -1,5 +1,5 @@
 -- References that are bound.
-use Rattle.cil_bind.proofs.Common.{◌≡◌, ℕ, zero, suc, ◌+◌, ◌<◌, ◌≤◌, List, [], ◌∷◌, ◌++◌, map, length, get_or, take, Option, Some, None, refl, sym, ap, ◌∙◌, subst, arith, length-map, map-append, take_all, none-some, same_Some, Word, Placed, Table, leads, references, texts_of, citations_of, cited_by, IsBlockOf, AreCited, IsCited, IsLed, Citation, Row, IsLead, kind_of, StatementKind, AreLeads, AreBound, AreAllLed, AreLed, AreSpaced, IsSpaced, Spells, Statements, bound_rows, kinds_of, leads_at, table_of, namespace_at, AreFrom, IsFrom, NamedModule, ParsedModule, bound_in, placed}
+use Rattle.cil_bind.proofs.Common.{◌≡◌, ℕ, zero, suc, ◌+◌, ◌≤◌, List, [], ◌∷◌, ◌++◌, length, get_or, take, Option, Some, None, refl, sym, ap, ◌∙◌, subst, arith, map-append, take_all, none-some, same_Some, Word, Placed, Table, leads, references, texts_of, citations_of, cited_by, IsBlockOf, AreCited, IsCited, IsLed, Citation, Row, IsLead, kind_of, StatementKind, AreLeads, AreBound, AreAllLed, AreLed, AreSpaced, IsSpaced, Spells, Statements, bound_rows, kinds_of, leads_at, table_of, namespace_at, AreFrom, IsFrom, NamedModule, ParsedModule, bound_in, placed}
 use Rattle.std.proofs.Common.{slice_get}
 use Rattle.std.proofs.lemmas.Option.{get_or_from_slice_get, slice_get_within}
 use Rattle.cil_parse.proofs.CitationLemmas.{cited-are}

@@ -1,8 +1,8 @@
 -- Rows that are kept in place, and their new places.
-use Rattle.cil_bind.proofs.Common.{◌≡◌, ℕ, zero, suc, ◌+◌, ◌<◌, ◌≤◌, Bool, true, false, cond, if◌then◌else◌, List, [], ◌∷◌, ◌++◌, filter, length, take, drop, get_or, slice_set, Option, Some, None, refl, sym, ap, ◌∙◌, subst, arith, map-append, take_all, slice_get-get_or, length-map, Row, StatementKind, kinds_told}
+use Rattle.cil_bind.proofs.Common.{◌≡◌, ℕ, zero, suc, ◌+◌, ◌<◌, ◌≤◌, Bool, true, false, cond, if◌then◌else◌, List, [], ◌∷◌, ◌++◌, filter, length, take, get_or, slice_set, Option, Some, None, refl, sym, ap, ◌∙◌, arith, map-append, slice_get-get_or, length-map, Row, StatementKind, kinds_told}
 use Rattle.std.proofs.Common.{slice_get}
 use Rattle.std.proofs.lemmas.List.{length-set, take_more_set, drop_more}
-use Rattle.std.proofs.lemmas.List.Filters.{FiltersInPlace, FiltersInPlace-more_no, FiltersInPlace-more_set, FiltersInPlace-all}
+use Rattle.std.proofs.lemmas.List.Filters.{FiltersInPlace, FiltersInPlace-more_no, FiltersInPlace-more_set}
 use Rattle.cil_bind.specs.Moves.{mark, places_told, AreKeptTo}
 use Rattle.cil_bind.specs.declared.moves.Moves.{Moves}
 use Rattle.cil_bind.proofs.PositionLemmas.{take-last}

@@ -21,3 +21,4 @@ pub mod PermissionLemmas
 pub mod KnownListLemmas
 pub mod MoveLemmas
 pub mod KeptRowLemmas
+pub mod AboutNamesLemmas

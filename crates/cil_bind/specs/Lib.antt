@@ -12,3 +12,4 @@ pub mod Written
 pub mod Listing
 pub mod KnownLists
 pub mod Moves
+pub mod AboutNames

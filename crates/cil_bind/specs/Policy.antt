@@ -10,6 +10,7 @@ use Rattle.cil_lookup.specs.Lookup.{Knows}
 use Rattle.cil_bind.specs.Rows.{IsOnce}
 use Rattle.cil_bind.specs.Scope.{Stands, AreFrom, AreAround, AreSpaced}
 use Rattle.cil_bind.specs.Words.{AreWorded}
+use Rattle.cil_bind.specs.AboutNames.{name_places}
 use Rattle.cil_bind.specs.Binding.{AreBound, bound_rows, kinds_of}
 use Rattle.cil_bind.specs.declared.joined.NamedModule.{NamedModule}
 use Rattle.cil_bind.specs.declared.redeclaration.Redeclaration.{Redeclaration}
@@ -30,7 +31,7 @@ pub record IsNumbered {A : Type 0} (names spaces : List (List ℕ)) (parsed : Li
 
 -- The words, the namespaces and the rows are those of this policy; each name has its first declaration, and none is declared twice;
 -- what each module's statements look up is looked up from these namespaces, and each reference is bound to what it leads to; the kinds
--- are those of the statements; and places have 32 bits.
+-- are those of the statements, and the places of those about names follow from them; and places have 32 bits.
 pub record IsBoundTo {A : Type 0} (p : Policy A) (parsed : List (NamedModule A)) (policy : List Placed) : Type 0 where
   pub stands : Stands p.names p.lookup.namespaces p.rows.items policy
   pub from : AreFrom parsed p.rows.items policy
@@ -42,6 +43,7 @@ pub record IsBoundTo {A : Type 0} (p : Policy A) (parsed : List (NamedModule A))
   pub leads_long : length p.leads.0 ≡ length parsed
   pub bound : AreBound policy policy (bound_of p parsed)
   pub kinds : p.kinds.items ≡ kinds_of policy
+  pub name_places : p.name_places.items ≡ name_places 0 p.kinds.items
   pub few : length p.rows.items < 2 ^ 32
 
 -- a word of a statement, by its module and its place

@@ -1,6 +1,7 @@
 //! Where each name is declared first.
 
 ghost use Rattle.std.specs.Prelude.{◌≡◌, ◌<◌, ◌∷◌, ◌^◌, ℕ, List, [], true, false, not, ◌&&◌, length, take, slice_get, IfOk, Some};
+ghost use Rattle.cil_bind.specs.AboutNames.{name_places};
 ghost use Rattle.cil_bind.specs.Common.{Placed, Word, twice_words, HaveDeclared, AreRows, AreNumbered, IsOnce, IsTaken, DeclareThat, is_optional_row, kinds_told, declares_name as is_declaring};
 
 use crate::rows::Row;
@@ -45,30 +46,8 @@ pub fn declares_name(kind: StatementKind) -> bool
 
 impl<A: Allocator + Copy> Declarations<A> {
     /// Takes up what the row at a place declares, if it declares a name. True if its name is declared already, but where both are
-    /// optionals. Most rows are of kinds that declare none, and aren't looked at.
-    #[inline(always)]
-    fn declare(
-        &mut self,
-        rows: &[Row],
-        kinds: &[StatementKind],
-        i: usize,
-    ) -> Result<bool, AllocError>
-        requires kinds { kinds.now ≡ kinds_told rows.now }
-        requires within { i < length rows.now }
-        requires few { length rows.now < 2 ^ 32 }
-        ensures { IfOk result (λ again. (names spaces : List (List ℕ)) (policy : List Placed) → AreNumbered names spaces → AreRows names spaces rows.now policy
-            → HaveDeclared names spaces self.old.first.entries (take i policy) → IsOnce (take i policy)
-            → (s : Placed) → slice_get policy i ≡ Some s → IsTaken names spaces (take i policy) s self.new.first.entries again) }
-    {
-        if !declares_name(kinds[i]) {
-            return Ok(false);
-        }
-        self.declare_name(rows, i)
-    }
-
-    /// The same for a row that declares a name.
-    #[inline(never)]
-    fn declare_name(&mut self, rows: &[Row], i: usize) -> Result<bool, AllocError>
+    /// optionals.
+    fn declare(&mut self, rows: &[Row], i: usize) -> Result<bool, AllocError>
         requires within { i < length rows.now }
         requires few { length rows.now < 2 ^ 32 }
         ensures { IfOk result (λ again. (names spaces : List (List ℕ)) (policy : List Placed) → AreNumbered names spaces → AreRows names spaces rows.now policy
@@ -100,46 +79,42 @@ pub enum Declared<A: Allocator = Global> {
 }
 
 impl<A: Allocator + Copy> Declarations<A> {
-    /// What rows of these kinds declare, with room for so many names.
+    /// What rows declare, with room for so many names. Those about names have these places.
     pub fn of(
         alloc: A,
         room: usize,
         rows: &[Row],
-        kinds: &[StatementKind],
+        places: &[u32],
     ) -> Result<Declared<A>, AllocError>
         requires few { length rows.now < 2 ^ 32 }
-        requires kinds { kinds.now ≡ kinds_told rows.now }
+        requires places { places.now ≡ name_places 0 (kinds_told rows.now) }
         ensures { IfOk result (λ found. (names spaces : List (List ℕ)) (policy : List Placed) → AreNumbered names spaces → AreRows names spaces rows.now policy
             → DeclareThat names spaces policy found) }
     {
         let mut declarations = Declarations {
             first: IndexMap::with_capacity(alloc, room)?,
         };
-        for i in 0..rows.len() {
-            if declarations.declare(rows, kinds, i)? {
+        for k in 0..places.len() {
+            let i = places[k] as usize;
+            if declarations.declare(rows, i)? {
                 return Ok(Declared::Twice(i));
             }
         }
         Ok(Declared::Once(declarations))
     }
 
-    /// What rows of these kinds declare that are known to declare each name once, with room for so many names.
-    pub fn of_once(
-        alloc: A,
-        room: usize,
-        rows: &[Row],
-        kinds: &[StatementKind],
-    ) -> Result<Self, AllocError>
+    /// What rows declare that are known to declare each name once, with room for so many names. Those about names have these places.
+    pub fn of_once(alloc: A, room: usize, rows: &[Row], places: &[u32]) -> Result<Self, AllocError>
         requires few { length rows.now < 2 ^ 32 }
-        requires kinds { kinds.now ≡ kinds_told rows.now }
+        requires places { places.now ≡ name_places 0 (kinds_told rows.now) }
         ensures { IfOk result (λ d. (names spaces : List (List ℕ)) (policy : List Placed) → AreNumbered names spaces → AreRows names spaces rows.now policy → IsOnce policy
             → HaveDeclared names spaces d.first.entries policy) }
     {
         let mut declarations = Declarations {
             first: IndexMap::with_capacity(alloc, room)?,
         };
-        for i in 0..rows.len() {
-            declarations.declare(rows, kinds, i)?;
+        for k in 0..places.len() {
+            declarations.declare(rows, places[k] as usize)?;
         }
         Ok(declarations)
     }

@@ -1,6 +1,7 @@
 //! What the names of a joined policy are bound to, once an edit.
 #![tactic(auto)]
 
+mod about_names;
 mod declarations;
 mod joined;
 mod known_lists;

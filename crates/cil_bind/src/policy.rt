@@ -2,8 +2,10 @@
 
 ghost use Rattle.std.specs.Prelude.{◌≡◌, ◌<◌, ◌^◌, [], ℕ, IfOk, OnOk, List, false, filter, bytes_eq, length, slice_index_or};
 ghost use Rattle.cil_bind.specs.Common.{IsDistinct, list_all, AreSpelt, AreFrom, AreAround, StandsFor, HaveDeclared, DeclareThat, IsOnce, Makes, IsBoundTo, AreMarked, TellsAround, AreWorded, IsNumbered, Optionals, AreApart, restricted, bound_of, kinds_told};
+ghost use Rattle.cil_bind.specs.AboutNames.{name_places as places_of_kinds};
 ghost use Rattle.cil_specs.specs.Joined.{Placed, Module, joined as joined_policy};
 
+use crate::about_names::name_places;
 use crate::declarations::{Declarations, Declared};
 use crate::joined::Joined;
 use crate::lead::Lead;
@@ -21,7 +23,7 @@ use std::alloc::{AllocError, Allocator, Global};
 
 /// A joined policy: its words in one numbering, with the numbers of each module's names; its namespaces and the first declaration of each
 /// name; its statements; for each of what a module's statements look up the namespace from which it is looked up, and the place where it
-/// leads; and for each statement its kind.
+/// leads; for each statement its kind; and the places of the statements about names.
 #[derive(Drop)]
 pub struct Policy<'m, A: Allocator = Global> {
     pub names: Names<'m, A>,
@@ -31,13 +33,16 @@ pub struct Policy<'m, A: Allocator = Global> {
     pub spaces: Lists<u32, A>,
     pub leads: Lists<Lead, A>,
     pub kinds: Vec<StatementKind, A>,
+    pub name_places: Vec<u32, A>,
 }
 
-/// For each module the numbers of its names, and the namespaces from which its statements look up.
+/// For each module the numbers of its names, and the namespaces from which its statements look up;
+/// and the places of the statements about names.
 #[derive(Drop)]
 struct Numbers<A: Allocator = Global> {
     words: Vec<Vec<u32, A>, A>,
     spaces: Lists<u32, A>,
+    name_places: Vec<u32, A>,
 }
 
 /// A policy in which each name is declared once, or the first name that is declared again.
@@ -75,7 +80,13 @@ impl<'m, A: Allocator + Copy> Policy<'m, A> {
         let scope = Scope::of(alloc, names, joined)?;
         counted_in_32_bits(scope.rows.len())?;
         let spaces = scope.spaces(alloc, joined)?;
-        Policy::of_statements(alloc, joined, scope, Numbers { words, spaces })
+        let name_places = name_places(alloc, scope.kinds.as_slice())?;
+        let numbers = Numbers {
+            words,
+            spaces,
+            name_places,
+        };
+        Policy::of_statements(alloc, joined, scope, numbers)
     }
 
     /// The policy of statements by numbers, or the first name that they declare again.
@@ -88,13 +99,15 @@ impl<'m, A: Allocator + Copy> Policy<'m, A> {
         requires stands { (policy : List Placed) × StandsFor scope policy × AreFrom joined.now.modules.items scope.rows.items policy }
         requires numbered { IsNumbered scope.names scope.namespaces joined.now.modules.items numbers }
         requires kinds { scope.kinds.items ≡ kinds_told scope.rows.items }
+        requires places { numbers.name_places.items ≡ places_of_kinds 0 scope.kinds.items }
         requires few { length scope.rows.items < 2 ^ 32 }
         ensures made { IfOk result (λ made. (policy : List Placed) → StandsFor scope.entry policy → AreFrom joined.now.modules.items scope.entry.rows.items policy
             → Makes joined.now.modules.items policy made) }
         ensures around { IfOk result (λ made. (policy : List Placed) → AreAround policy 0 scope.entry.rows.items policy → TellsAround policy made) }
     {
         let rows = scope.rows.as_slice();
-        let declared = Declarations::of(alloc, scope.names.len(), rows, scope.kinds.as_slice())?;
+        let places = numbers.name_places.as_slice();
+        let declared = Declarations::of(alloc, scope.names.len(), rows, places)?;
         Policy::of_declared(alloc, joined, scope, numbers, declared)
     }
 
@@ -110,6 +123,7 @@ impl<'m, A: Allocator + Copy> Policy<'m, A> {
         requires numbered { IsNumbered scope.names scope.namespaces joined.now.modules.items numbers }
         requires declared { (policy : List Placed) → StandsFor scope policy → DeclareThat scope.names scope.namespaces policy declared }
         requires kinds { scope.kinds.items ≡ kinds_told scope.rows.items }
+        requires places { numbers.name_places.items ≡ places_of_kinds 0 scope.kinds.items }
         requires few { length scope.rows.items < 2 ^ 32 }
         ensures made { IfOk result (λ made. (policy : List Placed) → StandsFor scope.entry policy → AreFrom joined.now.modules.items scope.entry.rows.items policy
             → Makes joined.now.modules.items policy made) }
@@ -169,8 +183,10 @@ impl<'m, A: Allocator + Copy> Policy<'m, A> {
         let places = keep_rows(alloc, &mut self.rows, &mut self.kinds, kept)?;
         let room = self.lookup.declared.len();
         let rows = self.rows.as_slice();
-        let declarations = Declarations::of_once(alloc, room, rows, self.kinds.as_slice())?;
+        let name_places = name_places(alloc, self.kinds.as_slice())?;
+        let declarations = Declarations::of_once(alloc, room, rows, name_places.as_slice())?;
         self.lookup.declared = declarations.first;
+        self.name_places = name_places;
         let words = self.words.as_slice();
         let moved = places.as_slice();
         let asked = Asked {
@@ -194,6 +210,7 @@ impl<'m, A: Allocator + Copy> Policy<'m, A> {
     ) -> Result<Self, AllocError>
         requires numbered { IsNumbered scope.names scope.namespaces joined.now.modules.items numbers }
         requires kinds { scope.kinds.items ≡ kinds_told scope.rows.items }
+        requires places { numbers.name_places.items ≡ places_of_kinds 0 scope.kinds.items }
         requires few { length scope.rows.items < 2 ^ 32 }
         ensures made { IfOk result (λ p. (policy : List Placed) → StandsFor scope.entry policy → AreFrom joined.now.modules.items scope.entry.rows.items policy
             → HaveDeclared scope.entry.names scope.entry.namespaces declarations.first.entries policy → IsOnce policy
@@ -210,7 +227,11 @@ impl<'m, A: Allocator + Copy> Policy<'m, A> {
             namespaces,
             declared: declarations.first,
         };
-        let Numbers { words, spaces } = numbers;
+        let Numbers {
+            words,
+            spaces,
+            name_places,
+        } = numbers;
         let none = Lists::with_capacity(alloc, 0, 0)?;
         let asked = Asked {
             words: words.as_slice(),
@@ -227,6 +248,7 @@ impl<'m, A: Allocator + Copy> Policy<'m, A> {
             spaces,
             leads,
             kinds,
+            name_places,
         })
     }
 }

@@ -1,4 +1,4 @@
-use Rattle.cil_bind.proofs.Common.{◌≡◌, ◌<◌, ◌∷◌, ◌++◌, [], None, get_or, length, refl, sym, ap, ◌∙◌, subst, arith, slice_get_within, texts_of, citations_of, Citation}
+use Rattle.cil_bind.proofs.Common.{◌∷◌, ◌++◌, [], None, get_or, length, refl, sym, ap, ◌∙◌, subst, arith, slice_get_within, texts_of, citations_of}
 use Rattle.cil_bind.specs.Moves.{IsFound}
 use Rattle.cil_bind.proofs.LedLemmas.{came-at, came-long, citation-at, no_citation}
 use Rattle.cil_bind.proofs.leads.lead_module.Goals as goal

@@ -1,4 +1,4 @@
-use Rattle.cil_bind.proofs.Common.{◌≡◌, ◌<◌, ◌≤◌, ◌^◌, filter, length, take, rules, refl, sym, ap, ◌∙◌, subst, arith, take_all, kinds_told}
+use Rattle.cil_bind.proofs.Common.{◌<◌, ◌≤◌, ◌^◌, filter, length, rules, refl, sym, ap, ◌∙◌, subst, arith, take_all, kinds_told}
 use Rattle.cil_bind.specs.Moves.{mark, places_told}
 use Rattle.cil_bind.proofs.KeptRowLemmas.{none-taken-yet}
 use Rattle.cil_bind.proofs.moves.keep_rows.Goals as goal

@@ -1,9 +1,10 @@
-use Rattle.cil_bind.proofs.Common.{◌<◌, ◌^◌, ◌≡◌, filter, length, ap, sym, ◌∙◌, subst, is_within, restricted, once-filtered, AreBound, AreRows, AreFrom, AreWorded, bound_rows, kinds_told}
+use Rattle.cil_bind.proofs.Common.{◌<◌, ◌^◌, ◌≡◌, filter, length, ap, sym, ◌∙◌, subst, is_within, restricted, once-filtered, length-map, AreBound, AreRows, AreFrom, AreWorded, bound_rows}
 use Rattle.cil_bind.specs.Moves.{mark, AreAllFound}
 use Rattle.cil_bind.proofs.RestrictLemmas.{from-kept, stands-kept, few-kept}
 use Rattle.cil_bind.proofs.DeclareLemmas.{kinds-are}
 use Rattle.cil_bind.proofs.MoveLemmas.{rows-moved}
 use Rattle.cil_bind.proofs.PolicyLemmas.{bound-to}
+use Rattle.cil_bind.specs.AboutNames.{name_places}
 use Rattle.cil_bind.proofs.policy.Policy.leave_out.Goals as goal
 
 pub keep_rows-requires-clause-kinds : goal.keep_rows-requires-clause-kinds
@@ -11,6 +12,12 @@ keep_rows-requires-clause-kinds g c =
     let self = c.args.self.now in
     let is = c.requires.1 in
     is.kinds ∙ sym (kinds-are self.names self.lookup.namespaces self.rows.items c.requires.0 is.stands.rows_are)
+
+pub name_places-requires : goal.name_places-requires
+name_places-requires g c =
+    let kinds = ap length (c.as_slice.ensures.value ∙ c.in_ok-places.ensures.kinds) ∙ length-map c.keep_rows.new.rows.items (λ row. row.kind) in
+    let few = subst (λ rows. length rows < 2 ^ 32) (sym c.in_ok-places.ensures.rows) (few-kept c.args.kept.now c.args.self.now.rows.items c.requires.1.few) in
+    subst (λ n. n < 2 ^ 32) (sym kinds) few
 
 pub of_once-requires-clause-few : goal.of_once-requires-clause-few
 of_once-requires-clause-few g c =
@@ -44,4 +51,5 @@ returns g c = λ policy set is apart marked.
     let found = subst (λ p. AreAllFound self.names spaces rest items p self.spaces.0 self.leads.0 c.in_ok-leads.leads.0) (c.as_slice-moved.ensures.value ∙ c.in_ok-places.ensures.places) led in
     subst (λ r. AreBound rest rest (bound_rows items c.in_ok-leads.leads.0 r)) (sym stay)
     (rows-moved set policy apart kept self.rows.items marked self.names spaces items self.spaces.0 self.leads.0 c.in_ok-leads.leads.0 is.spaced found self.rows.items policy marked is.from is.bound))
-    (c.in_ok-places.ensures.kinds ∙ kinds-are self.names spaces rows rest stands.rows_are) (subst (λ r. length r < 2 ^ 32) (sym stay) (few-kept kept self.rows.items is.few))
+    (c.in_ok-places.ensures.kinds ∙ kinds-are self.names spaces rows rest stands.rows_are)
+    (c.in_ok-name_places.ensures ∙ ap (name_places 0) c.as_slice.ensures.value) (subst (λ r. length r < 2 ^ 32) (sym stay) (few-kept kept self.rows.items is.few))

@@ -23,4 +23,4 @@ returns-clause-made g c = λ policy stands from declared once.
       | inl led ↦ led
       | inr moved ↦ absurd (none-some moved.0 (sym (ap (λ l. slice_get (get_or l.0 k []) n) c.in_ok-none.ensures) ∙ moved.1))
     ]))
-    (c.requires.kinds ∙ kinds-are scope.names scope.namespaces scope.rows.items policy stands.rows_are) c.requires.few
+    (c.requires.kinds ∙ kinds-are scope.names scope.namespaces scope.rows.items policy stands.rows_are) c.requires.places c.requires.few
