@@ -103,7 +103,7 @@ impl<'p, 'm, A: Allocator + Copy> Checker<'p, 'm, A> {
         Ok(())
     }
 
-    /// Notes what statements give to aliases and classes, in one pass over their kinds.
+    /// Notes what statements give to aliases and classes, in one pass over those about names.
     #[inline(never)]
     fn note_all(&mut self, alloc: A) -> Result<(), AllocError>
         requires is { (policy : List Placed) × IsOf self.old.bound policy }
@@ -123,11 +123,13 @@ impl<'p, 'm, A: Allocator + Copy> Checker<'p, 'm, A> {
     {
         let count = self.bound.len();
         counted_in_32_bits(count)?;
-        for i in 0..count {
-            if !gives_any(self.bound.kind(i)) {
+        let places = self.bound.name_places();
+        for k in 0..places.len() {
+            let place = places[k];
+            if !gives_any(self.bound.kind(place as usize)) {
                 continue;
             }
-            self.note(alloc, i as u32)?;
+            self.note(alloc, place)?;
         }
         Ok(())
     }
