@@ -172,19 +172,16 @@ impl<'p, 'm, A: Allocator + Copy> Checker<'p, 'm, A> {
         self.are_plainly_sound(bound) || self.are_each_sound(bound)
     }
 
-    /// Whether no alias lacks an actual type.
+    /// Whether no alias lacks an actual type. All aliases are among the statements about names.
     #[inline(never)]
     fn have_actuals(&self) -> bool
         requires { (policy : List Placed) × IsNoted self.now policy }
         ensures { IsTrue result
             → HaveActuals self.now.bound.policy.now.kinds.items self.now.actuals }
     {
-        let kinds = self.bound.kinds();
-        for i in 0..kinds.len() {
-            if !Kind::Alias.is(kinds[i]) {
-                continue;
-            }
-            if !self.is_sound(Some(i as u32)) {
+        let places = self.bound.name_places();
+        for k in 0..places.len() {
+            if !self.is_sound(Some(places[k])) {
                 return false;
             }
         }
