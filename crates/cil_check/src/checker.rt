@@ -60,7 +60,14 @@ impl<'p, 'm, A: Allocator + Copy> Checker<'p, 'm, A> {
         ensures bound { IfOk result (λ checker. checker.bound ≡ bound.entry) }
     {
         let mut checker = Checker::listed(alloc, bound)?;
-        checker.fill(alloc)?;
+        checker.note_all(alloc)?;
+        let witnesses = Witnesses::of(
+            alloc,
+            &checker.bound,
+            &checker.permissions,
+            &checker.inherited,
+        )?;
+        checker.witnesses = witnesses;
         Ok(checker)
     }
 
@@ -83,24 +90,6 @@ impl<'p, 'm, A: Allocator + Copy> Checker<'p, 'm, A> {
             inherited: Groups::new(alloc),
             witnesses: Witnesses::new(alloc),
         })
-    }
-
-    /// Notes what statements give to aliases and classes, and where permissions are to be looked for first.
-    fn fill(&mut self, alloc: A) -> Result<(), AllocError>
-        requires is { (policy : List Placed) × IsOf self.old.bound policy }
-        requires actuals { self.old.actuals ≡ [] }
-        requires commons { self.old.commons ≡ [] }
-        requires inherited { self.old.inherited ≡ ([], []) }
-        ensures bound { OnOk result (self.new.bound ≡ self.old.bound) }
-        ensures permissions { OnOk result (self.new.permissions ≡ self.old.permissions) }
-        ensures actuals { OnOk result ((policy : List Placed) → IsOf self.old.bound policy → HasFirsts Actual policy self.new.actuals) }
-        ensures commons { OnOk result ((policy : List Placed) → IsOf self.old.bound policy → HasFirsts Common policy self.new.commons) }
-        ensures inherited { OnOk result ((policy : List Placed) → IsOf self.old.bound policy → HasInherited policy self.new.inherited) }
-        ensures few { OnOk result ((policy : List Placed) → IsOf self.old.bound policy → length policy < 2 ^ 32) }
-    {
-        self.note_all(alloc)?;
-        self.witnesses = Witnesses::of(alloc, &self.bound, &self.permissions, &self.inherited)?;
-        Ok(())
     }
 
     /// Notes what statements give to aliases and classes, in one pass over those about names.

@@ -92,22 +92,13 @@ loop-k-preserved g c = record {
     places = c.name_places-places.result.now
 
 pub returns-clause-actuals : goal.returns-clause-actuals
-returns-clause-actuals g c = λ policy is.
-    let self = c.loop-k.self in
-    let end : c.loop-k.k ≡ length c.name_places-places.result.now = omega arith in
-    (noted-end policy self.actuals self.commons self.inherited c.name_places-places.result.now c.loop-k.k (c.name_places-places.ensures policy is) end (c.loop-k.invariant.noted policy (subst (λ b. IsOf b policy) (sym c.loop-k.invariant.bound) is))).0
+returns-clause-actuals g c = λ policy is. (noted-end policy c.loop-k.self.actuals c.loop-k.self.commons c.loop-k.self.inherited c.name_places-places.result.now c.loop-k.k (c.name_places-places.ensures policy is) (omega arith) (c.loop-k.invariant.noted policy (subst (λ b. IsOf b policy) (sym c.loop-k.invariant.bound) is))).0
 
 pub returns-clause-commons : goal.returns-clause-commons
-returns-clause-commons g c = λ policy is.
-    let self = c.loop-k.self in
-    let end : c.loop-k.k ≡ length c.name_places-places.result.now = omega arith in
-    (noted-end policy self.actuals self.commons self.inherited c.name_places-places.result.now c.loop-k.k (c.name_places-places.ensures policy is) end (c.loop-k.invariant.noted policy (subst (λ b. IsOf b policy) (sym c.loop-k.invariant.bound) is))).1
+returns-clause-commons g c = λ policy is. (noted-end policy c.loop-k.self.actuals c.loop-k.self.commons c.loop-k.self.inherited c.name_places-places.result.now c.loop-k.k (c.name_places-places.ensures policy is) (omega arith) (c.loop-k.invariant.noted policy (subst (λ b. IsOf b policy) (sym c.loop-k.invariant.bound) is))).1
 
 pub returns-clause-inherited : goal.returns-clause-inherited
-returns-clause-inherited g c = λ policy is.
-    let self = c.loop-k.self in
-    let end : c.loop-k.k ≡ length c.name_places-places.result.now = omega arith in
-    (noted-end policy self.actuals self.commons self.inherited c.name_places-places.result.now c.loop-k.k (c.name_places-places.ensures policy is) end (c.loop-k.invariant.noted policy (subst (λ b. IsOf b policy) (sym c.loop-k.invariant.bound) is))).2
+returns-clause-inherited g c = λ policy is. (noted-end policy c.loop-k.self.actuals c.loop-k.self.commons c.loop-k.self.inherited c.name_places-places.result.now c.loop-k.k (c.name_places-places.ensures policy is) (omega arith) (c.loop-k.invariant.noted policy (subst (λ b. IsOf b policy) (sym c.loop-k.invariant.bound) is))).2
 
 pub returns-clause-few : goal.returns-clause-few
 returns-clause-few g c = λ policy is. let count = c.len-count.ensures policy is in let low = c.in_ok-counted_in_32_bits.ensures.few in omega (arith, count, low)
