@@ -1,4 +1,4 @@
-use Rattle.cil_check.proofs.Common.{◌≡◌, ◌∙◌, ◌+◌, ◌≤◌, ◌<◌, length, length-map, sym, ap, subst, take, arith, kind_of}
+use Rattle.cil_check.proofs.Common.{◌∙◌, ◌+◌, ◌≤◌, ◌<◌, length, length-map, sym, ap, subst, take, arith, kind_of}
 use Rattle.cil_check.proofs.GraphLemmas.{HasEdges, edges-next, edges-skip, edges-end, places-many}
 use Rattle.cil_bind.proofs.BindingLemmas.{kind-at}
 use Rattle.cil_check.proofs.SeenLemmas.{there-at}

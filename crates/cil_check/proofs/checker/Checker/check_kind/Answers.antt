@@ -1,4 +1,4 @@
-use Rattle.cil_check.proofs.Common.{◌≤◌, ◌<◌, length, take, arith, sym, IsFaultOf, faulty_words, IsLeast, policy_kind_of, fault_at}
+use Rattle.cil_check.proofs.Common.{◌≤◌, length, take, arith, sym, IsFaultOf, faulty_words, IsLeast, policy_kind_of, fault_at}
 use Rattle.std.proofs.Common.{slice_get}
 use Rattle.cil_check.proofs.CheckLemmas.{first-some, found-is}
 use Rattle.cil_check.proofs.LeastLemmas.{none-faulty-first, none-faulty-next, none-faulty-end, least-at}

@@ -1,4 +1,4 @@
-use Rattle.cil_check.proofs.Common.{◌≡◌, ℕ, ◌+◌, ◌<◌, ◌||◌, Bool, true, false, List, length, get_or, refl, sym, ap, ◌∙◌, subst, arith, add-one, length-map, true≢false, Some, Placed, IsOf, kind_of, given_kind, first_at, Actual, Common}
+use Rattle.cil_check.proofs.Common.{◌≡◌, ℕ, ◌<◌, ◌||◌, Bool, true, false, List, length, get_or, refl, sym, ap, ◌∙◌, subst, arith, add-one, length-map, true≢false, Some, Placed, IsOf, kind_of, given_kind, first_at, Actual, Common}
 use Rattle.std.proofs.Common.{slice_get}
 use Rattle.cil_bind.specs.AboutNames.{after_places, name_places}
 use Rattle.cil_bind.specs.Binding.{kinds_of}
