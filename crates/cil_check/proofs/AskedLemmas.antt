@@ -194,6 +194,11 @@ set-reference form attribute expr k word is at =
     by zero e = ap (option_map (λ w. (types, w))) e
     by (suc k) e = slice_get-map (λ w. (types, w)) (leaves expr) k ∙ ap (option_map (λ w. (types, w))) e
 
+-- a set statement refers to as many words as it has
+pub set-long : (form : Form) (attribute : Word) (expr : WordExpr) → form ≡ attribute_set attribute expr → length (references form) ≡ length (words_in form)
+set-long form attribute expr is =
+    ap (λ f. length (references f)) is ∙ ap suc (length-map (leaves expr) (λ w. (types, w))) ∙ sym (ap (λ f. length (words_in f)) is)
+
 -- a word that is found stands for one that is there
 pub reads-word : {A : Type 0} (seen : Seen A) (found : NumberedWord) (o : Option Word) → Reads seen (Some found) o → (w : Word) × (o ≡ Some w) × (read (texts_of seen.«module».now) found ≡ Some w)
 reads-word seen found None reads = absurd (none-some (read (texts_of seen.«module».now) found) (sym reads))
@@ -212,7 +217,7 @@ reference-word form k r at = by (reference_table (kind_of form) k) (slice_get (w
     by (Some t) None e = absurd (none-some r e)
     by (Some t) (Some w) e = ap (λ (p : Table × Word). Some p.1) (same_Some (table_of t, w) r e)
 
-leads-long : (policy : List Placed) (namespace : List (List ℕ)) (refs : List (Table × Word)) (bound : List (Option ℕ)) → AreLeads policy namespace refs bound → length bound ≡ length refs
+pub leads-long : (policy : List Placed) (namespace : List (List ℕ)) (refs : List (Table × Word)) (bound : List (Option ℕ)) → AreLeads policy namespace refs bound → length bound ≡ length refs
 leads-long policy namespace [] [] are = refl
 leads-long policy namespace [] (b ∷ bound) are = absurd are
 leads-long policy namespace (r ∷ refs) [] are = absurd are

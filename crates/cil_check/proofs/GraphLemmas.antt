@@ -199,6 +199,12 @@ edges-next policy i s old new at more have a b = (there, back)
       | inr same ↦ (more a b).1 (inr (subst (λ u. Mentions policy u a b) (sym same) m.mentions))
     ]
 
+-- one that is no set statement mentions nothing
+pub edges-skip : {A : Type 0} (policy : List Placed) (i : ℕ) (s : Placed) (graph : List (Vec ℕ A)) → slice_get policy i ≡ Some s → (kind_of s.form ≡ kinds.TypeAttributeSet → ⊥)
+    → HasEdges policy (take i policy) graph → HasEdges policy (take (i + 1) policy) graph
+edges-skip policy i s graph at other =
+    edges-next policy i s graph graph at (λ a b. (λ e. inl e, λ some. elim some [ inl e ↦ e | inr m ↦ absurd (other (mentions-set policy s a b m)) ]))
+
 pub edges-end : {A : Type 0} (policy : List Placed) (n : ℕ) (graph : List (Vec ℕ A)) → length policy ≤ n → length graph ≡ attribute_count policy → HasEdges policy (take n policy) graph → IsGraphOf policy graph
 edges-end policy n graph past nodes have = record { nodes = nodes; edges = subst (λ l. HasEdges policy l graph) (take_all n policy past) have }
 

@@ -8,6 +8,7 @@ pub mod WordLemmas
 pub mod AskedLemmas
 pub mod PermissionLemmas
 pub mod InheritedLemmas
+pub mod NoteLemmas
 pub mod FewLemmas
 pub mod MissingLemmas
 pub mod TooManyLemmas

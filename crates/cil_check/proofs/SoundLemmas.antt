@@ -1,21 +1,19 @@
 -- Statements whose references are bound, and not to aliases without an actual type.
-use Rattle.cil_check.proofs.Common.{◌≡◌, ℕ, ◌+◌, ◌<◌, arith, get_or, take, length, length-map, not, ◌&&◌, ◌||◌, Bool, true, false, List, [], ◌∷◌, ◌++◌, map, filter, cond, Option, Some, None, is_some, refl, sym, ap, ◌∙◌, subst, true≢false, append-nil, option_and_then, option_map, none-some, slice_get-map, slice_get_within, first_true, second_true, AllByRecursion, Word, Form, attribute_set, class_permission_set, rule, anonymous, by_name, itself, the_named, leaves, Placed, Table, types, classes, leads, references, permission_reference, is_alias, is_unfound, is_unset, element_words, kind_of, IsLead, HasFirsts, Actual, names_permissions, named_class, class_lead, first_at}
+use Rattle.cil_check.proofs.Common.{◌≡◌, ℕ, ◌+◌, ◌<◌, inl, inr, cases_lt, is_kind, arith, get_or, take, length, length-map, not, ◌&&◌, ◌||◌, Bool, true, false, List, [], ◌∷◌, ◌++◌, map, filter, cond, Option, Some, None, is_some, refl, sym, ap, ◌∙◌, subst, true≢false, append-nil, option_and_then, option_map, none-some, slice_get-map, slice_get_within, first_true, second_true, AllByRecursion, Word, Form, attribute_set, class_permission_set, rule, anonymous, by_name, itself, the_named, leaves, Placed, Table, types, classes, leads, references, permission_reference, is_alias, is_unfound, is_unset, element_words, kind_of, IsLead, HasFirsts, Actual, names_permissions, named_class, class_lead, first_at}
 use Rattle.std.proofs.Common.{◌-◌, ◌^◌, slice_get, unwrap_or}
 use Rattle.std.proofs.lemmas.List.Folds.{list_all_more}
 use Rattle.std.specs.List.{list_all}
 use Rattle.cil_specs.specs.Statements.{target_words}
 use Rattle.cil_parse.specs.declared.row.StatementKind.{StatementKind}
+use Rattle.cil_parse.specs.declared.row.StatementKind.TheVariants as kinds
+use Rattle.cil_bind.specs.AboutNames.{is_about_names}
 use Rattle.cil_bind.specs.Binding.{AreLeads, kinds_of}
-use Rattle.cil_check.specs.Clean.{HaveActuals, are_sound, is_other, is_sound, is_sound_at}
+use Rattle.cil_bind.proofs.AboutNamesLemmas.{StaysAt}
+use Rattle.cil_check.specs.Clean.{HaveActuals, IsSound, are_sound, is_other, is_sound, is_sound_at}
 use Rattle.cil_check.specs.declared.kinds.Kind.TheVariants.{Alias}
 use Rattle.cil_check.proofs.SeenLemmas.{kind-form}
 use Rattle.cil_check.proofs.AskedLemmas.{nowhere-unset}
 use Rattle.cil_check.proofs.WordLemmas.{Led, led-at, unset-noted}
-
--- a reference leads somewhere, and not to an alias without an actual type
-pub record IsSound (policy : List Placed) (namespace : List (List ℕ)) (r : Table × Word) : Type 0 where
-  pub found : is_unfound policy namespace r ≡ false
-  pub actual : r.0 ≡ types → is_unset policy namespace r.1 ≡ false
 
 either-not : (a b : Bool) → (not a || b) ≡ true → (a && not b) ≡ false
 either-not true true is = refl
@@ -111,6 +109,26 @@ found-all policy kinds actuals namespace (r ∷ refs) (b ∷ bound) same has hav
     by : (is : Bool) → is_unfound policy namespace r ≡ is → (map (λ (q : Table × Word). q.1) some ≡ [] → AllByRecursion (IsSound policy namespace) refs) → AllByRecursion (IsSound policy namespace) (r ∷ refs)
     by true is rest = absurd (none-some r.1 (sym (ap (λ l. slice_get l 0) (sym (ap words is) ∙ none))))
     by false is rest = (sound is b are.0, rest (sym (ap words is) ∙ none))
+
+-- the statements in front of a place are no aliases without an actual type
+abbrev pub AreSoundTo : List StatementKind → List (ℕ × ℕ) → ℕ → Type 0
+AreSoundTo kinds actuals n = (place : ℕ) → place < n → is_sound kinds actuals (Some place) ≡ true
+
+-- one statement more
+pub sound-behind : (kinds : List StatementKind) (actuals : List (ℕ × ℕ)) (n : ℕ) → is_sound kinds actuals (Some n) ≡ true → AreSoundTo kinds actuals n → AreSoundTo kinds actuals (n + 1)
+sound-behind kinds actuals n is before place less = elim (cases_lt place n) [
+  | inl low ↦ before place low
+  | inr past ↦ (let same : n ≡ place = omega (arith, less, past) in subst (λ m. is_sound kinds actuals (Some m) ≡ true) same is)
+]
+
+-- a statement that isn't about names is no alias
+no-alias : (kind : StatementKind) → is_about_names kind ≡ false → is_kind Alias kind ≡ false
+no-alias kinds.TypeAlias other = absurd (true≢false other)
+no-alias _ other = refl
+
+pub sound-stays : (kinds : List StatementKind) (actuals : List (ℕ × ℕ)) → StaysAt (AreSoundTo kinds actuals) kinds
+sound-stays kinds actuals i kind at other before =
+    sound-behind kinds actuals i (ap (is_sound_at actuals i) at ∙ ap (λ b. not b || is_some (first_at actuals i)) (no-alias kind other)) before
 
 -- one reference more
 pub sound-more : (kinds : List StatementKind) (actuals : List (ℕ × ℕ)) (bound : List (Option ℕ)) (i : ℕ) (d : Option ℕ) → i < length bound → are_sound kinds actuals (take i bound) ≡ true → is_sound kinds actuals (get_or bound i d) ≡ true

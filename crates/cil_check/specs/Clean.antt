@@ -4,7 +4,9 @@ use Rattle.std.specs.List.{list_all}
 use Rattle.cil_parse.specs.declared.row.StatementKind.{StatementKind}
 use Rattle.cil_check.specs.declared.kinds.Kind.TheVariants.{Alias}
 use Rattle.cil_specs.specs.Joined.{Placed}
-use Rattle.cil_specs.specs.PolicyFault.{alias_unset_words, missing_words}
+use Rattle.cil_specs.specs.Names.{Word}
+use Rattle.cil_specs.specs.Lookup.{Table, types}
+use Rattle.cil_specs.specs.PolicyFault.{alias_unset_words, missing_words, is_unfound, is_unset}
 use Rattle.cil_check.specs.Associations.{first_at}
 use Rattle.cil_check.specs.Kinds.{is_kind}
 
@@ -35,3 +37,8 @@ HaveActuals kinds actuals = (place : ℕ) → place < length kinds → is_sound 
 pub record IsSettled (policy : List Placed) (s : Placed) : Type 0 where
   pub found : missing_words policy s ≡ []
   pub actual : alias_unset_words policy s ≡ []
+
+-- a reference leads somewhere, and not to an alias without an actual type
+pub record IsSound (policy : List Placed) (namespace : List (List ℕ)) (r : Table × Word) : Type 0 where
+  pub found : is_unfound policy namespace r ≡ false
+  pub actual : r.0 ≡ types → is_unset policy namespace r.1 ≡ false

@@ -1,12 +1,15 @@
 //! The attributes of a policy by numbers, and which of them set statements mention.
 
 ghost use Rattle.std.specs.Prelude.{◌≡◌, ◌<◌, ◌⊎◌, ◌↔◌, ℕ, List, Some, length, slice_get, IfOk, OnOk};
-ghost use Rattle.cil_check.specs.Common.{Word, Placed, types, references, IsOf, IsSeen};
+ghost use Rattle.cil_check.specs.Common.{Word, Placed, types, references, kind_of, IsOf};
+ghost use Rattle.cil_bind.specs.Binding.{AreLeads};
+ghost use Rattle.cil_parse.specs.declared.row.StatementKind.TheVariants.{TypeAttributeSet};
 ghost use Rattle.cil_dependence.specs.Graph.{IsEdge};
 ghost use Rattle.cil_check.specs.AttributeGraph.{attribute_count, number_led, AreAttributesOf, Mentions, IsGraphOf};
 
-use crate::bound::{BoundPolicy, Seen};
+use crate::bound::BoundPolicy;
 use crate::kinds::Kind;
+use cil_bind::References;
 use cil_dependence::{add_edge, without_edges};
 use cil_parse::StatementKind;
 use std::alloc::{AllocError, Allocator, Global};
@@ -48,14 +51,16 @@ impl<A: Allocator> AttributeNumbers<A> {
         self.numbers.get(place as usize).copied()
     }
 
-    /// The number of the attribute that a reference of a statement leads to, if it leads to one.
-    fn led(&self, bound: &BoundPolicy<'_, '_, A>, seen: &Seen<'_, '_, A>, k: usize) -> Option<usize>
+    /// The number of the attribute that a reference leads to, if it leads to one.
+    fn led(&self, bound: &BoundPolicy<'_, '_, A>, cited: &References<'_>, k: usize) -> Option<usize>
         requires { (policy : List Placed) × IsOf bound.now policy }
         ensures { (policy : List Placed) (s : Placed) (word : Word) → IsOf bound.now policy
-            → AreAttributesOf self.now policy → IsSeen seen.now policy s
-            → slice_get (references s.form) k ≡ Some (types, word) → result ≡ number_led policy s.namespace word }
+            → AreAttributesOf self.now policy
+            → AreLeads policy s.namespace (references s.form) cited.now
+            → slice_get (references s.form) k ≡ Some (types, word)
+            → result ≡ number_led policy s.namespace word }
     {
-        let place = seen.lead(k)?;
+        let place = cited.place(k)?;
         if bound.is(place, Kind::Attribute) {
             self.number_at(place)
         } else {
@@ -63,52 +68,33 @@ impl<A: Allocator> AttributeNumbers<A> {
         }
     }
 
-    /// Puts in an edge for each attribute that a statement mentions, if it is a set statement.
+    /// Puts in an edge for each attribute that the set statement of a place mentions.
     fn add_set(
-        &self,
-        bound: &BoundPolicy<'_, '_, A>,
-        seen: &Seen<'_, '_, A>,
-        graph: &mut Vec<Vec<usize, A>, A>,
-    ) -> Result<(), AllocError>
-        requires { (policy : List Placed) × (s : Placed) × IsOf bound.now policy × AreAttributesOf self.now policy
-            × IsSeen seen.now policy s × (length graph.old.items ≡ attribute_count policy) }
-        ensures nodes { OnOk result (length graph.new.items ≡ length graph.old.items) }
-        ensures edges { OnOk result ((policy : List Placed) (s : Placed) → IsOf bound.now policy
-            → AreAttributesOf self.now policy → IsSeen seen.now policy s
-            → (a b : ℕ) → IsEdge graph.new.items a b ↔ (IsEdge graph.old.items a b ⊎ Mentions policy s a b)) }
-    {
-        let StatementKind::TypeAttributeSet = seen.view.kind else {
-            return Ok(());
-        };
-        let Some(from) = self.led(bound, seen, 0) else {
-            return Ok(());
-        };
-        for k in 1..seen.view.words.len() {
-            if let Some(to) = self.led(bound, seen, k) {
-                add_edge(graph, from, to)?;
-            }
-        }
-        Ok(())
-    }
-
-    /// The same of the statement of a place of a policy. Only a set statement is looked at whole.
-    fn add_set_at(
         &self,
         bound: &BoundPolicy<'_, '_, A>,
         i: usize,
         graph: &mut Vec<Vec<usize, A>, A>,
     ) -> Result<(), AllocError>
-        requires { (policy : List Placed) × IsOf bound.now policy × AreAttributesOf self.now policy
-            × (i < length policy) × (length graph.old.items ≡ attribute_count policy) }
+        requires { (policy : List Placed) × (s : Placed) × IsOf bound.now policy
+            × AreAttributesOf self.now policy × (slice_get policy i ≡ Some s)
+            × (kind_of s.form ≡ TypeAttributeSet)
+            × (length graph.old.items ≡ attribute_count policy) }
         ensures nodes { OnOk result (length graph.new.items ≡ length graph.old.items) }
         ensures edges { OnOk result ((policy : List Placed) (s : Placed) → IsOf bound.now policy
             → AreAttributesOf self.now policy → slice_get policy i ≡ Some s
-            → (a b : ℕ) → IsEdge graph.new.items a b ↔ (IsEdge graph.old.items a b ⊎ Mentions policy s a b)) }
+            → kind_of s.form ≡ TypeAttributeSet → (a b : ℕ)
+            → IsEdge graph.new.items a b ↔ (IsEdge graph.old.items a b ⊎ Mentions policy s a b)) }
     {
-        let StatementKind::TypeAttributeSet = bound.kind(i) else {
+        let cited = bound.references(i);
+        let Some(from) = self.led(bound, &cited, 0) else {
             return Ok(());
         };
-        self.add_set(bound, &bound.seen(i), graph)
+        for k in 1..cited.len() {
+            if let Some(to) = self.led(bound, &cited, k) {
+                add_edge(graph, from, to)?;
+            }
+        }
+        Ok(())
     }
 }
 
@@ -125,8 +111,11 @@ impl<A: Allocator + Copy> AttributeNumbers<A> {
             → AreAttributesOf self.now policy → IsGraphOf policy graph.items) }
     {
         let mut graph = without_edges(alloc, self.places.len())?;
-        for i in 0..bound.len() {
-            self.add_set_at(bound, i, &mut graph)?;
+        let kinds = bound.kinds();
+        for i in 0..kinds.len() {
+            if let StatementKind::TypeAttributeSet = kinds[i] {
+                self.add_set(bound, i, &mut graph)?;
+            }
         }
         Ok(graph)
     }

@@ -1,7 +1,8 @@
 //! The statements of a bound policy.
 
 ghost use Rattle.std.specs.Prelude.{◌≡◌, ◌<◌, ◌∷◌, [], ℕ, List, None, IsTrue, length, slice_get, slice_index_or, Some};
-ghost use Rattle.cil_bind.specs.Binding.{AreLeads};
+ghost use Rattle.cil_bind.specs.AboutNames.{name_places as places_of_kinds};
+ghost use Rattle.cil_bind.specs.Binding.{AreLeads, kinds_of};
 ghost use Rattle.cil_specs.specs.Lookup.{references as references_of};
 ghost use Rattle.cil_check.specs.Common.{Word, components, Placed, read, kind_of, texts_of, names_of, AreNumbersOf, test_of, IsOf, IsSeen, policy_kind_of, fault_at, IsFoundFault};
 
@@ -85,6 +86,21 @@ impl<'p, 'm, A: Allocator> BoundPolicy<'p, 'm, A> {
         ensures { (policy : List Placed) → IsOf self.now policy → result ≡ length policy }
     {
         self.policy.rows.len()
+    }
+
+    /// The kinds of the statements, in their order.
+    pub fn kinds(&self) -> &'p [StatementKind]
+        ensures { (policy : List Placed) → IsOf self.now policy → result.now ≡ kinds_of policy }
+    {
+        self.policy.kinds.as_slice()
+    }
+
+    /// The places of the statements about names, in their order.
+    pub fn name_places(&self) -> &'p [u32]
+        ensures { (policy : List Placed) → IsOf self.now policy
+            → result.now ≡ places_of_kinds 0 (kinds_of policy) }
+    {
+        self.policy.name_places.as_slice()
     }
 
     /// Where the references of the statement of a place lead.

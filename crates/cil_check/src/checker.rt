@@ -60,7 +60,14 @@ impl<'p, 'm, A: Allocator + Copy> Checker<'p, 'm, A> {
         ensures bound { IfOk result (λ checker. checker.bound ≡ bound.entry) }
     {
         let mut checker = Checker::listed(alloc, bound)?;
-        checker.fill(alloc)?;
+        checker.note_all(alloc)?;
+        let witnesses = Witnesses::of(
+            alloc,
+            &checker.bound,
+            &checker.permissions,
+            &checker.inherited,
+        )?;
+        checker.witnesses = witnesses;
         Ok(checker)
     }
 
@@ -85,25 +92,7 @@ impl<'p, 'm, A: Allocator + Copy> Checker<'p, 'm, A> {
         })
     }
 
-    /// Notes what statements give to aliases and classes, and where permissions are to be looked for first.
-    fn fill(&mut self, alloc: A) -> Result<(), AllocError>
-        requires is { (policy : List Placed) × IsOf self.old.bound policy }
-        requires actuals { self.old.actuals ≡ [] }
-        requires commons { self.old.commons ≡ [] }
-        requires inherited { self.old.inherited ≡ ([], []) }
-        ensures bound { OnOk result (self.new.bound ≡ self.old.bound) }
-        ensures permissions { OnOk result (self.new.permissions ≡ self.old.permissions) }
-        ensures actuals { OnOk result ((policy : List Placed) → IsOf self.old.bound policy → HasFirsts Actual policy self.new.actuals) }
-        ensures commons { OnOk result ((policy : List Placed) → IsOf self.old.bound policy → HasFirsts Common policy self.new.commons) }
-        ensures inherited { OnOk result ((policy : List Placed) → IsOf self.old.bound policy → HasInherited policy self.new.inherited) }
-        ensures few { OnOk result ((policy : List Placed) → IsOf self.old.bound policy → length policy < 2 ^ 32) }
-    {
-        self.note_all(alloc)?;
-        self.witnesses = Witnesses::of(alloc, &self.bound, &self.permissions, &self.inherited)?;
-        Ok(())
-    }
-
-    /// Notes what statements give to aliases and classes, in one pass over their kinds.
+    /// Notes what statements give to aliases and classes, in one pass over those about names.
     #[inline(never)]
     fn note_all(&mut self, alloc: A) -> Result<(), AllocError>
         requires is { (policy : List Placed) × IsOf self.old.bound policy }
@@ -123,11 +112,13 @@ impl<'p, 'm, A: Allocator + Copy> Checker<'p, 'm, A> {
     {
         let count = self.bound.len();
         counted_in_32_bits(count)?;
-        for i in 0..count {
-            if !gives_any(self.bound.kind(i)) {
+        let places = self.bound.name_places();
+        for k in 0..places.len() {
+            let place = places[k];
+            if !gives_any(self.bound.kind(place as usize)) {
                 continue;
             }
-            self.note(alloc, i as u32)?;
+            self.note(alloc, place)?;
         }
         Ok(())
     }

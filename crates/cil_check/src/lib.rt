@@ -15,7 +15,9 @@ mod inherited;
 mod kinds;
 mod known;
 mod missing;
+mod named_permissions;
 mod permissions;
+mod sound_references;
 mod too_many;
 mod witnesses;
 

@@ -1,4 +1,4 @@
-use Rattle.cil_check.proofs.Common.{◌≤◌, ◌<◌, length, take, arith, sym, IsFaultOf, faulty_words, IsLeast, policy_kind_of, fault_at}
+use Rattle.cil_check.proofs.Common.{◌≤◌, length, take, arith, sym, IsFaultOf, faulty_words, IsLeast, policy_kind_of, fault_at}
 use Rattle.std.proofs.Common.{slice_get}
 use Rattle.cil_check.proofs.CheckLemmas.{first-some, found-is}
 use Rattle.cil_check.proofs.LeastLemmas.{none-faulty-first, none-faulty-next, none-faulty-end, least-at}
@@ -17,17 +17,13 @@ seen-seen-requires g c =
 pub faulty_word-requires : goal.faulty_word-requires
 faulty_word-requires g c =
     let (policy, noted) = c.requires.ready in
-    let count = c.len-i-end.ensures policy noted.is in
-    let less : c.loop-i.i < length policy = omega (arith, count) in
-    let (s, at) = there-at policy c.loop-i.i less in
+    let (s, at) = there-at policy c.loop-i.i (omega (arith, c.len-i-end.ensures policy noted.is)) in
     record { ready = (policy, s, noted, c.seen-seen.ensures.seen policy s noted.is at, at); kind = c.requires.kind; straight = c.requires.straight }
 
 pub fault-requires : goal.fault-requires
 fault-requires g c =
     let (policy, noted) = c.requires.ready in
-    let count = c.len-i-end.ensures policy noted.is in
-    let less : c.loop-i.i < length policy = omega (arith, count) in
-    let (s, at) = there-at policy c.loop-i.i less in
+    let (s, at) = there-at policy c.loop-i.i (omega (arith, c.len-i-end.ensures policy noted.is)) in
     let seen = c.seen-seen.ensures.seen policy s noted.is at in
     let found = reads-word c.seen-seen.result c.in-Some.word _ (c.in-Some.ensures policy s noted seen (c.seen-seen.ensures.worded policy noted.is) at) in
     (found.0, found.2)
@@ -36,10 +32,8 @@ pub returns-in-Some : goal.returns-in-Some
 returns-in-Some g c = record {
   ok = tt;
   err = λ policy noted.
-      let count = c.len-i-end.ensures policy noted.is in
-      let less : c.loop-i.i < length policy = omega (arith, count) in
       let kind = policy_kind_of c.args.kind in
-      let (s, at) = there-at policy c.loop-i.i less in
+      let (s, at) = there-at policy c.loop-i.i (omega (arith, c.len-i-end.ensures policy noted.is)) in
       let seen = c.seen-seen.ensures.seen policy s noted.is at in
       let found = reads-word c.seen-seen.result c.in-Some.word (slice_get (faulty_words kind policy (take c.loop-i.i policy) s) 0) (c.in-Some.ensures policy s noted seen (c.seen-seen.ensures.worded policy noted.is) at) in
       let first = first-some (faulty_words kind policy (take c.loop-i.i policy) s) found.0 (sym found.1) in
@@ -49,10 +43,8 @@ returns-in-Some g c = record {
 
 pub loop-i-preserved : goal.loop-i-preserved
 loop-i-preserved g c = λ policy noted.
-    let count = c.len-i-end.ensures policy noted.is in
-    let less : c.loop-i.i < length policy = omega (arith, count) in
     let kind = policy_kind_of c.args.kind in
-    let (s, at) = there-at policy c.loop-i.i less in
+    let (s, at) = there-at policy c.loop-i.i (omega (arith, c.len-i-end.ensures policy noted.is)) in
     let seen = c.seen-seen.ensures.seen policy s noted.is at in
     none-faulty-next kind policy c.loop-i.i s at (reads-nothing c.seen-seen.result (faulty_words kind policy (take c.loop-i.i policy) s) (c.in_default.ensures policy s noted seen (c.seen-seen.ensures.worded policy noted.is) at)) (c.loop-i.invariant policy noted)
 

@@ -1,4 +1,4 @@
-use Rattle.cil_check.proofs.Common.{◌<◌, Contains, length, arith, rules, slice_get_within, get_or_from_slice_get, has_list}
+use Rattle.cil_check.proofs.Common.{◌<◌, length, arith, rules, slice_get_within, has_list}
 use Rattle.cil_check.proofs.KnownLemmas.{from-there, known-lacks-none, lacks-none-known}
 use Rattle.cil_check.proofs.SeenLemmas.{is-long}
 use Rattle.cil_check.proofs.checker.Checker.has_listed.Goals as goal
@@ -24,28 +24,22 @@ returns-then-knows-clause-none g c = λ is policy s noted at led known.
     (c.of-list.ensures s (from-there b policy c.args.place c.index.result.now s noted.is at c.index.ensures))
     (c.knows.ensures c.if-knows.true (has_list b.joined.now.modules.items policy) known.lists)
 
-pub seen-requires : goal.seen-requires
-seen-requires g c = let r = c.requires in record { is = (r.0, r.2.is, slice_get_within r.0 c.args.place r.1 r.3) }
+pub has_named_at-requires : goal.has_named_at-requires
+has_named_at-requires g c = let r = c.requires in (r.0, r.1, r.2, r.3)
 
-pub returns-then-not-has_named-clause-known : goal.returns-then-not-has_named-clause-known
-returns-then-not-has_named-clause-known g c = λ policy s noted at led known.
-    c.has_named.ensures.known policy s noted (c.seen.ensures.seen policy s noted.is at) (c.seen.ensures.worded policy noted.is)
-    (c.args.place, slice_get_within policy c.args.place s at, get_or_from_slice_get policy c.args.place s s at) led known
+pub returns-then-not-has_named_at-clause-known : goal.returns-then-not-has_named_at-clause-known
+returns-then-not-has_named_at-clause-known g c = λ policy s noted at led known. c.has_named_at.ensures.known policy s noted at led known
 
 pub returns-clause-none : goal.returns-clause-none
 returns-clause-none g c = λ is policy s noted at led known.
-    c.has_named.ensures.none c.if-not-has_named.false policy s noted (c.seen.ensures.seen policy s noted.is at) (c.seen.ensures.worded policy noted.is)
-    (c.args.place, slice_get_within policy c.args.place s at, get_or_from_slice_get policy c.args.place s s at) led known
+    c.has_named_at.ensures.none c.if-not-has_named_at.false policy s noted at led known
 
 pub returns-clause-known : goal.returns-clause-known
 returns-clause-known g c = λ policy s noted at led known.
     let b = c.args.self.now.bound in
     let list = c.of-list.result in
-    let seen = c.seen.ensures.seen policy s noted.is at in
-    let worded = c.seen.ensures.worded policy noted.is in
-    let contained : Contains policy s = (c.args.place, slice_get_within policy c.args.place s at, get_or_from_slice_get policy c.args.place s s at) in
-    let none = c.has_named.ensures.none c.if-not-has_named.false policy s noted seen worded contained led known in
-    let after = c.has_named.ensures.known policy s noted seen worded contained led known in record {
+    let none = c.has_named_at.ensures.none c.if-not-has_named_at.false policy s noted at led known in
+    let after = c.has_named_at.ensures.known policy s noted at led known in record {
       lists = c.note.ensures (has_list b.joined.now.modules.items policy)
           (lacks-none-known b.joined.now.modules.items policy s list.«module» list.list c.args.class led (c.of-list.ensures s (from-there b policy c.args.place c.index.result.now s noted.is at c.index.ensures)) none) after.lists;
       recent = after.recent;

@@ -4,7 +4,7 @@ use Rattle.cil_check.specs.declared.kinds.Kind.TheVariants.{Attribute}
 use Rattle.cil_check.proofs.AskedLemmas.{form-set, there-kind}
 use Rattle.cil_check.proofs.KnownLemmas.{refs-found, set-clean}
 use Rattle.cil_check.proofs.SeenLemmas.{lead-of}
-use Rattle.cil_check.proofs.SoundLemmas.{sound-all, none-unfound, none-unset-of}
+use Rattle.cil_check.proofs.SoundLemmas.{none-unfound, none-unset-of}
 use Rattle.cil_check.proofs.checker.Checker.is_clean_set.Goals as goal
 
 pub references-bound-requires : goal.references-bound-requires
@@ -26,11 +26,10 @@ returns-then-is_settled g c = λ yes policy s noted at kind have.
 
 pub returns : goal.returns
 returns g c = λ yes policy s noted at kind have.
-    let b = c.args.self.now.bound.policy.now in
     let bound = c.references-bound.result in
     let (attribute, expr, form) = form-set s.form kind in
     let are = c.references-bound.ensures policy s noted.is at in
-    let all = sound-all policy b.kinds.items c.args.self.now.actuals s.namespace (references s.form) bound noted.is.bound.kinds noted.has_actuals are (c.are_sound_by.ensures yes policy s noted have are) in
+    let all = c.are_sound_by.ensures yes policy s noted have at are in
     let led = subst (λ o. IsLead types policy o (leads policy types s.namespace attribute.text))
     (sym c.place.ensures ∙ c.in-Some.is) (lead-of policy s.namespace (references s.form) bound 0 (types, attribute) are (ap (λ f. slice_get (references f) 0) form)) in
     let other = there-kind policy s.namespace Attribute attribute c.in-Some.first c.is.result led (λ t there. c.is.ensures policy t noted.is there) ∙ ap not c.if-not-is.false in

@@ -1,6 +1,6 @@
 use Rattle.cil_check.proofs.Common.{◌&&◌, None, is_some, list_all, get_or, arith, refl, sym, ap, ◌∙◌, take_all}
 use Rattle.std.proofs.lemmas.List.Folds.{list_all_more}
-use Rattle.cil_check.proofs.clean.are_bound.Goals as goal
+use Rattle.cil_check.proofs.sound_references.are_bound.Goals as goal
 
 pub loop-k-init : goal.loop-k-init
 loop-k-init c = refl

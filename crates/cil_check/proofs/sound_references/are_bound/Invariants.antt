@@ -1,5 +1,5 @@
 use Rattle.cil_check.proofs.Common.{◌≡◌, true, is_some, list_all, take}
-use Rattle.cil_check.proofs.clean.are_bound.Given as goal
+use Rattle.cil_check.proofs.sound_references.are_bound.Given as goal
 
 -- the references gone over are bound
 abbrev pub invariant-loop-k : goal.invariant-loop-k
