@@ -2,6 +2,7 @@
 use Rattle.cil_matching.proofs.Common.{◌≡◌, ◌∙◌, ◌==◌, ◌↔◌, ℕ, ◌<◌, Bool, true, false, true≢false, ◌&&◌, nat_lt, List, [], ◌∷◌, length, map, slice_get, slice_index_or, Option, None, Some, refl, sym, ap, arith, list_all, and_parts, eqb-true, eq-eqb, ltb-true, slice_get-get_or, slice_get_within, get_or_from_slice_get, a_type, an_attribute, ResolvedTarget, at_itself, at_element, RuleContent, SetContent, content_of, set_content_of, kind_index, same-kind, is_that, is_number_of, is_element_by, is_set_by, is_target_by, is_written_by, are_permissions_by, SayTheSame, AreNumbers}
 use Rattle.std.proofs.Common.{Box, not}
 use Rattle.std.proofs.Math.Bool.{and-false}
+use Rattle.std.proofs.lemmas.Bool.{false_from_ne_true}
 use Rattle.cil_specs.specs.Expr.{Expr, leaves, listed, map_leaves}
 use Rattle.cil_specs.specs.Rule as spec
 use Rattle.cil_specs.proofs.MeansLemmas.{leaves-mapped}
@@ -294,19 +295,11 @@ module _ {A : Type 0} (same : ℕ → ℕ → Bool) (r s : NumberedPermissions A
       ∙ (λ i. are_same same (written_or (sym kept i) r.given) (written_or (sym keeps i) s.given))
 
   pub first-kept : (e : Box (Expression ℕ A) A) → is_no_list r.written ≡ true → r.written ≡ Some e → s.written ≡ None → are_same same (written_in r) (written_in s) ≡ false
-  first-kept e no_list kept none = by (are_same same (written_in r) (written_in s)) refl
-    where
-      by : (b : Bool) → are_same same (written_in r) (written_in s) ≡ b → b ≡ false
-      by false is = refl
-      by true is =
-          absurd (true≢false (sym no_list ∙ ap is_no_list kept
-          ∙ ap not (sym (ap (λ w. is_plain (written_or w r.given)) kept) ∙ plain-same same (written_in r) (written_in s) is ∙ ap (λ w. is_plain (written_or w s.given)) none ∙ plain-list s.given)))
+  first-kept e no_list kept none = false_from_ne_true (are_same same (written_in r) (written_in s)) (λ is.
+      true≢false (sym no_list ∙ ap is_no_list kept
+      ∙ ap not (sym (ap (λ w. is_plain (written_or w r.given)) kept) ∙ plain-same same (written_in r) (written_in s) is ∙ ap (λ w. is_plain (written_or w s.given)) none ∙ plain-list s.given)))
 
   pub second-kept : (f : Box (Expression ℕ A) A) → is_no_list s.written ≡ true → r.written ≡ None → s.written ≡ Some f → are_same same (written_in r) (written_in s) ≡ false
-  second-kept f no_list none keeps = by (are_same same (written_in r) (written_in s)) refl
-    where
-      by : (b : Bool) → are_same same (written_in r) (written_in s) ≡ b → b ≡ false
-      by false is = refl
-      by true is =
-          absurd (true≢false (sym no_list ∙ ap is_no_list keeps
-          ∙ ap not (sym (ap (λ w. is_plain (written_or w s.given)) keeps) ∙ sym (plain-same same (written_in r) (written_in s) is) ∙ ap (λ w. is_plain (written_or w r.given)) none ∙ plain-list r.given)))
+  second-kept f no_list none keeps = false_from_ne_true (are_same same (written_in r) (written_in s)) (λ is.
+      true≢false (sym no_list ∙ ap is_no_list keeps
+      ∙ ap not (sym (ap (λ w. is_plain (written_or w s.given)) keeps) ∙ sym (plain-same same (written_in r) (written_in s) is) ∙ ap (λ w. is_plain (written_or w r.given)) none ∙ plain-list r.given)))

@@ -86,6 +86,10 @@ module _ {A : Type 0} (p q : Resolved A) where
       stand spot is =
           to-mapped set_spot (sets_in q) l (new_set b) (to-mapped new_set (numbered_in q) l b other_at) ∙ ap Some (spots ∙ set-stands p k a at spot is)
 
+-- from the next ones on
+pub same-next : {S : Type 0} (IsSame : S → S → Type 0) (old new : List S) (i j until next last : ℕ) → next ≡ j + 1 → last ≡ until → AreSameUntil IsSame old new i j until → AreSameUntil IsSame old new (i + 1) next last
+same-next IsSame old new i j until next last more end same k l low high is = same k l (omega (arith, low)) (omega (arith, high, end)) (omega (arith, is, more))
+
 -- there is a place for the next one
 pub same-room : {S : Type 0} (IsSame : S → S → Type 0) (old new : List S) (i j until : ℕ) → AreSameUntil IsSame old new i j until → i < until → j < length new
 same-room IsSame old new i j until same low =

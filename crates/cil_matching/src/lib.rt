@@ -8,6 +8,7 @@ mod numbers;
 mod paired_rules;
 mod paired_sets;
 mod passed_over;
+mod places;
 mod positions;
 mod rule_matching;
 mod rule_places;

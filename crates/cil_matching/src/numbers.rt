@@ -3,7 +3,6 @@
 ghost use Rattle.std.specs.Prelude.{◌≡◌, ◌↔◌, ◌<◌, ℕ, slice_get, Some};
 ghost use Rattle.cil_matching.specs.Content.{is_number_of};
 
-use crate::inverse::place_at;
 use std::marker::Model;
 
 /// For each name of an old policy its number in a new one, if that has the name. The first names have their old numbers, as long as no
@@ -38,6 +37,16 @@ fn steady(list: &[Option<usize>]) -> usize
     list.len()
 }
 
+/// The number that a list has for a name.
+fn number_at(list: &[Option<usize>], a: usize) -> Option<usize>
+    ensures { (b : ℕ) → (result ≡ Some b) ↔ (slice_get list.now a ≡ Some (Some b)) }
+{
+    match list.get(a) {
+        Some(number) => *number,
+        None => None,
+    }
+}
+
 impl<'n> Numbers<'n> {
     /// The numbers in a list.
     pub fn of(list: &'n [Option<usize>]) -> Self
@@ -53,7 +62,7 @@ impl<'n> Numbers<'n> {
     pub fn number(&self, a: usize) -> Option<usize>
         ensures { (b : ℕ) → (result ≡ Some b) ↔ (slice_get self.now a ≡ Some (Some b)) }
     {
-        place_at(self.list, a)
+        number_at(self.list, a)
     }
 }
 

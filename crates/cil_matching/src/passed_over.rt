@@ -5,9 +5,11 @@ ghost use Rattle.std.specs.Option.{option_and_then};
 ghost use Rattle.cil_matching.specs.Common.{sets_in, same_spot, set_spot, spot_of};
 ghost use Rattle.cil_matching.specs.Passed.{ArePassed};
 
-use crate::inverse::{inverse, place_at};
+use crate::inverse::inverse;
+use crate::places::place_at;
 use crate::positions::{Position, Positions};
 use crate::set_walk::position;
+use cil_bind::Lead;
 use cil_names::Seed;
 use cil_resolve::{Resolved, resolved_sets_are_apart};
 use std::alloc::{AllocError, Allocator, Global};
@@ -36,7 +38,7 @@ pub fn passed_over<'r, A: Allocator + Copy>(
     alloc: A,
     seed: Seed,
     resolved: &'r Resolved<A>,
-    found: &[Option<usize>],
+    found: &[Lead],
 ) -> Result<PassedOver<'r, A>, AllocError>
     requires below { (i j : ℕ) → slice_get found.now i ≡ Some (Some j)
         → j < length (sets_in resolved.now) }

@@ -3,8 +3,10 @@
 ghost use Rattle.std.specs.Prelude.{◌≡◌, ◌↔◌, ℕ, slice_get, Some, IfOk};
 ghost use Rattle.cil_matching.specs.Common.{IsSameRule, meaning_in, AreMatched};
 
-use crate::inverse::{inverse, place_at};
+use crate::inverse::inverse;
+use crate::places::place_at;
 use crate::rule_places::rule_places;
+use cil_bind::Lead;
 use cil_resolve::{Resolved, resolved_rules_are_in_order};
 use std::alloc::{AllocError, Allocator, Global};
 use std::marker::Model;
@@ -13,8 +15,8 @@ use std::marker::Model;
 /// two lists of places.
 #[derive(Drop)]
 pub struct RuleMatching<A: Allocator = Global> {
-    ahead: Vec<Option<usize>, A>,
-    back: Vec<Option<usize>, A>,
+    ahead: Vec<Lead, A>,
+    back: Vec<Lead, A>,
 }
 
 impl<A: Allocator> Model for RuleMatching<A> {

@@ -11,7 +11,9 @@ use crate::compared::{Compared, order_of_modules, then_offsets};
 use crate::name_numbers::name_numbers;
 use crate::numbers::Numbers;
 use crate::paired_rules::pairs_until;
+use crate::places::put;
 use crate::same_content::is_same_content;
+use cil_bind::Lead;
 use cil_resolve::Resolved;
 use std::alloc::{AllocError, Allocator};
 use std::cmp::Ordering;
@@ -89,7 +91,7 @@ pub fn rule_places<A: Allocator + Copy>(
     alloc: A,
     old: &Resolved<A>,
     new: &Resolved<A>,
-) -> Result<Vec<Option<usize>, A>, AllocError>
+) -> Result<Vec<Lead, A>, AllocError>
     ensures { IfOk result (λ places. ArePlaces IsSameRule (meaning_in old.now).rules (meaning_in new.now).rules (length (meaning_in old.now).rules) places.items) }
 {
     let list = name_numbers(alloc, old, new)?;
@@ -100,17 +102,17 @@ pub fn rule_places<A: Allocator + Copy>(
     let mut until = 0;
     for i in 0..old.rules_len() {
         if i < until {
-            places.push(Some(from))?;
+            put(&mut places, Some(from))?;
             from += 1;
         } else {
             match find_rule(&mut known, old, i, new, from) {
                 Ok(j) => {
-                    places.push(same(&numbers, old, i, new, j))?;
+                    put(&mut places, same(&numbers, old, i, new, j))?;
                     until = pairs_until(&numbers, old, i, new, j);
                     from = j + 1;
                 }
                 Err(j) => {
-                    places.push(None)?;
+                    put(&mut places, None)?;
                     from = j;
                 }
             }

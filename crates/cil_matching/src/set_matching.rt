@@ -3,11 +3,13 @@
 ghost use Rattle.std.specs.Prelude.{◌≡◌, ◌↔◌, ◌<◌, ℕ, length, slice_get, Some, IfOk};
 ghost use Rattle.cil_matching.specs.Common.{IsSameSet, sets_in, AreMatched, ArePlaces};
 
-use crate::inverse::{inverse, place_at};
+use crate::inverse::inverse;
 use crate::name_numbers::name_numbers;
 use crate::numbers::Numbers;
 use crate::passed_over::passed_over;
+use crate::places::{lead_to, place_at, place_of};
 use crate::set_walk::{position, same, walk};
+use cil_bind::Lead;
 use cil_names::Seed;
 use cil_resolve::{Resolved, resolved_sets_are_apart};
 use std::alloc::{AllocError, Allocator, Global};
@@ -17,8 +19,8 @@ use std::marker::Model;
 /// two lists of places.
 #[derive(Drop)]
 pub struct SetMatching<A: Allocator = Global> {
-    ahead: Vec<Option<usize>, A>,
-    back: Vec<Option<usize>, A>,
+    ahead: Vec<Lead, A>,
+    back: Vec<Lead, A>,
 }
 
 impl<A: Allocator> Model for SetMatching<A> {
@@ -30,11 +32,11 @@ impl<A: Allocator> Model for SetMatching<A> {
 }
 
 /// How many of the first numbers have a place.
-fn first_open(places: &[Option<usize>]) -> usize
+fn first_open(places: &[Lead]) -> usize
     ensures { (i : ℕ) → i < result → (k : ℕ) × (slice_get places.now i ≡ Some (Some k)) }
 {
     for (i, place) in places.iter().enumerate() {
-        if place.is_none() {
+        if place_of(*place).is_none() {
             return i;
         }
     }
@@ -49,7 +51,7 @@ fn set_places<A: Allocator + Copy>(
     seed: Seed,
     old: &Resolved<A>,
     new: &Resolved<A>,
-) -> Result<Vec<Option<usize>, A>, AllocError>
+) -> Result<Vec<Lead, A>, AllocError>
     ensures { IfOk result (λ places. ArePlaces IsSameSet (sets_in old.now) (sets_in new.now)
         (length (sets_in old.now)) places.items) }
 {
@@ -64,8 +66,8 @@ fn set_places<A: Allocator + Copy>(
     }
     let passed = passed_over(alloc, seed, new, &places)?;
     for i in open..old.sets_len() {
-        if places[i].is_none() {
-            places[i] = same(&numbers, old, i, new, passed.find(position(old, i)));
+        if place_of(places[i]).is_none() {
+            places[i] = lead_to(same(&numbers, old, i, new, passed.find(position(old, i))))?;
         }
     }
     Ok(places)

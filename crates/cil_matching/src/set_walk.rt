@@ -7,11 +7,12 @@ ghost use Rattle.cil_matching.specs.Compared.{AreCompared};
 ghost use Rattle.cil_matching.specs.Spot.{spot_cmp};
 
 use crate::compared::{Compared, order_of_modules};
-use crate::inverse::place_at;
 use crate::numbers::{Numbers, is_number};
 use crate::paired_sets::{numbered_at, pairs_until};
+use crate::places::{lead_to, place_at, put};
 use crate::positions::Position;
 use crate::same_set::is_same_set;
+use cil_bind::Lead;
 use cil_resolve::{NumberedSet, Resolved, resolved_sets_are_apart};
 use std::alloc::{AllocError, Allocator};
 use std::cmp::Ordering;
@@ -32,11 +33,11 @@ pub fn position<A: Allocator>(resolved: &Resolved<A>, i: usize) -> Position<'_>
 fn beginnings<A: Allocator + Copy>(
     alloc: A,
     resolved: &Resolved<A>,
-) -> Result<Vec<Option<usize>, A>, AllocError> {
-    let mut begins = vec![in alloc; None; resolved.names_len()]?;
+) -> Result<Vec<Lead, A>, AllocError> {
+    let mut begins = vec![in alloc; Lead::nowhere(); resolved.names_len()]?;
     for j in (0..resolved.sets_len()).rev() {
         if let Some(attribute) = resolved.set_attribute(j) {
-            begins[attribute] = Some(j);
+            begins[attribute] = lead_to(Some(j))?;
         }
     }
     Ok(begins)
@@ -130,11 +131,7 @@ pub fn same<A: Allocator>(
 
 /// The first place that the new policy has of the set statements of an attribute of the old one, if it
 /// has any, by a list of the first places for the new one's names.
-fn beginning(
-    numbers: &Numbers<'_>,
-    begins: &[Option<usize>],
-    attribute: Option<usize>,
-) -> Option<usize> {
+fn beginning(numbers: &Numbers<'_>, begins: &[Lead], attribute: Option<usize>) -> Option<usize> {
     let number = numbers.number(attribute?)?;
     place_at(begins, number)
 }
@@ -149,7 +146,7 @@ pub fn walk<A: Allocator + Copy>(
     numbers: &Numbers<'_>,
     old: &Resolved<A>,
     new: &Resolved<A>,
-) -> Result<Vec<Option<usize>, A>, AllocError>
+) -> Result<Vec<Lead, A>, AllocError>
     requires { AreNumbers old.now.names.items new.now.names.items numbers.now }
     ensures { IfOk result (λ places. AreRight IsSameSet (sets_in old.now)
         (sets_in new.now) (length (sets_in old.now)) places.items) }
@@ -162,7 +159,7 @@ pub fn walk<A: Allocator + Copy>(
     let mut until = 0;
     for i in 0..old.sets_len() {
         if i < until {
-            places.push(Some(next))?;
+            put(&mut places, Some(next))?;
             next += 1;
         } else {
             let current = old.set_attribute(i);
@@ -171,7 +168,7 @@ pub fn walk<A: Allocator + Copy>(
                 next = beginning(numbers, &begins, attribute).unwrap_or(next);
             }
             let found = find_from(&mut known, numbers, old, i, new, next);
-            places.push(same(numbers, old, i, new, found.ok()))?;
+            put(&mut places, same(numbers, old, i, new, found.ok()))?;
             match found {
                 Ok(j) => {
                     until = pairs_until(numbers, old, i, new, j);

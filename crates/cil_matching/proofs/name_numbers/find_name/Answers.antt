@@ -10,22 +10,18 @@ pub returns-in-Greater-clause-err : goal.returns-in-Greater-clause-err
 returns-in-Greater-clause-err g c =
     let olds = c.args.old.now.names.items in
     let news = c.args.new.now.names.items in
-    let i = c.args.i in
-    let j = c.loop-j.j in
     let many = c.names_len-j-end.ensures in
     let low = c.loop-j-test.true in
-    missed-at name_cmp name_total olds news i j (slice_index_or olds i []) (slice_index_or news j []) (sorted_from_names_rise news c.args.new.now.ordered) (slice_get-get_or olds i [] c.requires.within)
-    (slice_get-get_or news j [] (omega (arith, many, low))) (told _ _ c.name.result.now c.name-wanted.result.now c.cmp.result _ c.name.ensures c.name-wanted.ensures c.cmp.ensures c.in-Greater.is) c.loop-j.invariant
+    missed-at name_cmp name_total olds news c.args.i c.loop-j.j (slice_index_or olds c.args.i []) (slice_index_or news c.loop-j.j []) (sorted_from_names_rise news c.args.new.now.ordered) (slice_get-get_or olds c.args.i [] c.requires.within)
+    (slice_get-get_or news c.loop-j.j [] (omega (arith, many, low))) (told _ _ c.name.result.now c.name-wanted.result.now c.cmp.result _ c.name.ensures c.name-wanted.ensures c.cmp.ensures c.in-Greater.is) c.loop-j.invariant
 
 pub loop-j-preserved : goal.loop-j-preserved
 loop-j-preserved g c =
     let olds = c.args.old.now.names.items in
     let news = c.args.new.now.names.items in
-    let i = c.args.i in
-    let j = c.loop-j.j in
     let many = c.names_len-j-end.ensures in
     let low = c.loop-j-test.true in
-    before-more name_cmp name_total olds news i j (slice_index_or olds i []) (slice_index_or news j []) (slice_get-get_or olds i [] c.requires.within) (slice_get-get_or news j [] (omega (arith, many, low)))
+    before-more name_cmp name_total olds news c.args.i c.loop-j.j (slice_index_or olds c.args.i []) (slice_index_or news c.loop-j.j []) (slice_get-get_or olds c.args.i [] c.requires.within) (slice_get-get_or news c.loop-j.j [] (omega (arith, many, low)))
     (told _ _ c.name.result.now c.name-wanted.result.now c.cmp.result _ c.name.ensures c.name-wanted.ensures c.cmp.ensures c.in-Less.is) c.loop-j.invariant
 
 pub returns-clause-err : goal.returns-clause-err

@@ -4,9 +4,9 @@ use Rattle.cil_matching.specs.Compared.{AreCompared}
 use Rattle.cil_matching.specs.Paired.{AreSameUntil}
 use Rattle.cil_matching.proofs.MatchedLemmas.{places-next}
 use Rattle.cil_matching.proofs.MergedLemmas.{before-next, before-past}
-use Rattle.cil_matching.proofs.PairedLemmas.{same-room}
+use Rattle.cil_matching.proofs.PairedLemmas.{same-next, same-room}
 use Rattle.cil_matching.proofs.PlaceLemmas.{rule-missed, rule-stands, same-found}
-use Rattle.cil_matching.proofs.rule_places.rule_places.Goals.{then-i-until+in_ok-push, else-i-until+in-Ok+in_ok-push-in-Ok, else-i-until+in-Err+in_ok-push-in-Err}
+use Rattle.cil_matching.proofs.rule_places.rule_places.Goals.{then-i-until+in_ok-put, else-i-until+in-Ok+in_ok-put-in-Ok, else-i-until+in-Err+in_ok-put-in-Err}
 use Rattle.cil_matching.proofs.rule_places.rule_places.Goals as goal
 
 pub loop-i-init : goal.loop-i-init
@@ -26,27 +26,24 @@ loop-i-preserved g c =
     let news = (meaning_in new).rules in
     let i = c.loop-i.i in
     elim c.if-i-until.branch [
-      | then-i-until+in_ok-push w ↦
+      | then-i-until+in_ok-put w ↦
           let stands : AreSameAt IsSameRule olds news i c.loop-i.from = c.loop-i.invariant.same i c.loop-i.from (omega arith) w.if-i-until.true (omega arith) in
-          let grown : c.if-i-until.places.items ≡ w.push.new.self.items = λ k. (w.places-is k).items in
-          let from : c.if-i-until.from ≡ c.loop-i.from + 1 = w.from-is in
-          let until : c.if-i-until.until ≡ c.loop-i.until = w.until-is in
-          let same : AreSameUntil IsSameRule olds news (i + 1) c.if-i-until.from c.if-i-until.until =
-          λ k l low high is. c.loop-i.invariant.same k l (omega (arith, low)) (omega (arith, high, until)) (omega (arith, is, from)) in
+          let grown : c.if-i-until.places.items ≡ w.put.new.places.items = λ k. (w.places-is k).items in
+          let same = same-next IsSameRule olds news i c.loop-i.from c.loop-i.until c.if-i-until.from c.if-i-until.until w.from-is w.until-is c.loop-i.invariant.same in
           record {
             known_are = subst (λ o. IfSome o (AreCompared old new)) (sym w.known-is) c.loop-i.invariant.known_are;
             places_are =
                 places-next IsSameRule olds news i c.loop-i.places.items c.if-i-until.places.items (Some c.loop-i.from) (rule-stands olds news i c.loop-i.from new.rules_ordered c.loop-i.invariant.before stands)
-                (grown ∙ w.in_ok-push.ensures.items) c.loop-i.invariant.places_are;
+                (grown ∙ w.in_ok-put.ensures) c.loop-i.invariant.places_are;
             before =
-                subst (AreBefore rule_cmp olds news (i + 1)) (sym from)
+                subst (AreBefore rule_cmp olds news (i + 1)) (sym w.from-is)
                 (before-past rule_cmp rule_total olds news i c.loop-i.from old.rules_ordered (same-found olds news i c.loop-i.from new.rules_ordered c.loop-i.invariant.before stands));
             same = same;
             room = same-room IsSameRule olds news (i + 1) c.if-i-until.from c.if-i-until.until same;
           }
-      | else-i-until+in-Ok+in_ok-push-in-Ok w ↦
+      | else-i-until+in-Ok+in_ok-put-in-Ok w ↦
           let found : IsFoundAt rule_cmp olds news i w.in-Ok.j = w.in-Ok.ensures.ok in
-          let grown : c.if-i-until.places.items ≡ w.push-in-Ok.new.self.items = λ k. (w.places-is k).items in
+          let grown : c.if-i-until.places.items ≡ w.put-in-Ok.new.places.items = λ k. (w.places-is k).items in
           let from : c.if-i-until.from ≡ w.in-Ok.j + 1 = w.from-is in
           let until : c.if-i-until.until ≡ w.pairs_until-until.result = w.until-is in
           let same : AreSameUntil IsSameRule olds news (i + 1) c.if-i-until.from c.if-i-until.until =
@@ -54,14 +51,14 @@ loop-i-preserved g c =
           record {
             known_are = subst (λ o. IfSome o (AreCompared old new)) (sym w.known-is) w.find_rule.ensures.known;
             places_are =
-                places-next IsSameRule olds news i c.loop-i.places.items c.if-i-until.places.items w.same.result w.same.ensures (grown ∙ w.in_ok-push-in-Ok.ensures.items) c.loop-i.invariant.places_are;
+                places-next IsSameRule olds news i c.loop-i.places.items c.if-i-until.places.items w.same.result w.same.ensures (grown ∙ w.in_ok-put-in-Ok.ensures) c.loop-i.invariant.places_are;
             before = subst (AreBefore rule_cmp olds news (i + 1)) (sym from) (before-past rule_cmp rule_total olds news i w.in-Ok.j old.rules_ordered found);
             same = same;
             room = same-room IsSameRule olds news (i + 1) c.if-i-until.from c.if-i-until.until same;
           }
-      | else-i-until+in-Err+in_ok-push-in-Err w ↦
+      | else-i-until+in-Err+in_ok-put-in-Err w ↦
           let missed : IsMissedAt rule_cmp olds news i w.in-Err.j = w.in-Err.ensures.err in
-          let grown : c.if-i-until.places.items ≡ w.push-in-Err.new.self.items = λ k. (w.places-is k).items in
+          let grown : c.if-i-until.places.items ≡ w.put-in-Err.new.places.items = λ k. (w.places-is k).items in
           let until : c.if-i-until.until ≡ c.loop-i.until = w.until-is in
           let past = w.if-i-until.false in
           let same : AreSameUntil IsSameRule olds news (i + 1) c.if-i-until.from c.if-i-until.until =
@@ -69,7 +66,7 @@ loop-i-preserved g c =
           record {
             known_are = subst (λ o. IfSome o (AreCompared old new)) (sym w.known-is) w.find_rule.ensures.known;
             places_are =
-                places-next IsSameRule olds news i c.loop-i.places.items c.if-i-until.places.items None (rule-missed olds news i w.in-Err.j missed) (grown ∙ w.in_ok-push-in-Err.ensures.items)
+                places-next IsSameRule olds news i c.loop-i.places.items c.if-i-until.places.items None (rule-missed olds news i w.in-Err.j missed) (grown ∙ w.in_ok-put-in-Err.ensures)
                 c.loop-i.invariant.places_are;
             before = subst (AreBefore rule_cmp olds news (i + 1)) (sym w.from-is) (before-next rule_cmp rule_total olds news i w.in-Err.j old.rules_ordered missed.before);
             same = same;

@@ -10,5 +10,5 @@ loop-i-preserved c a low =
       | inr last ↦
           let same : c.loop-i.i ≡ a = omega (arith, low, last) in
           let (k, is) = some-from _ c.if-is_none.ensures in
-          (k, ap (slice_get c.args.places.now) (sym same) ∙ slice_get-get_or c.args.places.now c.loop-i.i _ test ∙ ap Some is)
+          (k, ap (slice_get c.args.places.now) (sym same) ∙ slice_get-get_or c.args.places.now c.loop-i.i c.index-places-i.result test ∙ ap Some (sym c.index-places-i.is ∙ sym c.place_of.ensures ∙ is))
     ]
