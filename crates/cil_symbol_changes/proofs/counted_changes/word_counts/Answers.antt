@@ -1,6 +1,6 @@
 use Rattle.cil_keyed_lines.proofs.ChangeLemmas.{word-behind}
 use Rattle.cil_symbol_changes.proofs.WordCountLemmas.{turned-all, turned-more, turned-none}
-use Rattle.cil_symbol_changes.proofs.counted_changes.place_counts.Goals as goal
+use Rattle.cil_symbol_changes.proofs.counted_changes.word_counts.Goals as goal
 
 pub loop-word-init : goal.loop-word-init
 loop-word-init g c = turned-none c.args.lines.now c.args.place c.none-counts.result c.none-counts.ensures.added c.none-counts.ensures.removed
