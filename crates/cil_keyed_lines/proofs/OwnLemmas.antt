@@ -1,5 +1,5 @@
 -- The changes of a line that a place names and named.
-use Rattle.cil_keyed_lines.proofs.Common.{◌≡◌, ◌≢◌, ◌⊎◌, ℕ, ◌+◌, ◌*◌, ◌-◌, ◌/◌, ◌%◌, ◌^◌, ◌<◌, ◌≤◌, Bool, true, false, List, length, get_or, refl, sym, ap, ◌∙◌, inl, inr, arith, cases_eq, subst, name_now}
+use Rattle.cil_keyed_lines.proofs.Common.{◌≡◌, ◌≢◌, ◌⊎◌, ℕ, ◌+◌, ◌*◌, ◌-◌, ◌/◌, ◌%◌, ◌^◌, ◌<◌, ◌≤◌, Bool, true, false, List, length, get_or, refl, sym, ap, ◌∙◌, inl, inr, arith, cases_eq, subst, hit_at, sum_by, name_now}
 use Rattle.std.proofs.lemmas.List.{get_or_default}
 use Rattle.std.specs.Int.{bit_at}
 use Rattle.std.specs.Prelude.{min}
@@ -57,21 +57,23 @@ module _ {A : Type 0} (k : Keyed) (past : Past A) (i from at : ℕ) (fits : from
       first = λ t on less. nothing t on (λ e there. inr (subst (λ (x : Change). t / 64 < x.word) (sym (get_or_default xs at e d there)) less));
     }
 
-    came : (b : ℕ) → b < 64 → bit_at here.appeared b ≡ min 1 (now_at k i (64 * here.word + b)) - min 1 (before_at k i (64 * here.word + b))
-    came b small =
+    -- a bit of it is that of its target among all changes
+    told : (mask : Change → ℕ) (b : ℕ) → b < 64 → bit_at (mask here) b ≡ sum_by (λ c. hit_at c.line c.word (mask c) line (64 * here.word + b)) xs
+    told mask b small =
         let t = 64 * here.word + b in
         let word : t / 64 ≡ here.word = omega (arith, small) in
         let bit : t % 64 ≡ b = omega (arith, small) in
-        ap (bit_at here.appeared) (sym bit) ∙ sym (bits-here (λ c. c.appeared) xs at d line t asked.turns.order within of_line (sym word))
-        ∙ asked.turns.appeared line t ∙ ap (λ l. min 1 (recorded.count_now k.lines line t) - min 1 (recorded.count_before k.lines l t)) (sym own.own)
+        ap (bit_at (mask here)) (sym bit) ∙ sym (bits-here mask xs at d line t asked.turns.order within of_line (sym word))
+
+    came : (b : ℕ) → b < 64 → bit_at here.appeared b ≡ min 1 (now_at k i (64 * here.word + b)) - min 1 (before_at k i (64 * here.word + b))
+    came b small =
+        told (λ c. c.appeared) b small ∙ asked.turns.appeared line (64 * here.word + b)
+        ∙ ap (λ l. min 1 (recorded.count_now k.lines line (64 * here.word + b)) - min 1 (recorded.count_before k.lines l (64 * here.word + b))) (sym own.own)
 
     went : (b : ℕ) → b < 64 → bit_at here.gone b ≡ min 1 (before_at k i (64 * here.word + b)) - min 1 (now_at k i (64 * here.word + b))
     went b small =
-        let t = 64 * here.word + b in
-        let word : t / 64 ≡ here.word = omega (arith, small) in
-        let bit : t % 64 ≡ b = omega (arith, small) in
-        ap (bit_at here.gone) (sym bit) ∙ sym (bits-here (λ c. c.gone) xs at d line t asked.turns.order within of_line (sym word))
-        ∙ asked.turns.gone line t ∙ ap (λ l. min 1 (recorded.count_before k.lines l t) - min 1 (recorded.count_now k.lines line t)) (sym own.own)
+        told (λ c. c.gone) b small ∙ asked.turns.gone line (64 * here.word + b)
+        ∙ ap (λ l. min 1 (recorded.count_before k.lines l (64 * here.word + b)) - min 1 (recorded.count_now k.lines line (64 * here.word + b))) (sym own.own)
 
     -- those before the next place stand before the word behind it, and the others don't
     module _ (more : here.word + 1 < 2 ^ 64) where
