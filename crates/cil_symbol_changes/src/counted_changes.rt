@@ -74,27 +74,8 @@ impl ChangeCounts {
     }
 }
 
-/// How many targets of a place appeared and how many went, word by word.
-fn word_counts<A: Allocator>(
-    lines: &KeyedLines<A>,
-    past: &Past<A>,
-    place: usize,
-) -> Result<ChangeCounts, AllocError>
-    requires { IsPast lines.now past.now }
-    ensures { IfOk result (AreCounted (came_at lines.now place) (went_at lines.now place)) }
-{
-    let mut counts = ChangeCounts::none();
-    let mut from = 0;
-    while let Some(word) = lines.next_turned_word(past, place, from) {
-        let was = lines.present_before(past, place, word);
-        let is = lines.present(place, word);
-        counts = counts.plus(ChangeCounts::of_word(was, is));
-        from = word.checked_add(1).ok_or(AllocError)?;
-    }
-    Ok(counts)
-}
-
-/// The same of a place that names the line that it named: the changes of this are gone along from the first.
+/// How many targets appeared and how many went of a place that names the line that it named: the changes of this are gone along from the
+/// first.
 fn own_counts<A: Allocator>(
     lines: &KeyedLines<A>,
     past: &Past<A>,
@@ -127,10 +108,18 @@ fn place_counts<A: Allocator>(
     requires { IsPast lines.now past.now }
     ensures { IfOk result (AreCounted (came_at lines.now place) (went_at lines.now place)) }
 {
-    match lines.first_turn(past, place) {
-        Some(first) => own_counts(lines, past, place, first),
-        None => word_counts(lines, past, place),
+    if let Some(first) = lines.first_turn(past, place) {
+        return own_counts(lines, past, place, first);
     }
+    let mut counts = ChangeCounts::none();
+    let mut from = 0;
+    while let Some(word) = lines.next_turned_word(past, place, from) {
+        let was = lines.present_before(past, place, word);
+        let is = lines.present(place, word);
+        counts = counts.plus(ChangeCounts::of_word(was, is));
+        from = word.checked_add(1).ok_or(AllocError)?;
+    }
+    Ok(counts)
 }
 
 /// How many accesses of all places appeared and how many went, or the greatest `u128` where they are more. Places beside one another

@@ -1,6 +1,6 @@
 use Rattle.cil_symbol_changes.proofs.Common.{◌-◌, ◌^◌}
 use Rattle.cil_symbol_changes.proofs.WordCountLemmas.{AreBefore}
-use Rattle.cil_symbol_changes.proofs.counted_changes.word_counts.Given as goal
+use Rattle.cil_symbol_changes.proofs.counted_changes.place_counts.Given as goal
 
 -- the targets of the words so far are counted
 abbrev pub invariant-loop-word : goal.invariant-loop-word
