@@ -11,4 +11,5 @@ pub mod EndedLemmas
 pub mod SharedLemmas
 pub mod PackLemmas
 pub mod PastLemmas
+pub mod OwnLemmas
 pub mod ChangeLemmas

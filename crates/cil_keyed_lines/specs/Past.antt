@@ -1,5 +1,5 @@
 -- What stood before the steps.
-use Rattle.std.specs.Prelude.{◌≡◌, ◌≢◌, ◌+◌, ◌-◌, ◌*◌, ◌/◌, ◌^◌, ◌<◌, ◌≤◌, ◌==◌, ◌&&◌, ◌||◌, ℕ, Bool, false, true, List, Option, MatchOption, ⊤, nat_lt, min, slice_index, slice_index_or}
+use Rattle.std.specs.Prelude.{◌≡◌, ◌≢◌, ◌+◌, ◌-◌, ◌*◌, ◌/◌, ◌^◌, ◌<◌, ◌≤◌, ◌==◌, ◌&&◌, ◌||◌, ℕ, Bool, false, true, List, Option, MatchOption, ⊤, length, nat_lt, min, slice_index, slice_index_or}
 use Rattle.std.specs.List.{All}
 use Rattle.std.specs.List.Sorted.{IsPartitionPoint}
 use Rattle.std.specs.Int.{bit_at}
@@ -8,7 +8,7 @@ use Rattle.cil_recorded.specs.Recorded as recorded
 use Rattle.cil_recorded.specs.Recorded.{State}
 use Rattle.cil_recorded.specs.declared.recorded_lines.changes.Change.{Change}
 use Rattle.cil_keyed_lines.specs.Keyed.{Keyed, before_at, now_at}
-use Rattle.cil_keyed_lines.specs.Names.{name_before}
+use Rattle.cil_keyed_lines.specs.Names.{name_before, name_now}
 use Rattle.cil_keyed_lines.specs.declared.keyed_lines.past.Past.{Past}
 
 -- whether the counter of a target and a place is above 0 as it was
@@ -78,3 +78,17 @@ pub record IsPast {A : Type 0} (k : Keyed) (past : Past A) : Type 0 where
   pub turns : AreTurns past.turned.items k.lines
   pub marked : AreMarked past.has_turned.items past.turned.items
   pub named : (i : ℕ) → slice_index past.named.items i ≡ name_before k.names i
+
+-- a place names the line that it named, and the changes of it from a word on begin at one of the list
+pub record AreOwnFrom {A : Type 0} (k : Keyed) (past : Past A) (i from at : ℕ) : Type 0 where
+  pub own : name_before k.names i ≡ name_now k.names i
+  pub split : IsSplit past.turned.items (name_now k.names i) from at
+
+-- a change there is of the next word of the place in which a target turned, and tells which did
+pub record IsOwnTurn {A : Type 0} (k : Keyed) (past : Past A) (i from at : ℕ) (c : Change) : Type 0 where
+  pub next : IsNextTurned k i from c.word
+  pub appeared : (b : ℕ) → b < 64 → bit_at c.appeared b ≡ min 1 (now_at k i (64 * c.word + b)) - min 1 (before_at k i (64 * c.word + b))
+  pub gone : (b : ℕ) → b < 64 → bit_at c.gone b ≡ min 1 (before_at k i (64 * c.word + b)) - min 1 (now_at k i (64 * c.word + b))
+  pub within : at < length past.turned.items
+  pub room : at + 1 < 2 ^ 64
+  pub behind : c.word + 1 < 2 ^ 64 → AreOwnFrom k past i (c.word + 1) (at + 1)

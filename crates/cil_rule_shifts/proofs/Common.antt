@@ -6,7 +6,7 @@ pub use Rattle.cil_keyed_lines.specs.declared.moved.Moved.{Moved}
 pub use Rattle.cil_keyed_lines.specs.declared.symbol_key.SymbolKey.{SymbolKey}
 pub use Rattle.cil_lines.proofs.StepLemmas.{hit-here, hit-none, hit-there}
 pub use Rattle.cil_lines.specs.Line.{Counters, IsNextPresent, IsPresence, NonePresent, count_of, hit}
-pub use Rattle.cil_rule_shifts.specs.Groups.{AreKeysOf, AreMovesOf, AreSources, AreTargetsOf, gives_part, gives_to, has_either, in_part, is_among, moves_part, moves_to}
+pub use Rattle.cil_rule_shifts.specs.Groups.{AreKeysOf, AreMovesBelow, AreMovesOf, AreSources, AreTargetsOf, gives_part, gives_to, has_either, in_part, is_among, moves_part, moves_to}
 pub use Rattle.cil_rule_shifts.specs.Moves.{differs, moves_where}
 pub use Rattle.cil_rule_shifts.specs.Permits.{AreInOrder, has_permit, is_permit, permit_cmp}
 pub use Rattle.cil_rule_shifts.specs.Reach.{AreShort, IsMask, IsNext, IsNextWord, NoneFrom, NoneFromWord, gives, grants, has_head, has_source, head_of, is_line, one_if, reaches}

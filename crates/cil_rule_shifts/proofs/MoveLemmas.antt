@@ -1,5 +1,5 @@
 -- What moves word by word where the targets of a source change.
-use Rattle.cil_rule_shifts.proofs.Common.{◌≡◌, ◌⊎◌, ℕ, ◌+◌, ◌*◌, ◌/◌, ◌%◌, ◌^◌, ◌<◌, ◌≤◌, ◌==◌, ◌&&◌, ◌||◌, ◌++◌, ◌-◌, Bool, true, false, not, nat_lt, List, [], ◌∷◌, length, min, w64, bit_and, bit_not, count_ones, refl, sym, ap, ◌∙◌, subst, inl, inr, arith, true≢false, bit_at, cases_eq, cases_lt, eq-eqb, le-ltb, ne_eqb, eqb-true, bit_at_above, bit_at_and, bit_at_not, hit, hit-here, hit-there, differs, one_if, takes, AreMoves, AreMovesOf, AreShort, Moved, NoneFromWord, Targets, came, move_at, ones_of, went, RisesBy, rises-added, rises-bits, rises-both, rises-map, rises-none, rises-same, same-from_counts}
+use Rattle.cil_rule_shifts.proofs.Common.{◌≡◌, ◌⊎◌, ℕ, ◌+◌, ◌*◌, ◌/◌, ◌%◌, ◌^◌, ◌<◌, ◌≤◌, ◌==◌, ◌&&◌, ◌||◌, ◌++◌, ◌-◌, Bool, true, false, not, nat_lt, List, [], ◌∷◌, length, min, w64, bit_and, bit_not, count_ones, refl, sym, ap, ◌∙◌, subst, inl, inr, arith, true≢false, bit_at, cases_eq, cases_lt, eq-eqb, le-ltb, ne_eqb, eqb-true, bit_at_above, bit_at_and, bit_at_not, hit, hit-here, hit-there, differs, one_if, takes, AreMovesBelow, AreMovesOf, AreShort, Moved, NoneFromWord, Targets, move_at, ones_of, RisesBy, rises-added, rises-bits, rises-both, rises-map, rises-none, rises-same, same-from_counts}
 use Rattle.std.proofs.lemmas.Bool.{and_parts}
 use Rattle.std.proofs.lemmas.List.{get_or_append_left, get_or_push, length-append}
 use Rattle.std.proofs.lemmas.List.Sums.{sum_by_push}
@@ -72,15 +72,7 @@ module _ (was is : ℕ → Bool) where
   abbrev turns : ℕ → Bool
   turns t = differs (was t) (is t)
 
-  -- what moves in the words below one
-  pub record AreMovesBelow (from : ℕ) (moved : List Moved) : Type 0 where
-    pub words : AreMoves moved
-    pub below : (i : ℕ) → i < length moved → (move_at moved i).word < from
-    pub gone : (t : ℕ) → went moved t ≡ one_if (nat_lt (t / 64) from && goes t)
-    pub come : (t : ℕ) → came moved t ≡ one_if (nat_lt (t / 64) from && comes t)
-    pub ones : RisesBy (λ t. nat_lt (t / 64) from && turns t) 0 (ones_of moved)
-
-  pub moves-new : AreMovesBelow 0 []
+  pub moves-new : AreMovesBelow was is 0 []
   moves-new = record {
     words = record { short = λ i within. absurd (omega (arith, within)); rising = λ i j less within. absurd (omega (arith, within)) };
     below = λ i within. absurd (omega (arith, within));
@@ -100,7 +92,7 @@ module _ (was is : ℕ → Bool) where
   same-still false b same = sym same
 
   -- words behind in which nothing moves
-  pub moves-skip : (from to : ℕ) (moved : List Moved) → AreMovesBelow from moved → from ≤ to → ((t : ℕ) → from ≤ t / 64 → t / 64 < to → was t ≡ is t) → AreMovesBelow to moved
+  pub moves-skip : (from to : ℕ) (moved : List Moved) → AreMovesBelow was is from moved → from ≤ to → ((t : ℕ) → from ≤ t / 64 → t / 64 < to → was t ≡ is t) → AreMovesBelow was is to moved
   moves-skip from to moved before far still = record {
     words = before.words;
     below = λ i within. let less = before.below i within in omega (arith, less, far);
@@ -114,7 +106,7 @@ module _ (was is : ℕ → Bool) where
   pub neither-moves : (t : ℕ) → (was t || is t) ≡ false → was t ≡ is t
   neither-moves t none = no-first (was t) (is t) none ∙ sym (no-second (was t) (is t) none)
 
-  module _ (word : ℕ) (moved : List Moved) (before : AreMovesBelow word moved) where
+  module _ (word : ℕ) (moved : List Moved) (before : AreMovesBelow was is word moved) where
     nothing : (t : ℕ) → word ≤ t / 64 → t / 64 < word → was t ≡ is t
     nothing t low high = absurd (omega (arith, low, high))
 
@@ -127,7 +119,7 @@ module _ (was is : ℕ → Bool) where
       pushed = moved ++ m ∷ []
 
       -- one word more
-      pub moves-more : AreMovesBelow (word + 1) pushed
+      pub moves-more : AreMovesBelow was is (word + 1) pushed
       moves-more = record {
         words = record { short = λ i within. short i (at i within); rising = λ i j less within. rising i j less (at i (omega (arith, less, within))) (at j within) };
         below = λ i within. (let less = front i (at i within) in omega (arith, less));
@@ -182,8 +174,12 @@ module _ (was is : ℕ → Bool) where
               (count_ones gone + count_ones come) (word-count word gone goes gone_fits gone_hits)
               (rises-added (λ t. (t / 64 == word) && comes t) (count_ones gone) (count_ones come) (count_ones gone + count_ones come) (word-count word come comes come_fits come_hits) (omega arith) (omega arith))
 
+  -- one word more, and those behind it that have no target
+  pub moves-next : (word to : ℕ) (moved : List Moved) → AreMovesBelow was is (word + 1) moved → word < to → ((t : ℕ) → word < t / 64 → t / 64 < to → (was t || is t) ≡ false) → AreMovesBelow was is to moved
+  moves-next word to moved before far none = moves-skip (word + 1) to moved before (omega (arith, far)) (λ t past high. neither-moves t (none t (omega (arith, past)) high))
+
   -- no word follows
-  pub moves-done : (from : ℕ) (moved : List Moved) → AreMovesBelow from moved → NoneFromWord (λ t. was t || is t) from → AreMovesOf was is moved
+  pub moves-done : (from : ℕ) (moved : List Moved) → AreMovesBelow was is from moved → NoneFromWord (λ t. was t || is t) from → AreMovesOf was is moved
   moves-done from moved before none = record {
     words = before.words;
     gone = λ t. before.gone t ∙ source-all from (t / 64) (goes t) (λ past. same-none (was t) (is t) (still t past));

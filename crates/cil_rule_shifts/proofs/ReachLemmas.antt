@@ -1,5 +1,6 @@
 -- What rules reach, word by word and source by source.
-use Rattle.cil_rule_shifts.proofs.Common.{◌≡◌, ◌≢◌, ℕ, ◌+◌, ◌-◌, ◌*◌, ◌/◌, ◌%◌, ◌^◌, ◌<◌, ◌≤◌, ◌==◌, ◌&&◌, ◌||◌, Bool, true, false, nat_lt, Option, None, Some, MatchOption, w64, refl, sym, ap, ◌∙◌, subst, inl, inr, arith, true≢false, min, div-add-mod', div-le_self, mod-lt, pow_pos, bit_at, trailing_zeros, cases_eq, cases_lt, eq-eqb, ne_eqb, lt-ltb, le-ltb, leb-true, leb-false, bit_at-pow_same, bit_at-pow_other, bit_at_cat_high, bit_at-trailing_zeros, bit_at_above, bit_at-zero, Counters, count_of, hit, NonePresent, IsNextPresent, hit-here, hit-there, hit-none, one_if, has_type, is_present, takes, IsMask, IsNext, NoneFrom, IsNextWord, NoneFromWord, Targets, Types, nat_eq}
+use Rattle.cil_rule_shifts.proofs.Common.{◌≡◌, ◌≢◌, ℕ, ◌+◌, ◌-◌, ◌*◌, ◌/◌, ◌%◌, ◌^◌, ◌<◌, ◌≤◌, ◌==◌, ◌&&◌, ◌||◌, Bool, true, false, nat_lt, Option, None, Some, MatchOption, w64, refl, sym, ap, ◌∙◌, subst, inl, inr, arith, true≢false, min, div-add-mod', div-le_self, mod-lt, pow_pos, bit_at, trailing_zeros, cases_eq, cases_lt, eq-eqb, ne_eqb, lt-ltb, le-ltb, leb-true, leb-false, bit_at-pow_same, bit_at-pow_other, bit_at_cat_high, bit_at-trailing_zeros, bit_at_above, bit_at-zero, Counters, count_of, hit, NonePresent, IsNextPresent, IsPresence, hit-here, hit-there, hit-none, one_if, has_type, is_present, takes, IsMask, IsNext, NoneFrom, IsNextWord, NoneFromWord, Targets, Types, nat_eq}
+use Rattle.cil_rule_shifts.specs.Groups.{HasWord}
 use Rattle.cil_rule_shifts.specs.Reach.{AreNoneBefore, IsMaybeWord}
 use Rattle.std.specs.Bool.{then_some}
 use Rattle.std.proofs.Math.Dec.{leb}
@@ -68,6 +69,10 @@ word-bits f word mask t bits =
           ∙ sym (ap (λ b. one_if (b && f t)) (eq-eqb (t / 64) word same))
       | inr other ↦ hit-there word mask t other ∙ sym (ap (λ b. one_if (b && f t)) (ne_eqb (t / 64) word other))
     ]
+
+-- the mask of a word of a line
+pub present-hits : (line : Counters) (word mask : ℕ) → IsPresence (count_of line) word mask → HasWord (is_present line) word mask
+present-hits line word mask bits t = word-bits (is_present line) word mask t (λ b within. bits b within ∙ present-one line (64 * word + b))
 
 -- the next word of those that are present
 pub present-word : (line : Counters) (from : ℕ) (result : Option ℕ) → MatchOption result (NonePresent (count_of line) from) (IsNextPresent (count_of line) from)

@@ -1,8 +1,9 @@
 -- Sources whose targets change, with the keys and the words of theirs that move.
-use Rattle.std.specs.Prelude.{◌≡◌, ◌&&◌, ◌||◌, ℕ, Bool, IfOk, List, OnOk, Result, false, not, true}
+use Rattle.std.specs.Prelude.{◌≡◌, ◌<◌, ◌==◌, ◌/◌, ◌&&◌, ◌||◌, ℕ, Bool, IfOk, List, OnOk, Result, false, length, nat_lt, not, true}
 use Rattle.std.specs.List.{IsDistinct}
+use Rattle.cil_lines.specs.Line.{hit}
 use Rattle.cil_keyed_lines.specs.Keyed.{Keyed, has_key, is_key, of_keys, steps_in, RiseAtMost, StaysBefore}
-use Rattle.cil_keyed_lines.specs.Moves.{came, ones_of, went, AreMoves}
+use Rattle.cil_keyed_lines.specs.Moves.{came, move_at, ones_of, went, AreMoves}
 use Rattle.cil_keyed_lines.specs.declared.moved.Moved.{Moved}
 use Rattle.cil_keyed_lines.specs.declared.symbol_key.SymbolKey.{SymbolKey}
 use Rattle.cil_sums.specs.Rises.{RisesBy}
@@ -101,6 +102,18 @@ moves_part sources head p = is_among sources p.0.source && moves_where sources.w
 pub record AreKeysOf (among : ℕ → Bool) (head : RuleHead) (keys : List SymbolKey) : Type 0 where
   pub distinct : IsDistinct is_key keys
   pub are : (k : SymbolKey) → has_key keys k ≡ (among k.source && has_head head k)
+
+-- the mask of a word has those of its targets at which a test holds
+abbrev pub HasWord : (ℕ → Bool) → ℕ → ℕ → Type 0
+HasWord test word mask = (t : ℕ) → hit word mask t ≡ one_if ((t / 64 == word) && test t)
+
+-- what goes and comes in the words below one
+pub record AreMovesBelow (was is : ℕ → Bool) (from : ℕ) (moved : List Moved) : Type 0 where
+  pub words : AreMoves moved
+  pub below : (i : ℕ) → i < length moved → (move_at moved i).word < from
+  pub gone : (t : ℕ) → went moved t ≡ one_if (nat_lt (t / 64) from && (was t && not (is t)))
+  pub come : (t : ℕ) → came moved t ≡ one_if (nat_lt (t / 64) from && (is t && not (was t)))
+  pub ones : RisesBy (λ t. nat_lt (t / 64) from && differs (was t) (is t)) 0 (ones_of moved)
 
 -- what goes and comes, and how much, from targets that were to those that are
 pub record AreMovesOf (was is : ℕ → Bool) (moved : List Moved) : Type 0 where

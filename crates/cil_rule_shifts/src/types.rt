@@ -1,7 +1,7 @@
 //! Some types.
 
 ghost use Rattle.std.specs.Prelude.{◌≡◌, ◌==◌, ℕ, false, nat_eq, IfSome};
-ghost use Rattle.cil_rule_shifts.specs.Reach.{has_type, IsFirstWord, IsMask};
+ghost use Rattle.cil_rule_shifts.specs.Reach.{has_type, is_present, IsFirstWord, IsMask};
 
 use cil_lines::Line;
 use std::alloc::{Allocator, Global};
@@ -55,6 +55,16 @@ impl<A: Allocator> Types<A> {
         match self {
             Types::One(one) => Some(*one),
             Types::Many(_) => None,
+        }
+    }
+
+    /// The line of the types, where it is not one alone.
+    pub fn line(&self) -> Option<&Line<A>>
+        ensures { IfSome result (λ line. (t : ℕ) → has_type self.now t ≡ is_present line.now t) }
+    {
+        match self {
+            Types::One(_) => None,
+            Types::Many(line) => Some(line),
         }
     }
 

@@ -1,9 +1,10 @@
 //! The words of the targets that a source had or has.
 
 ghost use Rattle.std.specs.Prelude.{◌≡◌, ◌&&◌, ◌||◌, ◌+◌, ◌/◌, ◌<◌, ◌≤◌, ◌^◌, ℕ, false, Bool};
-ghost use Rattle.cil_rule_shifts.specs.Reach.{takes, IsFirstWord, IsMaybeWord};
+ghost use Rattle.cil_rule_shifts.specs.Reach.{is_present, takes, IsFirstWord, IsMaybeWord};
 
 use crate::targets::Targets;
+use cil_lines::Line;
 use std::alloc::Allocator;
 
 /// A word of targets is below this number: so many words have all.
@@ -64,6 +65,35 @@ pub fn word_behind<A: Allocator>(
         return word + 1;
     }
     match next_word(was, is, source, word + 1) {
+        Some(next) => next,
+        None => WORDS,
+    }
+}
+
+/// The first word from one on in which either of two lines has a type.
+fn next_line_word<A: Allocator>(was: &Line<A>, is: &Line<A>, from: usize) -> Option<usize>
+    ensures { IsFirstWord (λ t. is_present was.now t || is_present is.now t) from result }
+{
+    earlier(was.next_present_word(from), is.next_present_word(from))
+}
+
+/// The word to look at behind one of two lines, as `word_behind`.
+#[inline(always)]
+pub fn line_word_behind<A: Allocator>(
+    was: &Line<A>,
+    is: &Line<A>,
+    word: usize,
+    has_types: bool,
+) -> usize
+    requires { word < 2 ^ 58 }
+    ensures behind { word < result }
+    ensures between { (t : ℕ) → word < t / 64 → t / 64 < result
+        → (is_present was.now t || is_present is.now t) ≡ false }
+{
+    if has_types {
+        return word + 1;
+    }
+    match next_line_word(was, is, word + 1) {
         Some(next) => next,
         None => WORDS,
     }

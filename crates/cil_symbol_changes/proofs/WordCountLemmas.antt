@@ -4,9 +4,13 @@ use Rattle.std.specs.Int.{bit_not}
 use Rattle.std.proofs.Common.{w64}
 use Rattle.std.specs.Int.Bits.{bit_and, and_lt}
 use Rattle.std.proofs.lemmas.Nat.Bits.{bit_at_and, bit_at_not}
-use Rattle.cil_keyed_lines.specs.Past.{AreAlike, IsNextTurned, NoneTurned}
+use Rattle.cil_keyed_lines.specs.Past.{AreAlike, IsNextTurned, IsOwnTurn, NoneTurned}
+use Rattle.cil_keyed_lines.specs.declared.keyed_lines.past.Past.{Past}
+use Rattle.cil_recorded.specs.declared.recorded_lines.changes.Change.{Change}
 use Rattle.cil_symbol_changes.specs.declared.counted_changes.ChangeCounts.{ChangeCounts}
 use Rattle.cil_symbol_changes.proofs.CountLemmas.{both-hold}
+use Rattle.cil_symbol_changes.proofs.Common.{None, Option, Some, none-some, same_Some}
+use Rattle.std.specs.Option.{SomeIff}
 use Rattle.std.proofs.Math.Nat.{mul-suc, mul-zero, zero-mul}
 use Rattle.std.proofs.Common.{zero, suc}
 
@@ -119,6 +123,11 @@ bits-risen was is was_fits is_fits =
           | inr high ↦ omega (arith, bit_at_and is (bit_not w64 was) b, bit_at_above is 64 b is_fits high)
         ])
 
+-- the next of a word is a word, where the sum is told
+pub word-fits : (told : Option ℕ) (word behind : ℕ) → told ≡ Some behind → SomeIff told (word + 1 < 2 ^ 64) (word + 1) → (behind ≡ word + 1) × (word + 1 < 2 ^ 64)
+word-fits None word behind is sum = absurd (none-some behind is)
+word-fits (Some n) word behind is sum = (sym (same_Some n behind is) ∙ sum.1, sum.0)
+
 -- ---- the words of a place
 
 module _ (lines : Keyed) (place : ℕ) where
@@ -158,6 +167,24 @@ module _ (lines : Keyed) (place : ℕ) where
           (λ b high. same-risen (bit_at is b) (bit_at was b) (omega (arith, above b high))) from behind next.from_on
           (λ t past low. same-risen (now_at lines place t) (before_at lines place t) (sym (next.first t past low))) one_more 0 old.removed more.removed new.removed removed of_word.removed are.removed;
     }
+
+  -- of a word by a change of it
+  abbrev pub AreOfChange : Change → ChangeCounts → Type 0
+  AreOfChange c = AreCounted (λ b. bit_at c.appeared b == 1) (λ b. bit_at c.gone b == 1)
+
+  pub own-more : {A : Type 0} (past : Past A) (from at behind : ℕ) (c : Change) → c.appeared < 2 ^ 64 → c.gone < 2 ^ 64 → IsOwnTurn lines past place from at c → behind ≡ c.word + 1
+      → (old more new : ChangeCounts) → new.added ≡ min (old.added + more.added) (2 ^ 128 - 1) → new.removed ≡ min (old.removed + more.removed) (2 ^ 128 - 1)
+      → AreOfChange c more → AreBefore from old → AreBefore behind new
+  own-more past from at behind c came_fits gone_fits turn one_more old more new added removed of_change are = record {
+    added = word-more (came_at lines place) c.word (λ b. bit_at c.appeared b == 1)
+        (λ b low. bit-risen (bit_at c.appeared b) (before_at lines place (64 * c.word + b)) (now_at lines place (64 * c.word + b)) (turn.appeared b low))
+        (λ b high. ap (λ n. n == 1) (bit_at_above c.appeared 64 b came_fits high)) from behind turn.next.from_on
+        (λ t past low. same-risen (before_at lines place t) (now_at lines place t) (turn.next.first t past low)) one_more 0 old.added more.added new.added added of_change.added are.added;
+    removed = word-more (went_at lines place) c.word (λ b. bit_at c.gone b == 1)
+        (λ b low. bit-risen (bit_at c.gone b) (now_at lines place (64 * c.word + b)) (before_at lines place (64 * c.word + b)) (turn.gone b low))
+        (λ b high. ap (λ n. n == 1) (bit_at_above c.gone 64 b gone_fits high)) from behind turn.next.from_on
+        (λ t past low. same-risen (now_at lines place t) (before_at lines place t) (sym (turn.next.first t past low))) one_more 0 old.removed more.removed new.removed removed of_change.removed are.removed;
+  }
 
   pub turned-all : (from : ℕ) (counts : ChangeCounts) → NoneTurned lines place from → AreBefore from counts → AreCounted (came_at lines place) (went_at lines place) counts
   turned-all from counts none are = record {

@@ -1,8 +1,8 @@
 //! How many accesses appeared and how many went in lines of their counters.
 
-ghost use Rattle.std.specs.Prelude.{◌≡◌, ◌+◌, ◌-◌, ◌*◌, ◌^◌, min, IfOk};
+ghost use Rattle.std.specs.Prelude.{◌≡◌, ◌+◌, ◌-◌, ◌*◌, ◌^◌, ◌==◌, ◌<◌, min, IfOk};
 ghost use Rattle.std.specs.Int.{bit_at};
-ghost use Rattle.cil_keyed_lines.specs.Past.{IsPast};
+ghost use Rattle.cil_keyed_lines.specs.Past.{AreOwnFrom, IsPast};
 ghost use Rattle.cil_symbol_changes.specs.Common.{came_at, count_before, count_now, has_come, has_risen, went_at, AreCounted, AreSoMany};
 
 use cil_keyed_lines::{KeyedLines, Past};
@@ -38,6 +38,18 @@ impl ChangeCounts {
         }
     }
 
+    /// How many targets of a word appeared and how many went, by those that did.
+    fn of_change(appeared: u64, gone: u64) -> Self
+        ensures counted { AreCounted (λ b. bit_at appeared b == 1) (λ b. bit_at gone b == 1) result }
+        ensures appeared { appeared < 2 ^ 64 }
+        ensures gone { gone < 2 ^ 64 }
+    {
+        ChangeCounts {
+            added: u128::from(appeared.count_ones()),
+            removed: u128::from(gone.count_ones()),
+        }
+    }
+
     /// So many times the numbers, or the greatest `u128` where one is greater.
     fn times(self, count: usize) -> Self
         ensures added { result.added ≡ min (self.added * count) (2 ^ 128 - 1) }
@@ -62,6 +74,29 @@ impl ChangeCounts {
     }
 }
 
+/// How many targets appeared and how many went of a place that names the line that it named: the changes of this are gone along from the
+/// first.
+fn own_counts<A: Allocator>(
+    lines: &KeyedLines<A>,
+    past: &Past<A>,
+    place: usize,
+    first: usize,
+) -> Result<ChangeCounts, AllocError>
+    requires past { IsPast lines.now past.now }
+    requires first { AreOwnFrom lines.now past.now place 0 first }
+    ensures { IfOk result (AreCounted (came_at lines.now place) (went_at lines.now place)) }
+{
+    let mut counts = ChangeCounts::none();
+    let mut from = 0;
+    let mut at = first;
+    while let Some(change) = lines.own_turn(past, place, at) {
+        counts = counts.plus(ChangeCounts::of_change(change.appeared, change.gone));
+        from = change.word.checked_add(1).ok_or(AllocError)?;
+        at += 1;
+    }
+    Ok(counts)
+}
+
 /// How many targets of a place appeared and how many went since the last settling. The greatest `usize` as a word, which no line has,
 /// would be answered as out of memory.
 #[inline(never)]
@@ -73,6 +108,9 @@ fn place_counts<A: Allocator>(
     requires { IsPast lines.now past.now }
     ensures { IfOk result (AreCounted (came_at lines.now place) (went_at lines.now place)) }
 {
+    if let Some(first) = lines.first_turn(past, place) {
+        return own_counts(lines, past, place, first);
+    }
     let mut counts = ChangeCounts::none();
     let mut from = 0;
     while let Some(word) = lines.next_turned_word(past, place, from) {

@@ -1,12 +1,12 @@
 //! What stood before the steps.
 
-ghost use Rattle.std.specs.Prelude.{◌≡◌, ◌≢◌, ◌+◌, ◌-◌, ◌/◌, ◌^◌, ◌<◌, ◌≤◌, ◌==◌, ℕ, false, true, length, min, nat_lt, slice_index, slice_index_or, if◌then◌else◌, IfOk, IsTrue, MatchOption, OnErr, OnOk};
+ghost use Rattle.std.specs.Prelude.{◌≡◌, ◌≢◌, ◌+◌, ◌-◌, ◌/◌, ◌^◌, ◌<◌, ◌≤◌, ◌==◌, ℕ, ⊤, false, true, length, min, nat_lt, slice_index, slice_index_or, if◌then◌else◌, IfOk, IsTrue, MatchOption, OnErr, OnOk};
 ghost use Rattle.std.specs.List.{All};
 ghost use Rattle.cil_lines.specs.Line.{IsPresence};
 ghost use Rattle.cil_recorded.specs.Differences.{appeared_at, change_key, gone_at, key_of, Ascends};
 ghost use Rattle.cil_recorded.specs.Recorded as recorded;
 ghost use Rattle.cil_keyed_lines.specs.Keyed.{before_at, now_at};
-ghost use Rattle.cil_keyed_lines.specs.Past.{is_before, turns_at, AreAlike, AreBits, AreMarked, AreTurns, IsBelow, IsFrom, IsNextTurn, IsNextTurned, IsPast, IsSplit, NoTurn, NoneTurned};
+ghost use Rattle.cil_keyed_lines.specs.Past.{is_before, turns_at, AreAlike, AreBits, AreMarked, AreOwnFrom, AreTurns, IsBelow, IsFrom, IsNextTurn, IsNextTurned, IsOwnTurn, IsPast, IsSplit, NoTurn, NoneTurned};
 
 use crate::keyed_lines::KeyedLines;
 use cil_recorded::{Change, RecordedLines};
@@ -243,5 +243,32 @@ impl<A: Allocator> KeyedLines<A> {
         let had = self.lines.next_present_word(was, from);
         let has = self.lines.next_present_word(is, from);
         earlier(turn, earlier(had, has))
+    }
+
+    /// Where the changes of the line of a place begin, if the place named that line before the steps too.
+    pub fn first_turn(&self, past: &Past<A>, place: usize) -> Option<usize>
+        requires { IsPast self.now past.now }
+        ensures { MatchOption result ⊤ (AreOwnFrom self.now past.now place 0) }
+    {
+        let line = self.line_of(place);
+        if line != past.line(place) {
+            return None;
+        }
+        Some(first(&past.turned, line, 0))
+    }
+
+    /// The change that stands so far behind the first, if it is one of the line of a place.
+    pub fn own_turn(&self, past: &Past<A>, place: usize, at: usize) -> Option<Change>
+        requires { IsPast self.now past.now }
+        ensures { (from : ℕ) → from < 2 ^ 64 → AreOwnFrom self.now past.now place from at
+            → MatchOption result (NoneTurned self.now place from)
+            (IsOwnTurn self.now past.now place from at) }
+    {
+        let line = self.line_of(place);
+        if at < past.turned.len() && past.turned[at].line == line {
+            Some(past.turned[at])
+        } else {
+            None
+        }
     }
 }

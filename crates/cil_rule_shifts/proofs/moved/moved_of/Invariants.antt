@@ -1,6 +1,6 @@
 use Rattle.std.proofs.Common.{◌-◌, ◌^◌}
+use Rattle.cil_rule_shifts.specs.Groups.{AreMovesBelow}
 use Rattle.cil_rule_shifts.specs.Reach.{takes}
-use Rattle.cil_rule_shifts.proofs.MoveLemmas.{AreMovesBelow}
 use Rattle.cil_rule_shifts.proofs.moved.moved_of.Given as goal
 
 -- what moves in the words so far is listed

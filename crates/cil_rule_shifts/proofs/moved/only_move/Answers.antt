@@ -1,6 +1,6 @@
-use Rattle.cil_rule_shifts.proofs.Common.{[], ◌≡◌, ◌≢◌, ◌+◌, ◌<◌, ◌^◌, arith, bit_and, bit_not, not, ◌&&◌, ◌==◌, ◌/◌, hit, one_if, takes, w64, ℕ}
+use Rattle.cil_rule_shifts.proofs.Common.{[], ◌≡◌, ◌≢◌, ◌+◌, ◌<◌, ◌^◌, AreMovesBelow, arith, bit_and, bit_not, not, ◌&&◌, ◌==◌, ◌/◌, hit, one_if, takes, w64, ℕ}
 use Rattle.std.specs.Int.Bits.{and_lt}
-use Rattle.cil_rule_shifts.proofs.MoveLemmas.{hit-without, moves-done, moves-more, moves-new, moves-skip, neither-moves, AreMovesBelow}
+use Rattle.cil_rule_shifts.proofs.MoveLemmas.{hit-without, moves-done, moves-more, moves-new, moves-skip, neither-moves}
 use Rattle.cil_rule_shifts.proofs.moved.only_move.Goals as goal
 
 pub returns : goal.returns
