@@ -1,6 +1,7 @@
 -- How many set statements make a type a member.
 use Rattle.cil_member_updates.proofs.Common.{zero-add, ◌≡◌, ℕ, ◌+◌, Bool, true, false, cond, ◌||◌, List, [], ◌∷◌, count_by, nat_lt, refl, sym, ap, ◌∙◌, subst, arith, list_any, lt-ltb, AreTheSame, Meaning, is_member, HasSoundSets, SetStatement, contains-middle, gives_member, gives_count}
-use Rattle.std.proofs.Common.{Contains, true≢false}
+use Rattle.std.proofs.Common.{Contains}
+use Rattle.std.specs.Cmp.{both_ways}
 use Rattle.std.proofs.lemmas.List.Sums.{sum_by-cons}
 use Rattle.cil_specs.proofs.DependsLemmas.{any-contained}
 use Rattle.cil_specs.proofs.MemberLemmas.{member-fixed}
@@ -8,18 +9,12 @@ use Rattle.cil_specs.proofs.OnceLemmas.{passes-among}
 
 -- a test of one of the same statements
 any-same : (p : SetStatement → Bool) (sets others : List SetStatement) → AreTheSame sets others → list_any p sets ≡ list_any p others
-any-same p sets others same = by (list_any p sets) refl (list_any p others) refl
+any-same p sets others same = both_ways (list_any p sets) (list_any p others) (there sets others (λ s. (same s).0)) (there others sets (λ s. (same s).1))
   where
     there : (xs ys : List SetStatement) → ((s : SetStatement) → Contains xs s → Contains ys s) → list_any p xs ≡ true → list_any p ys ≡ true
     there xs ys from any =
         let found = passes-among p xs any in
         any-contained p ys found.x (from found.x (subst (λ l. Contains l found.x) (sym found.split) (contains-middle found.before found.x found.after))) found.passes
-
-    by : (b : Bool) → list_any p sets ≡ b → (c : Bool) → list_any p others ≡ c → list_any p sets ≡ list_any p others
-    by true e true f = e ∙ sym f
-    by true e false f = absurd (true≢false (sym (there sets others (λ s. (same s).0) e) ∙ f))
-    by false e true f = absurd (true≢false (sym (there others sets (λ s. (same s).1) f) ∙ e))
-    by false e false f = e ∙ sym f
 
 one-more : {X : Type 0} (p : X → Bool) (x : X) (xs : List X) → count_by p (x ∷ xs) ≡ cond (p x) 1 0 + count_by p xs
 one-more p x xs = sum_by-cons (λ y. cond (p y) 1 0) x xs

@@ -9,6 +9,15 @@ use Rattle.cil_lines.proofs.StepLemmas.{hit-there}
 use Rattle.cil_recorded.specs.Log.{hit_at}
 use Rattle.cil_recorded.proofs.LogLemmas.{hit_in, hit_off, hit_on, hit_out}
 
+-- So far in a loop: what is said of the counters and of the evaluations, and what stays.
+abbrev pub SoFar : (Counts Evaluations : Type 0) (old new : State) (before after : Meter) → Type 0
+SoFar Counts Evaluations old new before after =
+    record {
+      now : Counts;
+      stays : Stays old new before after;
+      evaluations : Evaluations;
+    }
+
 -- nothing moved
 pub stays-first : (s : State) (m : Meter) → Stays s s m m
 stays-first s m = record { counts = λ a t. refl; rows = refl; adjustments = refl }

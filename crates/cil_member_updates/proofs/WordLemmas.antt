@@ -18,26 +18,13 @@ module _ (row word visits : ℕ) (was is : ℕ → Bool) (was_mask is_mask : ℕ
   hit-moved a t here =
       let hit_was = hit-held row word visits was_mask was held_was a t here in
       let hit_is = hit-held row word visits is_mask is held_is a t here in
+      let visited = bit_at visits (t % 64) == 1 in
+      let by : (value : Bool → ℕ) → ((b : Bool) → one_if ((a == row) && b) ≡ value b) → value (was t) + value (visited && is t) ≡ value (is t) + value (visited && was t)
+      → gave a t + hit_at row word is_mask a t ≡ gives a t + hit_at row word was_mask a t
+      = (λ value read same. omega (arith, hit_was ∙ read (visited && was t), hit_is ∙ read (visited && is t), was_row a t ∙ read (was t), is_row a t ∙ read (is t), same)) in
       elim (cases_eq a row) [
-        | inl same ↦
-            let on : (b : Bool) → one_if ((a == row) && b) ≡ one_if b = (λ b. ap (λ x. one_if (x && b)) (eq-eqb a row same)) in
-            omega (
-              arith,
-              hit_was ∙ on ((bit_at visits (t % 64) == 1) && was t),
-              hit_is ∙ on ((bit_at visits (t % 64) == 1) && is t),
-              was_row a t ∙ on (was t),
-              is_row a t ∙ on (is t),
-              visited-same visits word was is covers t here,
-            )
-        | inr other ↦
-            let off : (b : Bool) → one_if ((a == row) && b) ≡ 0 = (λ b. ap (λ x. one_if (x && b)) (ne_eqb a row other)) in
-            omega (
-              arith,
-              hit_was ∙ off ((bit_at visits (t % 64) == 1) && was t),
-              hit_is ∙ off ((bit_at visits (t % 64) == 1) && is t),
-              was_row a t ∙ off (was t),
-              is_row a t ∙ off (is t),
-            )
+        | inl same ↦ by one_if (λ b. ap (λ x. one_if (x && b)) (eq-eqb a row same)) (visited-same visits word was is covers t here)
+        | inr other ↦ by (λ b. 0) (λ b. ap (λ x. one_if (x && b)) (ne_eqb a row other)) refl
       ]
 
   pub move-above : ((a t : ℕ) → t / 64 ≡ word → gave a t ≤ count a t) → (t : ℕ) → hit word was_mask t ≤ count row t + hit word is_mask t

@@ -12,9 +12,7 @@ returns-in-Some-clause-stays g c = stays-first c.args.rows.now c.args.meter.now
 
 pub give_set-requires-clause-above : goal.give_set-requires-clause-above
 give_set-requires-clause-above g c a t =
-    let all = alone-none (gave_in c.args.policies.now a t) c.args.policies.now.matching.now.ahead c.args.i (λ j at. none-some j ((c.in-None.ensures j).1 at)) in
-    let above = c.requires.above a t in
-    omega (arith, all, above)
+    omega (arith, alone-none (gave_in c.args.policies.now a t) c.args.policies.now.matching.now.ahead c.args.i (λ j at. none-some j ((c.in-None.ensures j).1 at)), c.requires.above a t)
 
 pub returns-in-None-clause-now : goal.returns-in-None-clause-now
 returns-in-None-clause-now g c =

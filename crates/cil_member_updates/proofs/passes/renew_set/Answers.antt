@@ -21,9 +21,7 @@ move_set-requires-clause-stayed g c =
 
 pub move_set-requires-clause-above : goal.move_set-requires-clause-above
 move_set-requires-clause-above g c a t =
-    let one = across-some (gave_in c.args.policies.now a t) c.args.policies.now.matching.now.back c.in-Some.i c.args.j ((c.in-Some.ensures c.in-Some.i).0 refl) in
-    let above = c.requires.above a t in
-    omega (arith, one, above)
+    omega (arith, across-some (gave_in c.args.policies.now a t) c.args.policies.now.matching.now.back c.in-Some.i c.args.j ((c.in-Some.ensures c.in-Some.i).0 refl), c.requires.above a t)
 
 pub returns-in-Some-clause-now : goal.returns-in-Some-clause-now
 returns-in-Some-clause-now g c =
@@ -55,10 +53,8 @@ returns-in-Some-clause-evaluations g c =
 pub returns-in-None-clause-evaluations : goal.returns-in-None-clause-evaluations
 returns-in-None-clause-evaluations g c =
     let p = c.args.policies.now in
-    let old = old_in p in
-    let new = new_in p in
     on_ok_weaker c.give_set.result
-    (within-weaker (IsKept p.symbols.now (meaning_in new)) (IsHeld p.symbols.now (meaning_in new) (set_at new c.args.j)) (MayTurnIn p c.args.j) (ComesIn p c.args.j)
+    (within-weaker (IsKept p.symbols.now (meaning_in (new_in p))) (IsHeld p.symbols.now (meaning_in (new_in p)) (set_at (new_in p) c.args.j)) (MayTurnIn p c.args.j) (ComesIn p c.args.j)
     (evaluations_in c.args.meter.now) (evaluations_in c.give_set.new.meter) (λ t kept. inl (λ i at. none-some i ((c.in-None.ensures i).1 at), kept))
-    (comes-held p.symbols.now old new p.matching.now c.args.j))
+    (comes-held p.symbols.now (old_in p) (new_in p) p.matching.now c.args.j))
     c.give_set.ensures.evaluations

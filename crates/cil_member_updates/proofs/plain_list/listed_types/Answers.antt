@@ -6,10 +6,8 @@ use Rattle.cil_member_updates.proofs.plain_list.listed_types.Goals as goal
 
 pub loop-k-init : goal.loop-k-init
 loop-k-init g c =
-    let long = c.in_ok-words.ensures.len in
-    let len = c.len.ensures.len in
     record {
-      long = omega (arith, long, len);
+      long = omega (arith, c.in_ok-words.ensures.len, c.len.ensures.len);
       told = λ t may. none-set (c.len.result / 64 + 1) c.in_ok-words.words.items (c.in_ok-words.ensures.items_if_clones_equal (λ y h. h)) t;
     }
 

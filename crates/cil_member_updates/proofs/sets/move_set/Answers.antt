@@ -7,11 +7,11 @@ use Rattle.cil_member_updates.proofs.sets.move_set.Goals as goal
 
 pub move_word-requires-clause-stayed : goal.move_word-requires-clause-stayed
 move_word-requires-clause-stayed g c =
-    stayed-still c.args.stayed.now c.resolved_sets_are_in_order.ensures.in_order c.args.rows.now c.loop-word.rows c.requires.stayed c.loop-word.invariant.stays.counts c.loop-word.word c.loop-word.invariant.moved
+    stayed-still c.args.stayed.now c.resolved_sets_are_in_order.ensures.in_order c.args.rows.now c.loop-word.rows c.requires.stayed c.loop-word.invariant.stays.counts c.loop-word.word c.loop-word.invariant.now
 
 pub move_word-requires-clause-above : goal.move_word-requires-clause-above
 move_word-requires-clause-above g c a t here =
-    let same = c.loop-word.invariant.moved.behind a t (omega (arith, here)) in
+    let same = c.loop-word.invariant.now.behind a t (omega (arith, here)) in
     let above = c.requires.above a t in
     omega (arith, same, above)
 
@@ -20,7 +20,7 @@ loop-word-init g c =
     let s = c.args.stayed.now in
     let first = c.turned_words-turned.result.first in
     record {
-      moved = moved-from (was_given s) (is_given s) first (count_now c.args.rows.now) (λ a t low. stayed-gives s (t / 64) (c.turned_words-turned.ensures (t / 64) (inl low)) c.requires.stayed.same a t refl);
+      now = moved-from (was_given s) (is_given s) first (count_now c.args.rows.now) (λ a t low. stayed-gives s (t / 64) (c.turned_words-turned.ensures (t / 64) (inl low)) c.requires.stayed.same a t refl);
       stays = stays-first c.args.rows.now c.args.meter.now;
       evaluations = words-from (MayMove s) (MustMove s) first (evaluations_in c.args.meter.now) (λ t low. stayed-unmoved s (t / 64) (c.turned_words-turned.ensures (t / 64) (inl low)) t refl);
     }
@@ -30,7 +30,7 @@ loop-word-preserved g c =
     let s = c.args.stayed.now in
     let step = c.in_ok-move_word.ensures in
     record {
-      moved = moved-more (was_given s) (is_given s) c.loop-word.word (count_now c.args.rows.now) (count_now c.loop-word.rows) (count_now c.move_word.new.rows) c.loop-word.invariant.moved step.now;
+      now = moved-more (was_given s) (is_given s) c.loop-word.word (count_now c.args.rows.now) (count_now c.loop-word.rows) (count_now c.move_word.new.rows) c.loop-word.invariant.now step.now;
       stays = stays-next c.args.rows.now c.loop-word.rows c.move_word.new.rows c.args.meter.now c.loop-word.meter c.move_word.new.meter c.loop-word.invariant.stays step.stays;
       evaluations = words-next (MayMove s) (MustMove s) c.loop-word.word (evaluations_in c.args.meter.now) (evaluations_in c.loop-word.meter) (evaluations_in c.move_word.new.meter) c.loop-word.invariant.evaluations step.evaluations;
     }
@@ -42,7 +42,7 @@ returns-clause-now g c =
     let end = c.loop-word-test.false in
     let min = c.min-end.ensures in
     let len = c.len.ensures.len in
-    moved-all (was_given s) (is_given s) c.loop-word.word (count_now c.args.rows.now) (count_now c.loop-word.rows) c.loop-word.invariant.moved
+    moved-all (was_given s) (is_given s) c.loop-word.word (count_now c.args.rows.now) (count_now c.loop-word.rows) c.loop-word.invariant.now
     (λ a t past. elim (cases_lt (t / 64) c.turned_words-turned.result.end) [
       | inl low ↦
           let behind : length p.symbols.now ≤ t = omega (arith, low, past, end, min, len) in

@@ -4,10 +4,8 @@ use Rattle.cil_member_updates.proofs.kept.KeptTypes.of.Goals as goal
 
 pub loop-i-init : goal.loop-i-init
 loop-i-init g c =
-    let long = c.in_ok-words.ensures.len in
-    let len = c.len.ensures.len in
     record {
-      long = omega (arith, long, len);
+      long = omega (arith, c.in_ok-words.ensures.len, c.len.ensures.len);
       among = among-none c.args.symbols.now (c.len.result / 64 + 1) c.in_ok-words.words.items (c.in_ok-words.ensures.items_if_clones_equal (λ y h. h));
     }
 
