@@ -11,7 +11,7 @@ use Rattle.cil_specs.specs.Trees.{Trees, none, a_word, a_string, a_list, are_lis
 use Rattle.cil_specs.specs.Shape.{is_among}
 use Rattle.cil_specs.proofs.Runs.{both_true}
 use Rattle.cil_projection.specs.declared.table.Table.TheVariants.{Booleans, Tunables}
-use Rattle.cil_projection.specs.Pieces.{Piece, copied, blanked, taken, declared, needed, a_class, a_permission_set, opened, permission, closed}
+use Rattle.cil_projection.specs.Pieces.{Piece, copied, blanked, taken}
 use Rattle.cil_projection.specs.Forms.{joined, truth_word}
 use Rattle.cil_projection.specs.Conditions.{Settings, are_branches, branch_value, differ, first_value, list_value}
 use Rattle.cil_projection.specs.Statements.{behind_first, branch_projected, branches_need, chosen, condition_names, condition_value, conditional, is_taken, kept_branches, kept_rules, projected, rules, tunable_projected, value_for}
@@ -24,15 +24,7 @@ use Rattle.cil_projection.proofs.WordLemmas.{words_are}
 copies-append : (xs ys : List Piece) → copies (xs ++ ys) ≡ copies xs ++ copies ys
 copies-append [] ys = refl
 copies-append (copied from to ∷ xs) ys = ap (λ l. (from, to) ∷ l) (copies-append xs ys)
-copies-append (blanked from to ∷ xs) ys = copies-append xs ys
-copies-append (taken keyword ∷ xs) ys = copies-append xs ys
-copies-append (declared table name ∷ xs) ys = copies-append xs ys
-copies-append (needed table name ∷ xs) ys = copies-append xs ys
-copies-append (a_class name ∷ xs) ys = copies-append xs ys
-copies-append (a_permission_set name ∷ xs) ys = copies-append xs ys
-copies-append (opened name ∷ xs) ys = copies-append xs ys
-copies-append (permission name ∷ xs) ys = copies-append xs ys
-copies-append (closed ∷ xs) ys = copies-append xs ys
+copies-append (_ ∷ xs) ys = copies-append xs ys
 
 -- any word will do
 abbrev any_word : List ℕ → Bool
@@ -49,14 +41,7 @@ no_copies : (pieces : List Piece) → IsTrue (are_plain any_word pieces) → cop
 no_copies [] h = refl
 no_copies (copied from to ∷ pieces) h = absurd (true≢false (sym h))
 no_copies (blanked from to ∷ pieces) h = absurd (true≢false (sym h))
-no_copies (taken keyword ∷ pieces) h = no_copies pieces h
-no_copies (declared table name ∷ pieces) h = no_copies pieces h
-no_copies (needed table name ∷ pieces) h = no_copies pieces h
-no_copies (a_class name ∷ pieces) h = no_copies pieces h
-no_copies (a_permission_set name ∷ pieces) h = no_copies pieces h
-no_copies (opened name ∷ pieces) h = no_copies pieces h
-no_copies (permission name ∷ pieces) h = no_copies pieces h
-no_copies (closed ∷ pieces) h = no_copies pieces h
+no_copies (_ ∷ pieces) h = no_copies pieces h
 
 copies_cond : (b : Bool) (xs ys : List Piece) → copies (cond b xs ys) ≡ cond b (copies xs) (copies ys)
 copies_cond true xs ys = refl
@@ -67,15 +52,13 @@ kept_copies : (from : ℕ) (trees : Trees) (to : ℕ) → copies (kept_rules fro
 kept_copies from none to = refl
 kept_copies from (a_word at word rest) to = kept_copies from rest to
 kept_copies from (a_string at text rest) to = kept_copies from rest to
-kept_copies from (a_list at end none rest) to = kept_copies from rest to
-kept_copies from (a_list at end (a_string place text more) rest) to = kept_copies from rest to
-kept_copies from (a_list at end (a_list place last inner more) rest) to = kept_copies from rest to
 kept_copies from (a_list at end (a_word place word arguments) rest) to = by (is_among rules word) (kept_copies end rest to) (kept_copies from rest to)
   where
     by : (b : Bool) → copies (kept_rules end rest to) ≡ rule_parts rest → copies (kept_rules from rest to) ≡ rule_parts rest
         → copies (cond b (blanked from at.offset ∷ copied at.offset end ∷ kept_rules end rest to) (kept_rules from rest to)) ≡ cond b ((at.offset, end) ∷ []) [] ++ rule_parts rest
     by true h k = ap (λ l. (at.offset, end) ∷ l) h
     by false h k = k
+kept_copies from (a_list at end _ rest) to = kept_copies from rest to
 
 -- where the rules of the branches that are taken stand
 abbrev taken_parts : Settings → Bool → Trees → List (ℕ × ℕ)

@@ -14,7 +14,8 @@ use Rattle.cil_projection.specs.Pieces.{Piece}
 use Rattle.cil_projection.specs.Forms.{joined}
 use Rattle.cil_projection.specs.Conditions.{Settings}
 use Rattle.cil_projection.specs.Statements.{of_first_list, rule_needs, rules_need, branch_needs, branches_need}
-use Rattle.cil_projection.proofs.FormLemmas.{without_word}
+use Rattle.cil_projection.specs.declared.piece.Piece as code
+use Rattle.cil_projection.proofs.FormLemmas.{Completes, not_begun, without_word}
 
 -- a tree that is no list
 pub not_listed : (needs : List ℕ → Trees → Option (List Piece)) (tree : Tree) (rest : Trees)
@@ -47,6 +48,12 @@ pub rules_first : (stay : Bool) (tree : Tree) (all rest : Trees) → all ≡ tre
 rules_first stay (trees.Word w) all rest is = ap (rules_need stay) is
 rules_first stay (trees.String w) all rest is = ap (rules_need stay) is
 rules_first stay (trees.List at end items) all rest is = ap (rules_need stay) is ∙ rules_list stay (place_of at) end (trees_of items) rest
+
+-- rules of which the first has no needs
+pub rules_stuck : (stay : Bool) (start now : List code.Piece) (all : Option (List Piece)) (tree : Tree) (left rest : Trees) → Completes start all now (rules_need stay left) → left ≡ tree_then tree rest
+    → of_first_list (rule_needs stay) (tree_then tree rest) ≡ None → all ≡ None
+rules_stuck stay start now all tree left rest completes is absent =
+    not_begun start now all (rules_need stay left) (of_first_list (rule_needs stay) (tree_then tree rest)) (rules_need stay rest) completes (rules_first stay tree left rest is) absent
 
 branches_list : (settings : Settings) (holds : Bool) (at : Place) (end : ℕ) (items rest : Trees)
     → branches_need settings holds (a_list at end items rest) ≡ joined (of_first_list (branch_needs settings holds) (a_list at end items rest)) (branches_need settings holds rest)

@@ -5,7 +5,7 @@ use Rattle.std.proofs.Common.{arith}
 use Rattle.cil_specs.specs.Trees.{Trees, none, a_word, a_string, a_list}
 use Rattle.cil_specs.specs.Shape.{is_among}
 use Rattle.cil_projection.specs.declared.table.Table.TheVariants.{Tunables}
-use Rattle.cil_projection.specs.Pieces.{Piece, copied, blanked, taken, declared, needed, a_class, a_permission_set, opened, permission, closed}
+use Rattle.cil_projection.specs.Pieces.{Piece, opened, permission}
 use Rattle.cil_projection.specs.Forms.{name_or_operator, names_in}
 use Rattle.cil_projection.specs.Conditions.{Settings, containers, list_value}
 use Rattle.cil_projection.specs.Statements.{rules, is_taken, condition_value, behind_first, statement, value_for}
@@ -32,41 +32,22 @@ plain_depth (a_string at bytes rest) = plain_depth rest
 plain_depth (a_list at end items rest) = omega (arith, plain_depth items, plain_depth rest)
 
 permissions_depth : (pieces : List Piece) → depth (permissions_of pieces) ≤ 0
-permissions_depth [] = omega arith
-permissions_depth (copied from to ∷ pieces) = omega arith
-permissions_depth (blanked from to ∷ pieces) = omega arith
-permissions_depth (taken keyword ∷ pieces) = omega arith
-permissions_depth (declared table name ∷ pieces) = omega arith
-permissions_depth (needed table name ∷ pieces) = omega arith
-permissions_depth (a_class name ∷ pieces) = omega arith
-permissions_depth (a_permission_set name ∷ pieces) = omega arith
-permissions_depth (opened name ∷ pieces) = omega arith
 permissions_depth (permission name ∷ pieces) = permissions_depth pieces
-permissions_depth (closed ∷ pieces) = omega arith
+permissions_depth _ = omega arith
 
 made_depth : (pieces : List Piece) → depth (made_trees pieces) ≤ 3
 made_depth [] = omega arith
-made_depth (copied from to ∷ pieces) = made_depth pieces
-made_depth (blanked from to ∷ pieces) = made_depth pieces
-made_depth (taken keyword ∷ pieces) = made_depth pieces
-made_depth (declared table name ∷ pieces) = omega (arith, made_depth pieces)
-made_depth (needed table name ∷ pieces) = omega (arith, made_depth pieces)
-made_depth (a_class name ∷ pieces) = omega (arith, made_depth pieces)
-made_depth (a_permission_set name ∷ pieces) = omega (arith, made_depth pieces)
 made_depth (opened name ∷ pieces) = omega (arith, made_depth pieces, permissions_depth pieces)
-made_depth (permission name ∷ pieces) = made_depth pieces
-made_depth (closed ∷ pieces) = made_depth pieces
+made_depth (_ ∷ pieces) = omega (arith, made_depth pieces)
 
 rules_depth : (trees : Trees) → depth (rules_of trees) ≤ depth trees
 rules_depth none = omega arith
 rules_depth (a_word at bytes rest) = rules_depth rest
 rules_depth (a_string at bytes rest) = rules_depth rest
-rules_depth (a_list at end none rest) = omega (arith, rules_depth rest)
-rules_depth (a_list at end (a_string p t r) rest) = omega (arith, rules_depth rest)
-rules_depth (a_list at end (a_list p e i r) rest) = omega (arith, rules_depth rest)
 rules_depth (a_list at end (a_word place bytes arguments) rest) =
     either_depth (is_among rules bytes) (plain_list (a_word nowhere bytes (without_places arguments)) (rules_of rest)) (rules_of rest) (max (depth arguments + 1) (depth rest))
     (omega (arith, plain_depth arguments, rules_depth rest)) (omega (arith, rules_depth rest))
+rules_depth (a_list at end _ rest) = omega (arith, rules_depth rest)
 
 first_depth : (arguments : Trees) → depth (behind_first arguments) ≤ depth arguments
 first_depth none = omega arith
@@ -79,14 +60,12 @@ module _ (settings : Settings) where
   taken_depth holds none = omega arith
   taken_depth holds (a_word at bytes rest) = taken_depth holds rest
   taken_depth holds (a_string at bytes rest) = taken_depth holds rest
-  taken_depth holds (a_list at end none rest) = omega (arith, taken_depth holds rest)
-  taken_depth holds (a_list at end (a_string p t r) rest) = omega (arith, taken_depth holds rest)
-  taken_depth holds (a_list at end (a_list p e i r) rest) = omega (arith, taken_depth holds rest)
   taken_depth holds (a_list at end (a_word place branch inner) rest) =
       let n : ℕ = max (depth inner + 1) (depth rest) in
       let without : depth (rules_taken settings holds rest) ≤ n = omega (arith, taken_depth holds rest) in
       either_depth (is_taken settings holds branch) (followed_by (rules_of inner) (rules_taken settings holds rest)) (rules_taken settings holds rest) n
       (followed_depth (rules_of inner) (rules_taken settings holds rest) n (omega (arith, rules_depth inner)) without) without
+  taken_depth holds (a_list at end _ rest) = omega (arith, taken_depth holds rest)
 
   stays_depth : (bytes : List ℕ) (arguments : Trees) → depth (stays_of settings bytes arguments) ≤ depth arguments
   stays_depth bytes arguments =

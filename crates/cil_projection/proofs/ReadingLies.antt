@@ -128,10 +128,7 @@ untold : (text : List ℕ) (at : ℕ) (parts : List Part) → told text at parts
 untold text at [] none_told = refl
 untold text at (white b ∷ parts) none_told = untold text (at + 1) parts none_told
 untold text at (comment bytes ∷ parts) none_told = untold text (at + length (spelling (comment bytes))) parts none_told
-untold text at (word bytes ∷ parts) none_told = absurd (cc)
-untold text at (string bytes ∷ parts) none_told = absurd (cc)
-untold text at (opening ∷ parts) none_told = absurd (cc)
-untold text at (closing ∷ parts) none_told = absurd (cc)
+untold text at (_ ∷ parts) none_told = absurd (cc)
 
 -- Trees lie in a text from an offset on, and then come other parts.
 record LiesThen (text : List ℕ) (at : ℕ) (trees : Trees) (rest lists new : List ℕ) (seen : List Mark) : Type 0 where
@@ -160,14 +157,15 @@ abbrev LieThen : List ℕ → Trees → Type 0
 LieThen text trees = (at : ℕ) (parts : List Part) (rest lists new : List ℕ) (seen : List Mark) → Splits (drop at text) parts rest → told text at parts ≡ marks trees ++ seen
     → Nests lists at parts new → LiesThen text at trees rest lists new seen
 
-word_then : (text : List ℕ) (at : ℕ) (place : Place) (bytes : List ℕ) (behind : Trees) → LieThen text behind → (rest lists new : List ℕ) (seen : List Mark) (gap : List Part) (here : ℕ) → Between text at gap here → tokens gap ≡ []
-    → (part : Part) (more : List Part) → HasMark part → Splits (drop here text) (part ∷ more) rest → told text here (part ∷ more) ≡ word_at place bytes ∷ (marks behind ++ seen)
-    → Nests lists here (part ∷ more) new → LiesThen text at (a_word place bytes behind) rest lists new seen
+-- these trees lie where the next part has this mark, and others behind it
+abbrev FirstLies : List ℕ → ℕ → Trees → Mark → Trees → Type 0
+FirstLies text at trees mark behind = LieThen text behind → (rest lists new : List ℕ) (seen : List Mark) (gap : List Part) (here : ℕ) → Between text at gap here → tokens gap ≡ []
+    → (part : Part) (more : List Part) → HasMark part → Splits (drop here text) (part ∷ more) rest → told text here (part ∷ more) ≡ mark ∷ (marks behind ++ seen)
+    → Nests lists here (part ∷ more) new → LiesThen text at trees rest lists new seen
+
+word_then : (text : List ℕ) (at : ℕ) (place : Place) (bytes : List ℕ) (behind : Trees) → FirstLies text at (a_word place bytes behind) (word_at place bytes) behind
 word_then text at place bytes behind go rest lists new seen gap here before quiet (white b) more solid splits told_is nests = absurd solid
 word_then text at place bytes behind go rest lists new seen gap here before quiet (comment x) more solid splits told_is nests = absurd solid
-word_then text at place bytes behind go rest lists new seen gap here before quiet (string x) more solid splits told_is nests = absurd (cc)
-word_then text at place bytes behind go rest lists new seen gap here before quiet opening more solid splits told_is nests = absurd (cc)
-word_then text at place bytes behind go rest lists new seen gap here before quiet closing more solid splits told_is nests = absurd (cc)
 word_then text at place bytes behind go rest lists new seen gap here before quiet (word x) more solid splits told_is nests =
     let place_is : place_at text here ≡ place = cc in
     let bytes_are : x ≡ bytes = cc in
@@ -187,15 +185,11 @@ word_then text at place bytes behind go rest lists new seen gap here before quie
       nests = after.nests;
       outside = λ out. absurd (nests.1.0 out);
     }
+word_then text at place bytes behind go rest lists new seen gap here before quiet _ more solid splits told_is nests = absurd (cc)
 
-string_then : (text : List ℕ) (at : ℕ) (place : Place) (bytes : List ℕ) (behind : Trees) → LieThen text behind → (rest lists new : List ℕ) (seen : List Mark) (gap : List Part) (here : ℕ) → Between text at gap here → tokens gap ≡ []
-    → (part : Part) (more : List Part) → HasMark part → Splits (drop here text) (part ∷ more) rest → told text here (part ∷ more) ≡ string_at place bytes ∷ (marks behind ++ seen)
-    → Nests lists here (part ∷ more) new → LiesThen text at (a_string place bytes behind) rest lists new seen
+string_then : (text : List ℕ) (at : ℕ) (place : Place) (bytes : List ℕ) (behind : Trees) → FirstLies text at (a_string place bytes behind) (string_at place bytes) behind
 string_then text at place bytes behind go rest lists new seen gap here before quiet (white b) more solid splits told_is nests = absurd solid
 string_then text at place bytes behind go rest lists new seen gap here before quiet (comment x) more solid splits told_is nests = absurd solid
-string_then text at place bytes behind go rest lists new seen gap here before quiet (word x) more solid splits told_is nests = absurd (cc)
-string_then text at place bytes behind go rest lists new seen gap here before quiet opening more solid splits told_is nests = absurd (cc)
-string_then text at place bytes behind go rest lists new seen gap here before quiet closing more solid splits told_is nests = absurd (cc)
 string_then text at place bytes behind go rest lists new seen gap here before quiet (string x) more solid splits told_is nests =
     let place_is : place_at text here ≡ place = cc in
     let bytes_are : spelling (string x) ≡ bytes = cc in
@@ -215,6 +209,7 @@ string_then text at place bytes behind go rest lists new seen gap here before qu
       nests = after.nests;
       outside = λ out. absurd (nests.1.0 out);
     }
+string_then text at place bytes behind go rest lists new seen gap here before quiet _ more solid splits told_is nests = absurd (cc)
 
 closing_then : (text : List ℕ) (at : ℕ) (place : Place) (end : ℕ) (items behind : Trees) → LieThen text behind → (rest lists new : List ℕ) (seen : List Mark) (gap : List Part) (here : ℕ) → Between text at gap place.offset → tokens gap ≡ []
     → Between text place.offset (opening ∷ []) (place.offset + 1) → (inner : ℕ) → Lies text (place.offset + 1) items inner
@@ -222,9 +217,6 @@ closing_then : (text : List ℕ) (at : ℕ) (place : Place) (end : ℕ) (items b
     → Nests (here ∷ lists) inner (part ∷ more) new → LiesThen text at (a_list place end items behind) rest lists new seen
 closing_then text at place end items behind go rest lists new seen gap here before quiet opens inner lies (white b) more solid splits told_is nests = absurd solid
 closing_then text at place end items behind go rest lists new seen gap here before quiet opens inner lies (comment x) more solid splits told_is nests = absurd solid
-closing_then text at place end items behind go rest lists new seen gap here before quiet opens inner lies (word x) more solid splits told_is nests = absurd (cc)
-closing_then text at place end items behind go rest lists new seen gap here before quiet opens inner lies (string x) more solid splits told_is nests = absurd (cc)
-closing_then text at place end items behind go rest lists new seen gap here before quiet opens inner lies opening more solid splits told_is nests = absurd (cc)
 closing_then text at place end items behind go rest lists new seen gap here before quiet opens inner lies closing more solid splits told_is nests =
     let end_is : inner + 1 ≡ end = cc in
     let step = one_step text inner closing more rest splits in
@@ -240,6 +232,7 @@ closing_then text at place end items behind go rest lists new seen gap here befo
       nests = after.nests;
       outside = after.outside;
     }
+closing_then text at place end items behind go rest lists new seen gap here before quiet opens inner lies _ more solid splits told_is nests = absurd (cc)
 
 list_then : (text : List ℕ) (at : ℕ) (place : Place) (end : ℕ) (items behind : Trees) → LieThen text items → LieThen text behind → (rest lists new : List ℕ) (seen : List Mark) (gap : List Part) (here : ℕ) → Between text at gap here → tokens gap ≡ []
     → (part : Part) (more : List Part) → HasMark part → Splits (drop here text) (part ∷ more) rest

@@ -5,7 +5,7 @@ use Rattle.std.proofs.lemmas.List.Folds.{list_all-append}
 use Rattle.cil_specs.proofs.Runs.{ends-closing, ends-opening, both_true, first_true, second_true}
 use Rattle.cil_projection.specs.declared.table.Table.{Table}
 use Rattle.cil_projection.specs.declared.table.Table.TheVariants.{Types, Roles, Users, Booleans, Tunables, Categories, Sensitivities, Levels, Ranges, Contexts, Sids, Addresses, ExtendedPermissions}
-use Rattle.cil_projection.specs.Pieces.{Piece, copied, blanked, taken, declared, needed, a_class, a_permission_set, opened, permission, closed, attribute_of, is_dotted, last_component, prefix, rendered, spelled}
+use Rattle.cil_projection.specs.Pieces.{Piece, taken, declared, needed, a_class, a_permission_set, opened, permission, closed, attribute_of, is_dotted, last_component, prefix, rendered, spelled}
 use Rattle.cil_projection.specs.Readings.{nowhere, made_trees, permissions_of}
 use Rattle.cil_projection.proofs.ComponentLemmas.{last_within}
 use Rattle.cil_projection.proofs.ReadingPieces.{AreMade}
@@ -208,27 +208,15 @@ module _ (text rest : List ℕ) where
 
   cut_pieces : (inside : Bool) (pieces : List Piece) → AreMade IsWord inside pieces → CutPieces text inside pieces rest
   cut_pieces false [] made = record { parts = []; splits = refl; tokens_are = refl }
-  cut_pieces true [] made = absurd made
-  cut_pieces false (copied from to ∷ pieces) made = absurd made
-  cut_pieces false (blanked from to ∷ pieces) made = absurd made
   cut_pieces false (taken keyword ∷ pieces) made = cut_pieces false pieces made
   cut_pieces false (declared table name ∷ pieces) made = cut_declared table name pieces made.0 (cut_pieces false pieces made.1)
   cut_pieces false (needed table name ∷ pieces) made = cut_needed table name pieces made.0 (cut_pieces false pieces made.1)
   cut_pieces false (a_class name ∷ pieces) made = cut_class name pieces made.0 (cut_pieces false pieces made.1)
   cut_pieces false (a_permission_set name ∷ pieces) made = cut_set name pieces made.0 (cut_pieces false pieces made.1)
   cut_pieces false (opened name ∷ pieces) made = cut_opened name pieces made.0 (cut_pieces true pieces made.1)
-  cut_pieces false (permission name ∷ pieces) made = absurd made
-  cut_pieces false (closed ∷ pieces) made = absurd made
-  cut_pieces true (copied from to ∷ pieces) made = absurd made
-  cut_pieces true (blanked from to ∷ pieces) made = absurd made
-  cut_pieces true (taken keyword ∷ pieces) made = absurd made
-  cut_pieces true (declared table name ∷ pieces) made = absurd made
-  cut_pieces true (needed table name ∷ pieces) made = absurd made
-  cut_pieces true (a_class name ∷ pieces) made = absurd made
-  cut_pieces true (a_permission_set name ∷ pieces) made = absurd made
-  cut_pieces true (opened name ∷ pieces) made = absurd made
   cut_pieces true (permission name ∷ pieces) made = cut_permission name pieces made.0 (cut_pieces true pieces made.1)
   cut_pieces true (closed ∷ pieces) made = cut_closed pieces (cut_pieces false pieces made)
+  cut_pieces _ _ made = absurd made
 
 -- pieces of whole statements spell them
 pub made_spelt : (text : List ℕ) (pieces : List Piece) (rest : List ℕ) → AreMade IsWord false pieces → Spelt text pieces rest (marks (made_trees pieces)) ⊥

@@ -6,23 +6,15 @@ use Rattle.cil_specs.proofs.PartLemmas.{size-some, splits-size}
 
 -- nothing, or a ) and what follows
 abbrev BeginsOutside : List Mark → Type 0
-BeginsOutside [] = Unit {0}
 BeginsOutside (word_at at text ∷ ms) = ⊥
 BeginsOutside (string_at at text ∷ ms) = ⊥
 BeginsOutside (opening_at at ∷ ms) = ⊥
-BeginsOutside (closing_before end ∷ ms) = Unit {0}
-
-outside : (m : List Mark) (mark : Mark) (ms : List Mark) → BeginsOutside m → m ≡ mark ∷ ms → BeginsOutside (mark ∷ ms)
-outside m mark ms f e = subst BeginsOutside e f
+BeginsOutside _ = Unit {0}
 
 same_trees : (s t : Trees) (m n : List Mark) → marks s ++ m ≡ marks t ++ n → BeginsOutside m → BeginsOutside n → (s ≡ t) × (m ≡ n)
 same_trees none none m n e f g = (refl, e)
-same_trees none (a_word at text rest) m n e f g = absurd (outside m (word_at at text) (marks rest ++ n) f e)
-same_trees none (a_string at text rest) m n e f g = absurd (outside m (string_at at text) (marks rest ++ n) f e)
-same_trees none (a_list at end items rest) m n e f g = absurd (outside m (opening_at at) _ f e)
-same_trees (a_word at text rest) none m n e f g = absurd (outside n (word_at at text) (marks rest ++ m) g (sym e))
-same_trees (a_string at text rest) none m n e f g = absurd (outside n (string_at at text) (marks rest ++ m) g (sym e))
-same_trees (a_list at end items rest) none m n e f g = absurd (outside n (opening_at at) _ g (sym e))
+same_trees none _ m n e f g = absurd (subst BeginsOutside e f)
+same_trees _ none m n e f g = absurd (subst BeginsOutside (sym e) g)
 same_trees (a_word at text rest) (a_word to other more) m n e f g =
     let found = same_trees rest more m n (ap (drop 1) e) f g in
     let place : at ≡ to = cc in
@@ -43,12 +35,7 @@ same_trees (a_list at end items rest) (a_list to close inside more) m n e f g =
     let closes : closing_before end ≡ closing_before close = cc within.1 in
     let ends : end ≡ close = cc closes in
     ((λ i. a_list (place i) (ends i) (within.0 i) (behind.0 i)), behind.1)
-same_trees (a_word at text rest) (a_string to other more) m n e f g = absurd (cc)
-same_trees (a_word at text rest) (a_list to close inside more) m n e f g = absurd (cc)
-same_trees (a_string at text rest) (a_word to other more) m n e f g = absurd (cc)
-same_trees (a_string at text rest) (a_list to close inside more) m n e f g = absurd (cc)
-same_trees (a_list at end items rest) (a_word to other more) m n e f g = absurd (cc)
-same_trees (a_list at end items rest) (a_string to other more) m n e f g = absurd (cc)
+same_trees _ _ m n e f g = absurd (cc)
 
 pub same_marks : (s t : Trees) → marks s ≡ marks t → s ≡ t
 same_marks s t e = (same_trees s t [] [] (append-nil (marks s) ∙ e ∙ sym (append-nil (marks t))) tt tt).0

@@ -6,7 +6,7 @@ use Rattle.std.proofs.lemmas.Bool.{true≢false}
 use Rattle.cil_specs.specs.Trees.{Trees, none, a_word, a_string, a_list, are_lists}
 use Rattle.cil_specs.specs.Shape.{is_among}
 use Rattle.cil_projection.specs.declared.table.Table.TheVariants.{Tunables}
-use Rattle.cil_projection.specs.Pieces.{Piece, copied, blanked, taken, declared, needed, a_class, a_permission_set, opened, permission, closed}
+use Rattle.cil_projection.specs.Pieces.{Piece, copied}
 use Rattle.cil_projection.specs.Forms.{name_or_operator, names_in}
 use Rattle.cil_projection.specs.Conditions.{Settings, containers, list_value}
 use Rattle.cil_projection.specs.Statements.{rules, is_taken, condition_value, behind_first, statement, value_for}
@@ -21,15 +21,7 @@ lists_followed (a_list at end items rest) t first second = lists_followed rest t
 made_lists : (pieces : List Piece) → are_lists (made_trees pieces) ≡ true
 made_lists [] = refl
 made_lists (copied from to ∷ pieces) = made_lists pieces
-made_lists (blanked from to ∷ pieces) = made_lists pieces
-made_lists (taken keyword ∷ pieces) = made_lists pieces
-made_lists (declared table name ∷ pieces) = made_lists pieces
-made_lists (needed table name ∷ pieces) = made_lists pieces
-made_lists (a_class name ∷ pieces) = made_lists pieces
-made_lists (a_permission_set name ∷ pieces) = made_lists pieces
-made_lists (opened name ∷ pieces) = made_lists pieces
-made_lists (permission name ∷ pieces) = made_lists pieces
-made_lists (closed ∷ pieces) = made_lists pieces
+made_lists (_ ∷ pieces) = made_lists pieces
 
 -- one of two trees
 either_lists : (b : Bool) (s t : Trees) → are_lists s ≡ true → are_lists t ≡ true → are_lists (cond b s t) ≡ true

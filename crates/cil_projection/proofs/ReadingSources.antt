@@ -37,26 +37,15 @@ module _ (settings : Settings) (trees : Trees) (size : ℕ) where
 
   made_sourced : (inside : Bool) (pieces : List Piece) → AreMade Any inside pieces → Sourced pieces
   made_sourced inside [] made = tt
-  made_sourced false (copied from to ∷ pieces) made = absurd made
-  made_sourced false (blanked from to ∷ pieces) made = absurd made
   made_sourced false (taken keyword ∷ pieces) made = (tt, made_sourced false pieces made)
   made_sourced false (declared table name ∷ pieces) made = (tt, made_sourced false pieces made.1)
   made_sourced false (needed table name ∷ pieces) made = (tt, made_sourced false pieces made.1)
   made_sourced false (a_class name ∷ pieces) made = (tt, made_sourced false pieces made.1)
   made_sourced false (a_permission_set name ∷ pieces) made = (tt, made_sourced false pieces made.1)
   made_sourced false (opened name ∷ pieces) made = (tt, made_sourced true pieces made.1)
-  made_sourced false (permission name ∷ pieces) made = absurd made
-  made_sourced false (closed ∷ pieces) made = absurd made
-  made_sourced true (copied from to ∷ pieces) made = absurd made
-  made_sourced true (blanked from to ∷ pieces) made = absurd made
-  made_sourced true (taken keyword ∷ pieces) made = absurd made
-  made_sourced true (declared table name ∷ pieces) made = absurd made
-  made_sourced true (needed table name ∷ pieces) made = absurd made
-  made_sourced true (a_class name ∷ pieces) made = absurd made
-  made_sourced true (a_permission_set name ∷ pieces) made = absurd made
-  made_sourced true (opened name ∷ pieces) made = absurd made
   made_sourced true (permission name ∷ pieces) made = (tt, made_sourced true pieces made.1)
   made_sourced true (closed ∷ pieces) made = (tt, made_sourced false pieces made)
+  made_sourced _ _ made = absurd made
 
   -- pieces that are there have sources
   abbrev MaybeSourced : Option (List Piece) → Type 0

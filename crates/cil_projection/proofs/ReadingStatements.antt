@@ -83,9 +83,6 @@ module _ (settings : Settings) (trees : Trees) (size : ℕ) (word : List ℕ) (a
   rules_none none h = h
   rules_none (a_word at text rest) h = rules_none rest h
   rules_none (a_string at text rest) h = rules_none rest h
-  rules_none (a_list at end none rest) h = rules_none rest h
-  rules_none (a_list at end (a_string p t r) rest) h = rules_none rest h
-  rules_none (a_list at end (a_list p e i r) rest) h = rules_none rest h
   rules_none (a_list at end (a_word place text operands) rest) h = by (is_among rules text) refl (rules_none rest) h
     where
       by : (b : Bool) → is_among rules text ≡ b → (HasStatement word arguments (rules_of rest) → ⊥)
@@ -94,14 +91,12 @@ module _ (settings : Settings) (trees : Trees) (size : ℕ) (word : List ℕ) (a
       by true is rest_none (inl k) = other_word text (rule_keyword text is) k.0
       by true is rest_none (inr (inl k)) = true≢false (sym k.0 ∙ rule_holds_none text is)
       by true is rest_none (inr (inr k)) = rest_none k
+  rules_none (a_list at end _ rest) h = rules_none rest h
 
   taken_none : (holds : Bool) (some : Trees) → HasStatement word arguments (rules_taken settings holds some) → ⊥
   taken_none holds none h = h
   taken_none holds (a_word at text rest) h = taken_none holds rest h
   taken_none holds (a_string at text rest) h = taken_none holds rest h
-  taken_none holds (a_list at end none rest) h = taken_none holds rest h
-  taken_none holds (a_list at end (a_string p t r) rest) h = taken_none holds rest h
-  taken_none holds (a_list at end (a_list p e i r) rest) h = taken_none holds rest h
   taken_none holds (a_list at end (a_word place branch inner) rest) h = by (is_taken settings holds branch) (taken_none holds rest) h
     where
       either : HasStatement word arguments (rules_of inner) ⊎ HasStatement word arguments (rules_taken settings holds rest) → (HasStatement word arguments (rules_taken settings holds rest) → ⊥) → ⊥
@@ -112,6 +107,7 @@ module _ (settings : Settings) (trees : Trees) (size : ℕ) (word : List ℕ) (a
           → HasStatement word arguments (cond b (followed_by (rules_of inner) (rules_taken settings holds rest)) (rules_taken settings holds rest)) → ⊥
       by false rest_none k = rest_none k
       by true rest_none k = either (followed_has (rules_of inner) (rules_taken settings holds rest) k) rest_none
+  taken_none holds (a_list at end _ rest) h = taken_none holds rest h
 
   stays_none : (text : List ℕ) (operands : Trees) → HasStatement word arguments (stays_of settings text operands) → ⊥
   stays_none text operands h = by (bytes_eq text (codes "booleanif")) (condition_value settings operands) h

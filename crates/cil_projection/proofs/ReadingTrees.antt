@@ -50,19 +50,13 @@ quiet_nests : (lists : List ℕ) (at : ℕ) (parts : List Part) → tokens parts
 quiet_nests lists at [] quiet = refl
 quiet_nests lists at (white b ∷ parts) quiet = (lists, refl, quiet_nests lists (at + 1) parts quiet)
 quiet_nests lists at (comment text ∷ parts) quiet = (lists, refl, quiet_nests lists (at + length (spelling (comment text))) parts quiet)
-quiet_nests lists at (word text ∷ parts) quiet = absurd (cc)
-quiet_nests lists at (string text ∷ parts) quiet = absurd (cc)
-quiet_nests lists at (opening ∷ parts) quiet = absurd (cc)
-quiet_nests lists at (closing ∷ parts) quiet = absurd (cc)
+quiet_nests lists at (_ ∷ parts) quiet = absurd (cc)
 
 quiet_told : (bytes : List ℕ) (at : ℕ) (parts : List Part) → tokens parts ≡ [] → told bytes at parts ≡ []
 quiet_told bytes at [] quiet = refl
 quiet_told bytes at (white b ∷ parts) quiet = quiet_told bytes (at + 1) parts quiet
 quiet_told bytes at (comment text ∷ parts) quiet = quiet_told bytes (at + length (spelling (comment text))) parts quiet
-quiet_told bytes at (word text ∷ parts) quiet = absurd (cc)
-quiet_told bytes at (string text ∷ parts) quiet = absurd (cc)
-quiet_told bytes at (opening ∷ parts) quiet = absurd (cc)
-quiet_told bytes at (closing ∷ parts) quiet = absurd (cc)
+quiet_told bytes at (_ ∷ parts) quiet = absurd (cc)
 
 -- the first part that has one
 record Next (parts : List Part) (seen : List Mark) : Type 0 where
@@ -110,13 +104,14 @@ after_gap bytes lists at gap parts shape seen quiet s = record {
   left = s.left;
 }
 
-word_spells : (bytes : List ℕ) (spot : Place) (text : List ℕ) (behind : Trees) → Spell bytes behind → (lists : List ℕ) (at : ℕ) (part : Part) (more : List Part) (seen : List Mark) → HasMark part
-    → tokens (part ∷ more) ≡ word_at spot text ∷ (marks behind ++ seen) → (lists ≡ [] → ⊥) → Fits lists behind → Spells bytes lists at (part ∷ more) (a_word spot text behind) seen
+-- a part with this mark, and what spells the trees behind it, spell these trees
+abbrev FirstSpells : List ℕ → Trees → Mark → Trees → Type 0
+FirstSpells bytes shape mark behind = Spell bytes behind → (lists : List ℕ) (at : ℕ) (part : Part) (more : List Part) (seen : List Mark) → HasMark part
+    → tokens (part ∷ more) ≡ mark ∷ (marks behind ++ seen) → (lists ≡ [] → ⊥) → Fits lists behind → Spells bytes lists at (part ∷ more) shape seen
+
+word_spells : (bytes : List ℕ) (spot : Place) (text : List ℕ) (behind : Trees) → FirstSpells bytes (a_word spot text behind) (word_at spot text) behind
 word_spells bytes spot text behind go lists at (white b) more seen has is some fits = absurd has
 word_spells bytes spot text behind go lists at (comment x) more seen has is some fits = absurd has
-word_spells bytes spot text behind go lists at (string x) more seen has is some fits = absurd (cc)
-word_spells bytes spot text behind go lists at opening more seen has is some fits = absurd (cc)
-word_spells bytes spot text behind go lists at closing more seen has is some fits = absurd (cc)
 word_spells bytes spot text behind go lists at (word x) more seen has is some fits =
     let spot_is : nowhere ≡ spot = cc in
     let text_is : x ≡ text = cc in
@@ -131,14 +126,11 @@ word_spells bytes spot text behind go lists at (word x) more seen has is some fi
       same = λ i. a_word (spot_is i) (text_is i) (s.same i);
       left = s.left;
     }
+word_spells bytes spot text behind go lists at _ more seen has is some fits = absurd (cc)
 
-string_spells : (bytes : List ℕ) (spot : Place) (text : List ℕ) (behind : Trees) → Spell bytes behind → (lists : List ℕ) (at : ℕ) (part : Part) (more : List Part) (seen : List Mark) → HasMark part
-    → tokens (part ∷ more) ≡ string_at spot text ∷ (marks behind ++ seen) → (lists ≡ [] → ⊥) → Fits lists behind → Spells bytes lists at (part ∷ more) (a_string spot text behind) seen
+string_spells : (bytes : List ℕ) (spot : Place) (text : List ℕ) (behind : Trees) → FirstSpells bytes (a_string spot text behind) (string_at spot text) behind
 string_spells bytes spot text behind go lists at (white b) more seen has is some fits = absurd has
 string_spells bytes spot text behind go lists at (comment x) more seen has is some fits = absurd has
-string_spells bytes spot text behind go lists at (word x) more seen has is some fits = absurd (cc)
-string_spells bytes spot text behind go lists at opening more seen has is some fits = absurd (cc)
-string_spells bytes spot text behind go lists at closing more seen has is some fits = absurd (cc)
 string_spells bytes spot text behind go lists at (string x) more seen has is some fits =
     let spot_is : nowhere ≡ spot = cc in
     let text_is : spelling (string x) ≡ text = cc in
@@ -153,6 +145,7 @@ string_spells bytes spot text behind go lists at (string x) more seen has is som
       same = λ i. a_string (spot_is i) (text_is i) (s.same i);
       left = s.left;
     }
+string_spells bytes spot text behind go lists at _ more seen has is some fits = absurd (cc)
 
 -- the ) of a list, and the trees behind it
 record Closes (bytes : List ℕ) (lists : List ℕ) (here at : ℕ) (parts : List Part) (end : ℕ) (behind : Trees) (seen : List Mark) : Type 0 where
@@ -171,9 +164,6 @@ closing_spells : (bytes : List ℕ) (end : ℕ) (behind : Trees) → Spell bytes
     → tokens (part ∷ more) ≡ closing_before end ∷ (marks behind ++ seen) → (lists ≡ [] → are_lists behind ≡ true) → Fits lists behind → Closes bytes lists here at (part ∷ more) end behind seen
 closing_spells bytes end behind go lists here at (white b) more seen has is some fits = absurd has
 closing_spells bytes end behind go lists here at (comment x) more seen has is some fits = absurd has
-closing_spells bytes end behind go lists here at (word x) more seen has is some fits = absurd (cc)
-closing_spells bytes end behind go lists here at (string x) more seen has is some fits = absurd (cc)
-closing_spells bytes end behind go lists here at opening more seen has is some fits = absurd (cc)
 closing_spells bytes end behind go lists here at closing more seen has is some fits =
     let end_is : 0 ≡ end = cc in
     let s = go lists (at + 1) more seen (ap (drop 1) is) some fits in
@@ -189,6 +179,7 @@ closing_spells bytes end behind go lists here at closing more seen has is some f
       same = s.same;
       left = s.left;
     }
+closing_spells bytes end behind go lists here at _ more seen has is some fits = absurd (cc)
 
 -- with parts without marks in front
 closes_after : (bytes : List ℕ) (lists : List ℕ) (here at : ℕ) (gap parts : List Part) (end : ℕ) (behind : Trees) (seen : List Mark) → tokens gap ≡ [] → Closes bytes lists here (at + size gap) parts end behind seen

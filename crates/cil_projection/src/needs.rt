@@ -1,11 +1,10 @@
 //! The names that the rules of conditional statements need.
 
 ghost use Rattle.std.specs.Prelude.{◌≡◌, IfOk, option_map};
-ghost use Rattle.cil_specs.specs.Trees.{Trees};
-ghost use Rattle.cil_reader.specs.Common.{tree_then, trees_of};
+ghost use Rattle.cil_reader.specs.Common.{trees_of};
 ghost use Rattle.cil_projection.specs.Pieces.{pieces_of};
 ghost use Rattle.cil_projection.specs.Forms.{Adds};
-ghost use Rattle.cil_projection.specs.Statements.{of_first_list, rule_needs, rules, rules_need, type_rule_needs};
+ghost use Rattle.cil_projection.specs.Statements.{rule_needs, rules, rules_need, type_rule_needs};
 ghost use Rattle.cil_specs.specs.Shape.{is_among};
 
 use crate::booleans::Booleans;
@@ -96,26 +95,6 @@ fn add_rule_needs<'a, A: Allocator + Copy>(
     Ok(true)
 }
 
-/// Adds the names that a rule in a branch needs, which is this tree.
-fn add_rule<'a, A: Allocator + Copy>(
-    pieces: &mut Vec<Piece<'a>, A>,
-    alloc: A,
-    stays: bool,
-    tree: Tree<'_, 'a>,
-) -> Result<bool, AllocError>
-    ensures { IfOk result (λ fits. (rest : Trees) → Adds pieces.old.items pieces.new.items fits
-        (of_first_list (rule_needs stays) (tree_then tree.entry rest))) }
-{
-    let Tree::List { items, .. } = tree else {
-        return Ok(false);
-    };
-    let Some((word, arguments)) = split_word(items) else {
-        return Ok(false);
-    };
-    let fits = add_rule_needs(pieces, alloc, stays, word.text, arguments)?;
-    Ok(fits)
-}
-
 /// Adds the names that the rules of a branch need.
 fn add_rules<'a, A: Allocator + Copy>(
     pieces: &mut Vec<Piece<'a>, A>,
@@ -128,7 +107,13 @@ fn add_rules<'a, A: Allocator + Copy>(
 {
     let mut rest = rules;
     while let Some((tree, behind)) = rest.split_first() {
-        if !add_rule(pieces, alloc, stay, tree)? {
+        let Tree::List { items, .. } = tree else {
+            return Ok(false);
+        };
+        let Some((word, arguments)) = split_word(items) else {
+            return Ok(false);
+        };
+        if !add_rule_needs(pieces, alloc, stay, word.text, arguments)? {
             return Ok(false);
         }
         rest = behind;

@@ -15,11 +15,10 @@ pub fn split_word<'t, 'a>(trees: TreeSlice<'t, 'a>) -> Option<(Word<'a>, TreeSli
         ((word : SpecWord) (rest : Trees) → trees_of trees.entry ≢ put_word word rest)
         (λ found. trees_of trees.entry ≡ put_word (word_of found.0) (trees_of found.1)) }
 {
-    let (first, rest) = trees.split_first()?;
-    let Tree::Word(word) = first else {
-        return None;
-    };
-    Some((word, rest))
+    match trees.split_first()? {
+        (Tree::Word(word), rest) => Some((word, rest)),
+        _ => None,
+    }
 }
 
 /// The trees of the list in front, and the trees behind it.
@@ -30,9 +29,8 @@ pub fn split_list<'t, 'a>(
         ((items rest : Trees) → IsListThen (trees_of trees.entry) items rest → ⊥)
         (λ found. IsListThen (trees_of trees.entry) (trees_of found.0) (trees_of found.1)) }
 {
-    let (first, rest) = trees.split_first()?;
-    let Tree::List { items, .. } = first else {
-        return None;
-    };
-    Some((items, rest))
+    match trees.split_first()? {
+        (Tree::List { items, .. }, rest) => Some((items, rest)),
+        _ => None,
+    }
 }

@@ -6,15 +6,6 @@ use Rattle.cil_projection.specs.Conditions.{settings_of, values}
 use Rattle.cil_projection.proofs.ValueLemmas.{CompletesValues}
 use Rattle.cil_projection.proofs.condition.+condition.Given as goal
 
-abbrev pub decreases-list_value : goal.decreases-list_value
-decreases-list_value g l = 3 * tree_size (trees_of l.items) + 2
-
-abbrev pub decreases-applied_value : goal.decreases-applied_value
-decreases-applied_value g l = 3 * tree_size (trees_of l.operands) + 2
-
-abbrev pub decreases-value : goal.decreases-value
-decreases-value g l = 3 * tree_size (tree_then l.tree none)
-
 abbrev pub decreases-add_values : goal.decreases-add_values
 decreases-add_values g l = 3 * tree_size (trees_of l.trees) + 1
 
@@ -26,3 +17,12 @@ invariant-add_values-loop-tree g l = record {
 
 abbrev pub decreases-add_values-loop-tree : goal.decreases-add_values-loop-tree
 decreases-add_values-loop-tree g l = tree_size (trees_of l.rest)
+
+abbrev pub decreases-list_value : goal.decreases-list_value
+decreases-list_value g l = 3 * tree_size (trees_of l.items) + 2
+
+abbrev pub decreases-applied_value : goal.decreases-applied_value
+decreases-applied_value g l = 3 * tree_size (trees_of l.operands) + 2
+
+abbrev pub decreases-value : goal.decreases-value
+decreases-value g l = 3 * tree_size (tree_then l.tree none)

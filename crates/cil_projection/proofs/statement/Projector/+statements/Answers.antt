@@ -11,17 +11,15 @@ use Rattle.cil_projection.proofs.statement.Projector.+statements.Goals as goal
 
 pub add_one-returns-in_default : goal.add_one-returns-in_default
 add_one-returns-in_default g t c =
-    let from = c.args.span.from in
-    let to = c.args.span.to in
-    let is = without_word_is (copied from to ∷ []) (one_projected (settings_of c.args.self.now.booleans.now) from to) refl (λ at text more. refl) (λ at end inner more. refl) (trees_of c.args.items) c.in_default.ensures in
-    rw is c.add_copied.ensures
+    let span = c.args.span in
+    let there = one_projected (settings_of c.args.self.now.booleans.now) span.from span.to in
+    rw (without_word_is (copied span.from span.to ∷ []) there refl (λ at text more. refl) (λ at end inner more. refl) (trees_of c.args.items) c.in_default.ensures) c.add_copied.ensures
 
 pub add_body-returns-in_default : goal.add_body-returns-in_default
 add_body-returns-in_default g t c =
-    let from = c.args.span.from in
-    let to = c.args.span.to in
-    let is = without_word_is (copied from to ∷ []) (body_projected (settings_of c.args.self.now.booleans.now) from to) refl (λ at text more. refl) (λ at end inner more. refl) (trees_of c.args.arguments) c.in_default.ensures in
-    rw is c.add_copied.ensures
+    let span = c.args.span in
+    let there = body_projected (settings_of c.args.self.now.booleans.now) span.from span.to in
+    rw (without_word_is (copied span.from span.to ∷ []) there refl (λ at text more. refl) (λ at end inner more. refl) (trees_of c.args.arguments) c.in_default.ensures) c.add_copied.ensures
 
 pub add_branch-returns-in_default : goal.add_branch-returns-in_default
 add_branch-returns-in_default g t c =
