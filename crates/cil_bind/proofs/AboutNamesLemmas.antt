@@ -2,7 +2,7 @@
 use Rattle.cil_bind.proofs.Common.{◌≡◌, ℕ, zero, suc, ◌+◌, ◌<◌, Bool, true, false, if◌then◌else◌, List, [], ◌∷◌, ◌++◌, length, take, get_or, Some, refl, sym, ap, ◌∙◌, subst, arith, true≢false, length-map, slice_get_within, get_or_from_slice_get, AreRows, HaveDeclared, IsOnce, Key, Placed, Row, StatementKind, declares_name, kinds_told}
 use Rattle.std.proofs.Common.{slice_get}
 use Rattle.cil_parse.specs.declared.row.StatementKind.TheVariants as kinds
-use Rattle.cil_bind.specs.AboutNames.{is_about_names, name_places, after_places}
+use Rattle.cil_bind.specs.AboutNames.{is_about_names, name_places}
 use Rattle.cil_bind.proofs.PositionLemmas.{take-last, take-length}
 use Rattle.cil_bind.proofs.DeclareLemmas.{kind-told, taken-next, taken-nothing}
 use Rattle.cil_bind.proofs.ScopeLemmas.{kind-nothing}
@@ -45,6 +45,11 @@ place-within n (kind ∷ kinds) k low = by (place-within (n + 1) kinds) (is_abou
     by behind true zero low = omega arith
     by behind true (suc k) low = let less = behind k (omega (arith, low)) in omega (arith, less)
     by behind false k low = let less = behind k low in omega (arith, less)
+
+-- the place after so many of the places; after none the first place of all
+abbrev pub after_places : ℕ → List ℕ → ℕ → ℕ
+after_places n places zero = n
+after_places n places (suc k) = get_or places k 0 + 1
 
 -- a property of places that stays behind each statement that isn't about names
 abbrev pub StaysOver : (ℕ → Type 0) → ℕ → List StatementKind → Type 0

@@ -6,6 +6,7 @@ use Rattle.cil_specs.specs.PolicyFault.{twice, is_again, twice_words}
 use Rattle.cil_parse.specs.declared.table.Table as code
 use Rattle.cil_parse.specs.declared.table.Table.TheVariants.{Types, Classes, Commons, PermissionSets, Scopes}
 use Rattle.cil_lookup.proofs.NamespaceLemmas.{bytes_eq-refl, bytes_eq-true, distinct-place}
+use Rattle.cil_bind.proofs.PlaceLemmas.{get-there}
 use Rattle.cil_bind.proofs.PositionLemmas.{at_if, is_before, any-before, any-position, position-append, around-at, take-length, take-next}
 
 pub same-bool : (a b : Bool) → (a ≡ true → b ≡ true) → (b ≡ true → a ≡ true) → a ≡ b
@@ -273,11 +274,6 @@ get-front [] (suc i) j x at = absurd (none-some x at)
 get-front (y ∷ xs) zero j x at = absurd (none-some x at)
 get-front (y ∷ xs) (suc i) zero x at = at
 get-front (y ∷ xs) (suc i) (suc j) x at = get-front xs i j x at
-
-get-there : {X : Type 0} (xs : List X) (i : ℕ) → i < length xs → (x : X) × (slice_get xs i ≡ Some x)
-get-there [] i low = absurd (omega arith)
-get-there (x ∷ xs) zero low = (x, refl)
-get-there (x ∷ xs) (suc i) low = get-there xs i (omega arith)
 
 -- the place of the first that declares the name of a statement, in the entries
 known : (names spaces : List (List ℕ)) (before : List Placed) (s : Placed) (table : code.Table) (n v : ℕ) (w : Word) (entries : List (Key × ℕ)) → HaveDeclared names spaces entries before → n < length spaces → v < length names

@@ -1,5 +1,5 @@
 -- The statements that are about names: all but rules and set statements, which most are.
-use Rattle.std.specs.Prelude.{ℕ, zero, suc, ◌+◌, Bool, true, false, List, [], ◌∷◌, slice_index_or, if◌then◌else◌}
+use Rattle.std.specs.Prelude.{ℕ, ◌+◌, Bool, true, false, List, [], ◌∷◌, if◌then◌else◌}
 use Rattle.cil_parse.specs.declared.row.StatementKind.{StatementKind}
 use Rattle.cil_parse.specs.declared.row.StatementKind.TheVariants as kinds
 
@@ -16,8 +16,3 @@ is_about_names _ = true
 abbrev pub name_places : ℕ → List StatementKind → List ℕ
 name_places n [] = []
 name_places n (kind ∷ kinds) = if is_about_names kind then n ∷ name_places (n + 1) kinds else name_places (n + 1) kinds
-
--- the place after so many of the places; after none the first place of all
-abbrev pub after_places : ℕ → List ℕ → ℕ → ℕ
-after_places n places zero = n
-after_places n places (suc k) = slice_index_or places k 0 + 1

@@ -6,8 +6,8 @@ ghost use Rattle.cil_bind.specs.AboutNames.{is_about_names as is_about_names_kin
 use cil_parse::StatementKind;
 use std::alloc::{AllocError, Allocator};
 
-/// Whether statements of a kind are about names: they declare one, or say what one stands for or
-/// has. Most statements are of other kinds.
+/// Whether statements of a kind are about names. All are but rules and set statements, of which a
+/// policy has most.
 fn is_about_names(kind: StatementKind) -> bool
     ensures { result ≡ is_about_names_kind kind }
 {

@@ -79,7 +79,7 @@ pub enum Declared<A: Allocator = Global> {
 }
 
 impl<A: Allocator + Copy> Declarations<A> {
-    /// What rows declare, with room for so many names. Those about names have these places.
+    /// What rows declare, with room for so many names. The rows about names have these places.
     pub fn of(
         alloc: A,
         room: usize,
@@ -103,7 +103,7 @@ impl<A: Allocator + Copy> Declarations<A> {
         Ok(Declared::Once(declarations))
     }
 
-    /// What rows declare that are known to declare each name once, with room for so many names. Those about names have these places.
+    /// What rows declare that are known to declare each name once, with room for so many names. The rows about names have these places.
     pub fn of_once(alloc: A, room: usize, rows: &[Row], places: &[u32]) -> Result<Self, AllocError>
         requires few { length rows.now < 2 ^ 32 }
         requires places { places.now ≡ name_places 0 (kinds_told rows.now) }

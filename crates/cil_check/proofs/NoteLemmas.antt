@@ -3,9 +3,9 @@ use Rattle.cil_check.proofs.Common.{◌≡◌, ℕ, ◌+◌, ◌<◌, false, ari
 use Rattle.std.proofs.Common.{slice_get}
 use Rattle.cil_parse.specs.declared.row.StatementKind.{StatementKind}
 use Rattle.cil_parse.specs.declared.row.StatementKind.TheVariants as kinds
-use Rattle.cil_bind.specs.AboutNames.{after_places, is_about_names, name_places}
+use Rattle.cil_bind.specs.AboutNames.{is_about_names, name_places}
 use Rattle.cil_bind.specs.Binding.{kinds_of}
-use Rattle.cil_bind.proofs.AboutNamesLemmas.{StaysAt, to-end}
+use Rattle.cil_bind.proofs.AboutNamesLemmas.{after_places, StaysAt, to-end}
 use Rattle.cil_bind.proofs.BindingLemmas.{kind-at}
 use Rattle.cil_check.proofs.AskedLemmas.{none-lead}
 use Rattle.cil_check.proofs.FirstsLemmas.{firsts-next}

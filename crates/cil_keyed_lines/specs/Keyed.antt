@@ -17,7 +17,8 @@ is_kind kind other = kind_index (rule_kind_of kind) == kind_index (rule_kind_of 
 
 -- whether two keys are the same
 abbrev pub is_key : SymbolKey → SymbolKey → Bool
-is_key key other = is_kind key.kind other.kind && ((key.source == other.source) && (key.class == other.class && key.permission == other.permission))
+is_key key other = is_kind key.kind other.kind
+    && ((key.source == other.source) && (key.class == other.class && key.permission == other.permission))
 
 -- the keys with one that stands last if it is new
 abbrev pub with_key : List SymbolKey → SymbolKey → List SymbolKey
@@ -73,7 +74,8 @@ pub record AreLines (n : Naming) (s : State) : Type 0 where
 abbrev pub AreCounted : Naming → State → Type 0
 AreCounted n s = (p : ℕ) → name_now n p ≢ 0 → HasCount s (name_now n p)
 
--- Before the steps there were so many places and so many lines, and each of these places named a line with a counter above 0.
+-- Before the steps there were so many places and so many lines, and each of these places named a line with a counter
+-- above 0.
 pub record AreKept (n : Naming) (s : State) (places lines : ℕ) : Type 0 where
   pub came : (p : ℕ) → places ≤ p → name_before n p ≡ 0
   pub within : (p : ℕ) → name_before n p ≢ 0 → name_before n p < lines

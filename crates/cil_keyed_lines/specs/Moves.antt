@@ -29,8 +29,10 @@ in_line line amount l t = if l == line then amount t else 0
 
 -- what comes in the words from one on can be raised without memory
 abbrev pub HasRoomFrom : State → ℕ → List Moved → ℕ → Type 0
-HasRoomFrom s line moved from = (i : ℕ) → from ≤ i → i < length moved → CanRaise (count_now s line) (limit_now s line) (move_at moved i).word (move_at moved i).come
+HasRoomFrom s line moved from = (i : ℕ) → from ≤ i → i < length moved
+    → CanRaise (count_now s line) (limit_now s line) (move_at moved i).word (move_at moved i).come
 
 -- and in those before it
 abbrev pub HasRoomTo : State → ℕ → List Moved → ℕ → Type 0
-HasRoomTo s line moved to = (i : ℕ) → i < to → i < length moved → CanRaise (count_now s line) (limit_now s line) (move_at moved i).word (move_at moved i).come
+HasRoomTo s line moved to = (i : ℕ) → i < to → i < length moved
+    → CanRaise (count_now s line) (limit_now s line) (move_at moved i).word (move_at moved i).come

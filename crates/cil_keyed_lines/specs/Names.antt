@@ -4,8 +4,8 @@ use Rattle.std.specs.List.{list_any, All}
 use Rattle.cil_keyed_lines.specs.declared.named.Named.{Named}
 use Rattle.cil_keyed_lines.specs.declared.names.Rename.{Rename}
 
--- the line that each place names, how many lines there are, the places that changed their line from the oldest change on, and how many more
--- changes can be logged without memory
+-- the line that each place names, how many lines there are, the places that changed their line from the oldest change
+-- on, and how many more changes can be logged without memory
 pub record Naming : Type 0 where
   pub named : List ℕ
   pub lines : ℕ

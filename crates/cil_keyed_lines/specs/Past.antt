@@ -60,7 +60,8 @@ IsSplit changes l word = IsPartitionPoint (λ c. is_before l word c ≡ true) (�
 -- the bits of a change are those of a word of a line
 abbrev pub AreBits : List Change → (l word : ℕ) → Change → Type 0
 AreBits changes l word c = (b : ℕ) → b < 64
-    → (bit_at c.appeared b ≡ appeared_at changes l (64 * word + b)) × (bit_at c.gone b ≡ gone_at changes l (64 * word + b))
+    → (bit_at c.appeared b ≡ appeared_at changes l (64 * word + b))
+    × (bit_at c.gone b ≡ gone_at changes l (64 * word + b))
 
 -- each line of a change is marked
 abbrev pub AreMarked : List Bool → List Change → Type 0
@@ -70,8 +71,10 @@ AreMarked marks changes = (l : ℕ) → slice_index_or marks l false ≡ false �
 pub record AreTurns (changes : List Change) (s : State) : Type 0 where
   pub order : Ascends change_key 0 changes
   pub short : All (λ c. c.word < 2 ^ 64) changes
-  pub appeared : (l t : ℕ) → appeared_at changes l t ≡ min 1 (recorded.count_now s l t) - min 1 (recorded.count_before s l t)
-  pub gone : (l t : ℕ) → gone_at changes l t ≡ min 1 (recorded.count_before s l t) - min 1 (recorded.count_now s l t)
+  pub appeared : (l t : ℕ)
+      → appeared_at changes l t ≡ min 1 (recorded.count_now s l t) - min 1 (recorded.count_before s l t)
+  pub gone : (l t : ℕ)
+      → gone_at changes l t ≡ min 1 (recorded.count_before s l t) - min 1 (recorded.count_now s l t)
 
 -- the lines that turned are told, and the line that each place named
 pub record IsPast {A : Type 0} (k : Keyed) (past : Past A) : Type 0 where
@@ -79,16 +82,18 @@ pub record IsPast {A : Type 0} (k : Keyed) (past : Past A) : Type 0 where
   pub marked : AreMarked past.has_turned.items past.turned.items
   pub named : (i : ℕ) → slice_index past.named.items i ≡ name_before k.names i
 
--- a place names the line that it named, and the changes of it from a word on begin at one of the list
+-- a place names the line that it named before, and the changes of that line from a word on begin at this index
 pub record AreOwnFrom {A : Type 0} (k : Keyed) (past : Past A) (i from at : ℕ) : Type 0 where
   pub own : name_before k.names i ≡ name_now k.names i
   pub split : IsSplit past.turned.items (name_now k.names i) from at
 
--- a change there is of the next word of the place in which a target turned, and tells which did
+-- the change is of the next word of the place in which a target may have turned, and tells which did
 pub record IsOwnTurn {A : Type 0} (k : Keyed) (past : Past A) (i from at : ℕ) (c : Change) : Type 0 where
   pub next : IsNextTurned k i from c.word
-  pub appeared : (b : ℕ) → b < 64 → bit_at c.appeared b ≡ min 1 (now_at k i (64 * c.word + b)) - min 1 (before_at k i (64 * c.word + b))
-  pub gone : (b : ℕ) → b < 64 → bit_at c.gone b ≡ min 1 (before_at k i (64 * c.word + b)) - min 1 (now_at k i (64 * c.word + b))
+  pub appeared : (b : ℕ) → b < 64
+      → bit_at c.appeared b ≡ min 1 (now_at k i (64 * c.word + b)) - min 1 (before_at k i (64 * c.word + b))
+  pub gone : (b : ℕ) → b < 64
+      → bit_at c.gone b ≡ min 1 (before_at k i (64 * c.word + b)) - min 1 (now_at k i (64 * c.word + b))
   pub within : at < length past.turned.items
   pub room : at + 1 < 2 ^ 64
   pub behind : c.word + 1 < 2 ^ 64 → AreOwnFrom k past i (c.word + 1) (at + 1)

@@ -66,7 +66,8 @@ fn push_moved<A: Allocator>(
     Ok(())
 }
 
-/// The lines of the types that are the targets before and after, where both are some types.
+/// The line that the targets before stand in and that of the targets now, or none where either
+/// stand in no line.
 fn lines_of<'t, A: Allocator>(
     was: &'t Targets<A>,
     is: &'t Targets<A>,

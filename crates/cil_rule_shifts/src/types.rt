@@ -58,7 +58,7 @@ impl<A: Allocator> Types<A> {
         }
     }
 
-    /// The line of the types, where it is not one alone.
+    /// The line that the types stand in. A type alone stands in none.
     pub fn line(&self) -> Option<&Line<A>>
         ensures { IfSome result (λ line. (t : ℕ) → has_type self.now t ≡ is_present line.now t) }
     {

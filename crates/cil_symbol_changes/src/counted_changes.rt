@@ -74,8 +74,8 @@ impl ChangeCounts {
     }
 }
 
-/// How many targets appeared and how many went of a place that names the line that it named: the changes of this are gone along from the
-/// first.
+/// How many targets of a place appeared and how many went, where it names the line that it named before: by the changes of this line, from
+/// the first on.
 fn own_counts<A: Allocator>(
     lines: &KeyedLines<A>,
     past: &Past<A>,

@@ -1,11 +1,12 @@
 //! What stood before the steps.
 
-ghost use Rattle.std.specs.Prelude.{◌≡◌, ◌≢◌, ◌+◌, ◌-◌, ◌/◌, ◌^◌, ◌<◌, ◌≤◌, ◌==◌, ℕ, ⊤, false, true, length, min, nat_lt, slice_index, slice_index_or, if◌then◌else◌, IfOk, IsTrue, MatchOption, OnErr, OnOk};
+ghost use Rattle.std.specs.Prelude.{◌≡◌, ◌≢◌, ◌+◌, ◌-◌, ◌/◌, ◌^◌, ◌<◌, ◌≤◌, ◌==◌, ℕ, false, true, length, min, nat_lt, slice_index, slice_index_or, if◌then◌else◌, IfOk, IsTrue, MatchOption, OnErr, OnOk};
 ghost use Rattle.std.specs.List.{All};
 ghost use Rattle.cil_lines.specs.Line.{IsPresence};
 ghost use Rattle.cil_recorded.specs.Differences.{appeared_at, change_key, gone_at, key_of, Ascends};
 ghost use Rattle.cil_recorded.specs.Recorded as recorded;
 ghost use Rattle.cil_keyed_lines.specs.Keyed.{before_at, now_at};
+ghost use Rattle.cil_keyed_lines.specs.Names.{name_before, name_now};
 ghost use Rattle.cil_keyed_lines.specs.Past.{is_before, turns_at, AreAlike, AreBits, AreMarked, AreOwnFrom, AreTurns, IsBelow, IsFrom, IsNextTurn, IsNextTurned, IsOwnTurn, IsPast, IsSplit, NoTurn, NoneTurned};
 
 use crate::keyed_lines::KeyedLines;
@@ -248,7 +249,9 @@ impl<A: Allocator> KeyedLines<A> {
     /// Where the changes of the line of a place begin, if the place named that line before the steps too.
     pub fn first_turn(&self, past: &Past<A>, place: usize) -> Option<usize>
         requires { IsPast self.now past.now }
-        ensures { MatchOption result ⊤ (AreOwnFrom self.now past.now place 0) }
+        ensures { MatchOption result
+            (name_before self.now.names place ≢ name_now self.now.names place)
+            (AreOwnFrom self.now past.now place 0) }
     {
         let line = self.line_of(place);
         if line != past.line(place) {
@@ -257,7 +260,7 @@ impl<A: Allocator> KeyedLines<A> {
         Some(first(&past.turned, line, 0))
     }
 
-    /// The change that stands so far behind the first, if it is one of the line of a place.
+    /// The change at an index of the list of changes, if it is of the line of a place.
     pub fn own_turn(&self, past: &Past<A>, place: usize, at: usize) -> Option<Change>
         requires { IsPast self.now past.now }
         ensures { (from : ℕ) → from < 2 ^ 64 → AreOwnFrom self.now past.now place from at

@@ -1,6 +1,5 @@
 use Rattle.cil_optionals.proofs.Common.{◌≡◌, ◌<◌, ◌+◌, ◌≤◌, ◌∙◌, length, get_or, rules, sym, ap, subst, arith, add-one, rows-length, AreProviders, IsUpTo}
-use Rattle.cil_bind.specs.AboutNames.{after_places}
-use Rattle.cil_bind.proofs.AboutNamesLemmas.{place-there, to-place, to-end}
+use Rattle.cil_bind.proofs.AboutNamesLemmas.{after_places, place-there, to-place, to-end}
 use Rattle.cil_optionals.proofs.AsksLemmas.{kinds-long}
 use Rattle.cil_optionals.proofs.PermissionLemmas.{upto-all}
 use Rattle.cil_optionals.proofs.ProviderLemmas.{statement-at}

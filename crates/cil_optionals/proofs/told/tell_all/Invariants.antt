@@ -1,5 +1,5 @@
 use Rattle.cil_optionals.proofs.Common.{List, Placed, AreProviders, IsUpTo, IsInverse, IsReady}
-use Rattle.cil_bind.specs.AboutNames.{after_places}
+use Rattle.cil_bind.proofs.AboutNamesLemmas.{after_places}
 use Rattle.cil_optionals.proofs.told.tell_all.Given as goal
 
 -- so many statements about names are gone over

@@ -1,7 +1,6 @@
 use Rattle.cil_bind.proofs.Common.{◌≡◌, ◌+◌, length, get_or, sym, ap, subst, arith, add-one, length-map, HaveDeclared, IsOnce, kinds_told}
-use Rattle.cil_bind.specs.AboutNames.{after_places}
 use Rattle.cil_bind.proofs.DeclareLemmas.{taken-next, taken-twice, none-taken, all-taken}
-use Rattle.cil_bind.proofs.AboutNamesLemmas.{IsDeclaredTo, declared-over, place-there, to-place, to-end}
+use Rattle.cil_bind.proofs.AboutNamesLemmas.{after_places, IsDeclaredTo, declared-over, place-there, to-place, to-end}
 use Rattle.cil_bind.proofs.declarations.Declarations.of.Goals as goal
 
 pub loop-k-init : goal.loop-k-init

@@ -1,5 +1,5 @@
 use Rattle.cil_bind.proofs.Common.{List, ℕ, take, Placed, HaveDeclared, AreRows, AreNumbered, IsOnce}
-use Rattle.cil_bind.specs.AboutNames.{after_places}
+use Rattle.cil_bind.proofs.AboutNamesLemmas.{after_places}
 use Rattle.cil_bind.proofs.declarations.Declarations.of.Given as goal
 
 -- no name is declared twice so far, and the entries have what is declared

@@ -1,7 +1,6 @@
 use Rattle.cil_bind.proofs.Common.{◌≡◌, ◌+◌, length, take, get_or, sym, ap, subst, arith, add-one, length-map, HaveDeclared, kinds_told}
-use Rattle.cil_bind.specs.AboutNames.{after_places}
 use Rattle.cil_bind.proofs.DeclareLemmas.{once-front, taken-once, none-taken, all-taken}
-use Rattle.cil_bind.proofs.AboutNamesLemmas.{IsDeclaredTo, declared-over, place-there, to-place, to-end}
+use Rattle.cil_bind.proofs.AboutNamesLemmas.{after_places, IsDeclaredTo, declared-over, place-there, to-place, to-end}
 use Rattle.cil_bind.proofs.declarations.Declarations.of_once.Goals as goal
 
 pub loop-k-init : goal.loop-k-init

@@ -1,5 +1,5 @@
 use Rattle.cil_bind.proofs.Common.{List, ℕ, take, Placed, HaveDeclared, AreRows, AreNumbered, IsOnce}
-use Rattle.cil_bind.specs.AboutNames.{after_places}
+use Rattle.cil_bind.proofs.AboutNamesLemmas.{after_places}
 use Rattle.cil_bind.proofs.declarations.Declarations.of_once.Given as goal
 
 -- the entries have what is declared so far

@@ -1,6 +1,6 @@
 use Rattle.cil_check.proofs.Common.{◌≡◌, get_or, length, sym, ap, subst, ◌∙◌, arith, add-one}
-use Rattle.cil_bind.specs.AboutNames.{after_places, name_places}
-use Rattle.cil_bind.proofs.AboutNamesLemmas.{to-place, to-end}
+use Rattle.cil_bind.specs.AboutNames.{name_places}
+use Rattle.cil_bind.proofs.AboutNamesLemmas.{after_places, to-place, to-end}
 use Rattle.cil_check.proofs.SoundLemmas.{AreSoundTo, sound-behind, sound-stays}
 use Rattle.cil_check.proofs.checker.Checker.have_actuals.Goals as goal
 

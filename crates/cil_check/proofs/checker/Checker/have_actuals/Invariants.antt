@@ -1,4 +1,4 @@
-use Rattle.cil_bind.specs.AboutNames.{after_places}
+use Rattle.cil_bind.proofs.AboutNamesLemmas.{after_places}
 use Rattle.cil_check.proofs.SoundLemmas.{AreSoundTo}
 use Rattle.cil_check.proofs.checker.Checker.have_actuals.Given as goal
 

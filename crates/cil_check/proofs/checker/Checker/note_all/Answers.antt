@@ -1,8 +1,8 @@
 use Rattle.cil_check.proofs.Common.{◌≡◌, ℕ, ◌<◌, ◌||◌, Bool, true, false, List, length, get_or, refl, sym, ap, ◌∙◌, subst, arith, add-one, length-map, true≢false, Some, Placed, IsOf, kind_of, given_kind, first_at, Actual, Common}
 use Rattle.std.proofs.Common.{slice_get}
-use Rattle.cil_bind.specs.AboutNames.{after_places, name_places}
+use Rattle.cil_bind.specs.AboutNames.{name_places}
 use Rattle.cil_bind.specs.Binding.{kinds_of}
-use Rattle.cil_bind.proofs.AboutNamesLemmas.{place-there, to-place}
+use Rattle.cil_bind.proofs.AboutNamesLemmas.{after_places, place-there, to-place}
 use Rattle.cil_check.proofs.InheritedLemmas.{inherited-first}
 use Rattle.cil_check.proofs.NoteLemmas.{IsNotedTo, noted-end, noted-over, noted-stays}
 use Rattle.cil_check.proofs.SeenLemmas.{there-at}

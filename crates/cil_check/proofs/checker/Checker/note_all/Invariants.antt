@@ -1,5 +1,5 @@
 use Rattle.cil_check.proofs.Common.{◌≡◌, List, length, Placed, IsOf}
-use Rattle.cil_bind.specs.AboutNames.{after_places}
+use Rattle.cil_bind.proofs.AboutNamesLemmas.{after_places}
 use Rattle.cil_check.proofs.NoteLemmas.{IsNotedTo}
 use Rattle.cil_check.proofs.checker.Checker.note_all.Given as goal
 
