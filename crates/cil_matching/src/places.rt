@@ -6,7 +6,7 @@ use cil_bind::Lead;
 use cil_names::in_32_bits;
 use std::alloc::{AllocError, Allocator};
 
-/// A lead to a place, or nowhere. A place that 32 bits don't hold is answered as out of memory.
+/// A lead to a place, or nowhere. A place of 4294967295 or more is answered as out of memory.
 #[inline(always)]
 pub fn lead_to(place: Option<usize>) -> Result<Lead, AllocError>
     ensures { IfOk result (λ lead. lead ≡ place) }

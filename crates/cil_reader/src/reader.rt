@@ -280,23 +280,22 @@ impl<'a, A: Allocator + Copy> Reader<'a, A> {
         ensures err { IfErr result (IsStopped self.old) }
     {
         let b = self.text[self.at.offset as usize];
+        if is_word_byte(b) {
+            self.take_word()?;
+            return Ok(());
+        }
         if is_white(b) {
             self.skip_white();
             return Ok(());
         }
-        if is_word_byte(b) {
-            return self.take_word();
-        }
         match b {
-            b';' => {
-                self.skip_comment();
-                Ok(())
-            }
-            b'"' => self.take_string(),
-            b'(' => self.open(),
-            b')' => self.close(),
-            _ => Err(self.fault(TextFaultKind::BadByte, ShownWord::Byte(b))),
+            b'(' => self.open()?,
+            b')' => self.close()?,
+            b';' => self.skip_comment(),
+            b'"' => self.take_string()?,
+            _ => return Err(self.fault(TextFaultKind::BadByte, ShownWord::Byte(b))),
         }
+        Ok(())
     }
 }
 

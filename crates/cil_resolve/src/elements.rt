@@ -1,26 +1,15 @@
 //! What names of rules stand for.
 
-ghost use Rattle.std.specs.Prelude.{◌≡◌, ◌<◌, ℕ, List, Some, slice_get, slice_index_or, length, is_some, IfOk, IsTrue};
+ghost use Rattle.std.specs.Prelude.{◌≡◌, ◌<◌, ℕ, List, Some, slice_get, length, is_some, IfOk, IsTrue};
 ghost use Rattle.cil_resolve.specs.Common.{Word, Placed, IsLead, IsFirstOf, IsOf, IsNoted, IsFaultless, IsElement, HaveElements, is_set, AreNaming, HavePlaces};
 ghost use Rattle.cil_specs.specs.Lookup.{Table, types, leads, references, actual_statement, actual_of as actual_led};
 ghost use Rattle.cil_specs.specs.Rule.{element_at as element_led};
-ghost use Rattle.cil_expression.specs.declared.expression.Element.TheVariants.{«Type»};
 
 use crate::words::number_at;
 use cil_check::{BoundPolicy, Checker};
 use cil_expression::Element;
 use cil_parse::StatementKind;
 use std::alloc::{AllocError, Allocator};
-
-/// The element of a place, and that of the number 0 past the end.
-pub fn element_in(elements: &[Element], place: usize) -> Element
-    ensures { result ≡ slice_index_or elements.now place («Type» 0) }
-{
-    match elements.get(place) {
-        Some(element) => *element,
-        None => Element::Type(0),
-    }
-}
 
 /// The place that a reference of the statement of a place leads to.
 pub fn lead_at<A: Allocator>(bound: &BoundPolicy<'_, '_, A>, place: u32, k: usize) -> Option<u32>
@@ -70,7 +59,8 @@ pub fn elements<A: Allocator + Copy>(
     requires { (policy : List Placed) × IsNoted checker.now policy × AreNaming policy naming.now }
     ensures long { IfOk result (λ elements. (policy : List Placed) → IsNoted checker.now policy
         → length elements.items ≡ length policy) }
-    ensures have { IfOk result (λ elements. (names : List (List ℕ)) (policy : List Placed) → IsNoted checker.now policy → IsFaultless policy → AreNaming policy naming.now
+    ensures have { IfOk result (λ elements. (names : List (List ℕ)) (policy : List Placed)
+        → IsNoted checker.now policy → IsFaultless policy → AreNaming policy naming.now
         → HavePlaces names policy places.now → HaveElements names policy elements.items) }
 {
     let mut elements = vec![in alloc; Element::Type(0); checker.bound.len()]?;

@@ -5,7 +5,6 @@ ghost use Rattle.cil_resolve.specs.Common.{Word, Placed, types, classes, permiss
 ghost use Rattle.cil_specs.specs.PolicyFault.{element_words};
 ghost use Rattle.cil_specs.specs.Rule.{element_of as element_led, class_name, is_class, name_or_none, permission_sets_of};
 
-use crate::elements::element_in;
 use crate::given_sets::GivenSets;
 use crate::known_permissions::KnownPermissions;
 use crate::naming::{Naming, Room};
@@ -83,7 +82,7 @@ impl<'l, 'p, 'm, A: Allocator + Copy> Lowering<'l, 'p, 'm, A> {
         ensures { (policy : List Placed) (s : Placed) (word : Word) → IsIn self.now seen.now policy s → slice_get (references s.form) k ≡ Some (types, word) → Contains (element_words s.form) word
             → IsElement self.now.numbering.now.names.items result (element_led policy s.namespace word) }
     {
-        element_in(self.elements, self.place(seen, k))
+        self.elements[self.place(seen, k)]
     }
 
     /// The number of the class, or of the permission set, that a reference of a statement leads to.

@@ -160,7 +160,10 @@ fn place_numbers<A: Allocator + Copy>(
     requires is { (policy : List Placed) × IsOf bound.now policy × AreNaming policy naming.now × (full_names.now.0 ≡ map full_name_of (naming_in policy)) × AreNamesOf policy names.now }
     ensures long { IfOk result (λ places. (policy : List Placed) → IsOf bound.now policy
         → length places.items ≡ length policy) }
-    ensures have { IfOk result (λ places. (policy : List Placed) → IsOf bound.now policy → AreNaming policy naming.now → full_names.now.0 ≡ map full_name_of (naming_in policy) → HavePlaces names.now policy places.items) }
+    ensures have { IfOk result (λ places. (policy : List Placed)
+        → IsOf bound.now policy → AreNaming policy naming.now
+        → full_names.now.0 ≡ map full_name_of (naming_in policy)
+        → HavePlaces names.now policy places.items) }
 {
     let mut places = vec![in alloc; 0; bound.len()]?;
     for k in 0..naming.len() {

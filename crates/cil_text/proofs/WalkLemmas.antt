@@ -1,11 +1,12 @@
 -- Statements one after the other, and the first fault among them.
-use Rattle.cil_text.proofs.Common.{◌≡◌, ℕ, ◌+◌, ◌-◌, ◌≤◌, inl, inr, Bool, ◌||◌, List, [], ◌∷◌, ◌++◌, refl, sym, ◌∙◌, ap, subst, IsTrue, arith, true≢false, TextFault, IsNoLater, Trees, none, a_list, are_lists, in_order, Form, is_optional, Statements, no_more, Fits, Shapes, IsShapeFault, IsInnerFault, first_word, OperandsFit, fits_begin, order_list, inner_fault_is, list_no_fault, inner_of_list, shapes_no_fault, fits_rise, fault_within, list_within, tree_then, statement_then, statements_of, form_of, body_of, HasBody, IsHeading, IsStatement, IsFaultOf, IsFirstOf, IsFirstAmong, Tree, Statement}
+use Rattle.cil_text.proofs.Common.{◌≡◌, ℕ, ◌+◌, ◌-◌, ◌≤◌, inl, inr, Bool, false, ◌||◌, List, [], ◌∷◌, ◌++◌, refl, sym, ◌∙◌, ap, subst, IsTrue, arith, true≢false, TextFault, IsNoLater, Trees, none, a_list, are_lists, in_order, Form, is_optional, Statements, no_more, Fits, Shapes, IsShapeFault, IsInnerFault, first_word, OperandsFit, fits_begin, order_list, inner_fault_is, list_no_fault, inner_of_list, shapes_no_fault, fits_rise, fault_within, list_within, tree_then, statement_then, statements_of, form_of, has_body, body_of, HasBody, IsHeading, IsStatement, IsFaultOf, IsFirstOf, IsFirstAmong, Tree, Statement}
 use Rattle.cil_specs.specs.Place.{Place}
 use Rattle.cil_specs.specs.Statements as spec
 use Rattle.cil_reader.specs.declared.place.Place as code_place
 use Rattle.cil_reader.specs.declared.tree.Tree.TheVariants.{Word, String, List as Listed}
 use Rattle.cil_reader.specs.declared.tree.TreeSlice.{TreeSlice}
 use Rattle.cil_reader.proofs.Nodes.{tree_size}
+use Rattle.cil_text.proofs.Bodies.{leaf_then}
 
 -- only blocks and optionals have inner statements
 body-is : (form : Form) (operands inner : Trees) (inside : Bool) (body : Statements) → OperandsFit operands form inner → Shapes inside inner body → body_of form body ≡ body
@@ -30,6 +31,18 @@ statement_is inside at parts inner s new body heading holds has =
       good = heading.good;
       holds = holds;
     }
+
+-- nothing is inside a form that may have nothing inside it
+leaf-inner : (operands inner : Trees) (form : Form) → has_body form ≡ false → OperandsFit operands form inner → inner ≡ none
+leaf-inner operands inner (spec.block id) leaf fits = absurd cc
+leaf-inner operands inner (spec.optional id) leaf fits = absurd cc
+leaf-inner operands inner _ leaf fits = fits.1
+
+-- a heading that may have no statements inside it is a statement
+pub leaf_is : {A : Type 0} → (inside : Bool) (at : Place) (parts inner : Trees) (s : Statement A) → IsHeading inside at parts s inner → has_body (form_of s) ≡ false → IsStatement inside at parts s
+leaf_is inside at parts inner s heading leaf =
+    let b = fits_begin parts (form_of s) inner heading.fits in
+    statement_is inside at parts inner s s [] heading (leaf-inner b.1 inner (form_of s) leaf b.3) (λ more. leaf_then s no_more more leaf)
 
 -- the first fault of the inner statements is that of the list
 pub inner_first : {A : Type 0} → (inside : Bool) (at : Place) (parts inner : Trees) (s : Statement A) (fault : TextFault) → IsHeading inside at parts s inner

@@ -1,6 +1,6 @@
 //! Recognising expressions of types and of permissions.
 
-ghost use Rattle.std.specs.Prelude.{◌≡◌, ℕ, IfOk, MatchOption};
+ghost use Rattle.std.specs.Prelude.{◌≡◌, ℕ, IfOk, MatchOption, bytes_eq, codes};
 ghost use Rattle.cil_text.specs.Common.{a_list, HasNoOperator, trees_of, tree_then, operator_word, AreExpressionList, SpellsExpr, SpellsElements, SpellsOperation, SpellsOne, SpellsTwo, BeginsOperation};
 ghost use Rattle.cil_specs.specs.Place.{Place as SpecPlace};
 
@@ -49,6 +49,14 @@ impl Operator {
     }
 }
 
+/// Whether it is the word that stands for all types or permissions.
+#[inline(always)]
+fn is_all(word: &[u8]) -> bool
+    ensures { result ≡ bytes_eq word.now (codes "all") }
+{
+    matches!(word, [b'a', b'l', b'l'])
+}
+
 /// The expression that a tree spells, if it spells one (CIL Reference Guide, "Expressions" and
 /// "typeattributeset"). That `all` and `()` are expressions too is this project's own choice.
 #[cycle(expression)]
@@ -60,7 +68,7 @@ pub fn expression<'a, A: Allocator + Copy>(
 {
     match tree {
         Tree::Word(word) => {
-            if word.text == b"all".as_slice() {
+            if is_all(word.text) {
                 Ok(Some(Expr::All))
             } else {
                 Ok(Some(Expr::Name(word)))

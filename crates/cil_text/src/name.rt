@@ -61,9 +61,9 @@ fn is_name(text: &[u8]) -> bool
     }
 }
 
-/// Whether it is one of the words that stand for no declared thing. Most names begin as none of them.
-#[inline(always)]
-fn is_reserved(name: &[u8]) -> bool
+/// Whether a name that begins as one of the words that stand for no declared thing is one of them.
+#[inline(never)]
+fn is_reserved_word(name: &[u8]) -> bool
     ensures { result ≡ is_reserved name.now }
 {
     match name {
@@ -72,6 +72,17 @@ fn is_reserved(name: &[u8]) -> bool
         [b'o', ..] => name == b"or".as_slice() || name == b"other".as_slice(),
         [b's', ..] => name == b"self".as_slice(),
         [b'x', ..] => name == b"xor".as_slice(),
+        _ => false,
+    }
+}
+
+/// Whether it is one of the words that stand for no declared thing. Most names begin as none of them.
+#[inline(always)]
+fn is_reserved(name: &[u8]) -> bool
+    ensures { result ≡ is_reserved name.now }
+{
+    match name {
+        [b'a' | b'n' | b'o' | b's' | b'x', ..] => is_reserved_word(name),
         _ => false,
     }
 }
@@ -114,6 +125,7 @@ fn reserved_fault(reserved: bool) -> Option<TextFaultKind>
 }
 
 // What is wrong with a word that is no single name.
+#[inline(never)]
 fn dotted_fault(role: Role, text: &[u8]) -> Option<TextFaultKind>
     ensures { kind_option result ≡ name_fault (role_of role) text.now }
 {

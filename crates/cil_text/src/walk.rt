@@ -136,6 +136,9 @@ fn statement<'a, A: Allocator + Copy>(
         (λ fault. FaultIs fault (IsFirstOf inside (place_of at) (trees_of items.entry))) }
 {
     let (statement, inner) = heading(alloc, inside, at, items)?;
+    if !holds_others(&statement) {
+        return Ok(statement);
+    }
     let body = statements(alloc, is_inside(inside, &statement), inner)?;
     Ok(with_body(statement, body))
 }

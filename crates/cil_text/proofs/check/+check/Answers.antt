@@ -4,14 +4,14 @@ use Rattle.cil_text.proofs.FirstBad.{GoesOn, goes_first, goes_more, checks_error
 use Rattle.cil_text.proofs.CheckLemmas.{of_expr, of_exprs, exprs_from, of_both}
 use Rattle.cil_text.proofs.check.+check.Goals as goal
 
-pub check_elements-returns-in_err-check_expr : goal.check_elements-returns-in_err-check_expr
-check_elements-returns-in_err-check_expr g t c =
+pub check_elements-returns-in_err-check_element : goal.check_elements-returns-in_err-check_element
+check_elements-returns-in_err-check_element g t c =
     let role = role_of c.args.role in
     let elements = c.args.elements.now in
     let i = c.loop-element.element-index in
     let element = c.element-item.result in
-    checks_error (of_exprs role elements) (of_expr role element) (of_exprs role (drop (i + 1) elements)) c.from_residual.result c.in_err-check_expr.field-0.0
-    (subst (GoesOn (of_exprs role elements)) (exprs_from role elements i element c.loop-element-test.true c.element-item.is) c.loop-element.invariant) c.in_err-check_expr.ensures c.from_residual.ensures.1
+    checks_error (of_exprs role elements) (of_expr role element) (of_exprs role (drop (i + 1) elements)) c.from_residual.result c.in_err-check_element.field-0.0
+    (subst (GoesOn (of_exprs role elements)) (exprs_from role elements i element c.loop-element-test.true c.element-item.is) c.loop-element.invariant) c.in_err-check_element.ensures c.from_residual.ensures.1
 
 pub check_elements-loop-element-preserved : goal.check_elements-loop-element-preserved
 check_elements-loop-element-preserved g t c =
@@ -20,7 +20,7 @@ check_elements-loop-element-preserved g t c =
     let i = c.loop-element.element-index in
     let element = c.element-item.result in
     goes_more (of_exprs role elements) (of_expr role element) (of_exprs role (drop (i + 1) elements))
-    (subst (GoesOn (of_exprs role elements)) (exprs_from role elements i element c.loop-element-test.true c.element-item.is) c.loop-element.invariant) c.in_ok-check_expr.ensures
+    (subst (GoesOn (of_exprs role elements)) (exprs_from role elements i element c.loop-element-test.true c.element-item.is) c.loop-element.invariant) c.in_ok-check_element.ensures
 
 pub check_expr-returns-in-Union : goal.check_expr-returns-in-Union
 check_expr-returns-in-Union g t c =

@@ -42,10 +42,10 @@ elements-returns g t c =
     let trees = trees_of c.args.trees in
     found_all trees c.loop-tree.elements.items (subst (λ rest. HasFound trees rest c.loop-tree.elements.items) c.in_default.ensures c.loop-tree.invariant.found)
 
-pub expression-returns-then-eq : goal.expression-returns-then-eq
-expression-returns-then-eq g t c rest =
+pub expression-returns-then-is_all : goal.expression-returns-then-is_all
+expression-returns-then-is_all g t c rest =
     let word = c.in-Word.word in
-    let all : word.text.now ≡ codes "all" = (bytes_eq-Decides word.text.now (codes "all")).0 (search rules) in
+    let all : word.text.now ≡ codes "all" = (bytes_eq-Decides word.text.now (codes "all")).0 (sym c.is_all.ensures ∙ c.if-is_all.true) in
     inl (place_of word.at, ap (λ tree. tree_then tree rest) c.in-Word.is ∙ ap (λ text. a_word (place_of word.at) text rest) all)
 
 pub expression-returns-in-String : goal.expression-returns-in-String

@@ -1,7 +1,7 @@
 use Rattle.cil_text.proofs.Common.{◌≡◌, ◌∙◌, ◌+◌, ◌||◌, IsTrue, sym, ap, subst, arith, none, are_lists, is_optional, Shapes, fits_lists, place_of, trees_of, tree_then, statements_of, FaultIs, form_of, IsFirstOf, IsFirstAmong}
 use Rattle.cil_text.proofs.FirstBad.{handed_on, fault_weaker}
 use Rattle.cil_reader.proofs.Nodes.{tree_size, size_first, size_behind}
-use Rattle.cil_text.proofs.WalkLemmas.{AreFound, found_start, found_more, found_end, found_fault, statement_is, inner_first, no_other, fits_size}
+use Rattle.cil_text.proofs.WalkLemmas.{AreFound, found_start, found_more, found_end, found_fault, statement_is, leaf_is, inner_first, no_other, fits_size}
 use Rattle.cil_text.proofs.walk.+walk.Goals as goal
 
 pub statement-statements-requires : goal.statement-statements-requires
@@ -35,6 +35,11 @@ statement-returns-clause-ok g t c =
     let body = c.in_ok-body.body.items in
     statement_is c.args.inside (place_of c.args.at) (trees_of c.args.items) inner c.in_ok-statement.statement c.with_body.result body c.in_ok-statement.ensures.ok
     (subst (λ within. Shapes within inner (statements_of body)) c.is_inside.ensures c.in_ok-body.ensures.ok) c.with_body.ensures
+
+pub statement-returns-then-not-holds_others-clause-ok : goal.statement-returns-then-not-holds_others-clause-ok
+statement-returns-then-not-holds_others-clause-ok g t c =
+    let leaf = sym c.holds_others.ensures ∙ c.if-not-holds_others.true in
+    leaf_is c.args.inside (place_of c.args.at) (trees_of c.args.items) (trees_of c.in_ok-statement.inner) c.in_ok-statement.statement c.in_ok-statement.ensures.ok leaf
 
 pub statements-loop-tree-init : goal.statements-loop-tree-init
 statements-loop-tree-init g t c =

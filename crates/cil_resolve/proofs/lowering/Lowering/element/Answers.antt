@@ -12,5 +12,5 @@ returns g c policy s word is refers names_it =
     let found = get_or c.args.seen.now.bound c.args.k None in
     let lead = seen-lead c.args.seen.now policy s c.args.k types word is.seen_is refers in
     subst (λ e. IsElement names e (element_of policy s.namespace word))
-    (ap (λ o. get_or made (unwrap_or o 0) (elements.«Type» 0)) c.place.ensures.led ∙ sym c.element_in.ensures)
+    (ap (λ o. get_or made (unwrap_or o 0) (elements.«Type» 0)) c.place.ensures.led)
     (element-led policy is.lowering.faultless s is.there names made word found 0 is.lowering.elements (contained (references s.form) c.args.k (types, word) refers) names_it lead)
