@@ -82,9 +82,12 @@ class Session:
 
 
 class LongSession:
-    """What check.py asks: random edits, after all of which the peak of memory is less than a tenth above that after a tenth of them."""
+    """What check.py asks: random edits, of which those behind the first tenth raise the peak of memory by at most half a KiB each. The
+    peak of so small a session, 3.5 MiB, rises by up to 0.4 MiB by chance, since names are hashed anew in each session and freed memory
+    lies elsewhere each time; a session that kept its history would hold several KiB more after each edit."""
 
     place = "scripts/long_session.py"
+    growth = 0.5
 
     def __init__(self, modules, edits, seed):
         self.modules, self.edits, self.seed = modules, edits, seed
@@ -105,7 +108,7 @@ class LongSession:
                 peaks.append(session.memory()[0])
         session.end()
         early, late = peaks
-        if late <= 1.1 * early:
+        if late - early <= self.growth * (self.edits - self.edits // 10):
             return ""
         return f"the peak of memory rose from {early} KiB after {self.edits // 10} edits to {late} KiB after {self.edits}\n"
 
