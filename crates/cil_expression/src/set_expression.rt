@@ -1,16 +1,19 @@
 //! A set expression: its nodes, and the types and attributes that its names lead to.
 
 use crate::expression::{Element, Expression};
+use crate::name_list::{NameList, are_of_list};
 use crate::same::are_same_names;
 use cil_parse::SetNode;
-use std::alloc::{Allocator, Global};
+use std::alloc::{AllocError, Allocator, Global};
 use std::slice::from_ref;
 
-/// How an expression is kept. Most are one name, alone or as the only element of a list: that takes no memory of its own.
+/// How an expression is kept. Most are one name, alone or as the only element of a list: that takes no memory of its own. Of the others
+/// most are a plain list of few names, which keeps no nodes.
 #[derive(Drop)]
 pub(crate) enum Form<A: Allocator = Global> {
     Named(Element),
     Listed(Element),
+    List(NameList<A>),
     Tree(Expression<Element, A>),
 }
 
@@ -18,6 +21,28 @@ pub(crate) enum Form<A: Allocator = Global> {
 #[derive(Drop)]
 pub struct SetExpression<A: Allocator = Global> {
     form: Form<A>,
+}
+
+impl<A: Allocator + Copy> SetExpression<A> {
+    ghost use Rattle.std.specs.Prelude.{◌≡◌, IfOk};
+    ghost use Rattle.cil_specs.specs.Expr.{Expr, leaves};
+    ghost use Rattle.cil_expression.specs.Expression.{set_expr_in};
+    ghost use Rattle.cil_expression.specs.Spelling.{IsSpelt, nodes_of};
+
+    /// The expression of these nodes, which are copied where it isn't a plain list of few names, and of what its names lead to.
+    pub fn of(alloc: A, nodes: &[SetNode], names: Vec<Element, A>) -> Result<Self, AllocError>
+        requires spelt { IsSpelt nodes.now names.items }
+        ensures { IfOk result (λ e. (expr : Expr Element) → nodes.now ≡ nodes_of expr
+            → names.items ≡ leaves expr → set_expr_in e ≡ expr) }
+    {
+        if are_of_list(nodes, names.len()) {
+            return Ok(SetExpression {
+                form: Form::List(NameList::new(names)),
+            });
+        }
+        let nodes = Vec::from_slice(alloc, nodes)?;
+        Ok(SetExpression::new(nodes, names))
+    }
 }
 
 impl<A: Allocator> SetExpression<A> {
@@ -64,6 +89,7 @@ impl<A: Allocator> SetExpression<A> {
         match &self.form {
             Form::Named(_) => &[SetNode::Name],
             Form::Listed(_) => &[SetNode::Element, SetNode::Name, SetNode::Nothing],
+            Form::List(list) => list.nodes(),
             Form::Tree(tree) => tree.nodes(),
         }
     }
@@ -74,6 +100,7 @@ impl<A: Allocator> SetExpression<A> {
     {
         match &self.form {
             Form::Named(element) | Form::Listed(element) => from_ref(element),
+            Form::List(list) => list.names(),
             Form::Tree(tree) => tree.names(),
         }
     }
@@ -87,6 +114,7 @@ impl<A: Allocator> SetExpression<A> {
     {
         match &self.form {
             Form::Named(element) | Form::Listed(element) => known(*element),
+            Form::List(list) => list.holds(&known),
             Form::Tree(tree) => tree.holds(known),
         }
     }
