@@ -16,7 +16,7 @@ abbrev pub expr_by : {A : Type 0} → Form A → Expr Element
 expr_by (forms.Named element) = named element
 expr_by (forms.Listed element) = elements (named element) nothing
 expr_by (forms.List list) = listed list.names.items
-expr_by (forms.Tree tree) = expr_in tree
+expr_by (forms.Tree tree) = expr_in tree.value
 
 -- a set expression
 abbrev pub set_expr_in : {A : Type 0} → SetExpression A → Expr Element

@@ -14,7 +14,7 @@ pub(crate) enum Form<A: Allocator = Global> {
     Named(Element),
     Listed(Element),
     List(NameList<A>),
-    Tree(Expression<Element, A>),
+    Tree(Box<Expression<Element, A>, A>),
 }
 
 /// A set expression whose names lead to types and attributes.
@@ -41,7 +41,10 @@ impl<A: Allocator + Copy> SetExpression<A> {
             });
         }
         let nodes = Vec::from_slice(alloc, nodes)?;
-        Ok(SetExpression::new(nodes, names))
+        let tree = Expression::new(nodes, names);
+        Ok(SetExpression {
+            form: Form::Tree(Box::new(alloc, tree)?),
+        })
     }
 }
 
@@ -52,17 +55,6 @@ impl<A: Allocator> SetExpression<A> {
     ghost use Rattle.cil_expression.specs.Holds.{holds_by, Answers};
     ghost use Rattle.cil_expression.specs.Same.{are_same, AnswersPairs};
     ghost use Rattle.cil_expression.specs.Spelling.{IsSpelt, nodes_of};
-
-    /// The expression of these nodes and of what its names lead to.
-    pub fn new(nodes: Vec<SetNode, A>, names: Vec<Element, A>) -> Self
-        requires spelt { IsSpelt nodes.items names.items }
-        ensures { (expr : Expr Element) → nodes.items ≡ nodes_of expr → names.items ≡ leaves expr
-            → set_expr_in result ≡ expr }
-    {
-        SetExpression {
-            form: Form::Tree(Expression::new(nodes, names)),
-        }
-    }
 
     /// The expression of one name. It takes no memory.
     pub fn named(element: Element) -> Self

@@ -56,7 +56,7 @@ fn is_plain_list<A: Allocator + Copy>(
         .expression;
     let names = expression.names();
     let nodes = list_nodes(alloc, names.len())?;
-    let list = SetExpression::new(nodes, names.to_vec(alloc)?);
+    let list = SetExpression::of(alloc, nodes.as_slice(), names.to_vec(alloc)?)?;
     Ok(expression.is_same(
         &list,
         |_, _|

@@ -10,11 +10,11 @@ use Rattle.cil_member_updates.proofs.PlaceLemmas.{set-there}
 use Rattle.cil_member_updates.proofs.PlainLemmas.{plain-same}
 use Rattle.cil_member_updates.proofs.plain_list.is_plain_list.Goals as goal
 
-pub new-list-requires : goal.new-list-requires
-new-list-requires g c =
+pub of-requires : goal.of-requires
+of-requires g c =
     let copy = c.in_ok-to_vec.field-0.items in
     let long : length copy ≡ length c.names-names.result.now = sym c.in_ok-to_vec.field-0.ok.0 ∙ c.in_ok-to_vec.ensures.len in
-    record { spelt = record { expr = listed copy; nodes_are = c.in_ok-nodes.ensures copy long; names_are = sym (leaves-listed copy) } }
+    record { spelt = record { expr = listed copy; nodes_are = c.as_slice.ensures ∙ c.in_ok-nodes.ensures copy long; names_are = sym (leaves-listed copy) } }
 
 pub returns : goal.returns
 returns g c =
@@ -26,6 +26,6 @@ returns g c =
     let long : length copy ≡ length c.names-names.result.now = sym c.in_ok-to_vec.field-0.ok.0 ∙ c.in_ok-to_vec.ensures.len in
     let at = set-at r place (set_at r place) (option_map (λ set. set.now) c.numbered_set.result) x c.numbered_set.ensures.set (ap (option_map (λ set. set.now)) c.unwrap.ensures) (set-there r place c.requires) in
     c.is_same.ensures (λ a b. true) (λ a b answer here there told. told.2)
-    ∙ ap (are_same (λ a b. true) e) (c.new-list.ensures (listed copy) (c.in_ok-nodes.ensures copy long) (sym (leaves-listed copy)))
+    ∙ ap (are_same (λ a b. true) e) (c.in_ok-list.ensures (listed copy) (c.as_slice.ensures ∙ c.in_ok-nodes.ensures copy long) (sym (leaves-listed copy)))
     ∙ plain-same e copy (ap length (sym c.names-names.ensures) ∙ sym long)
     ∙ sym (plain-mapped (element_of r.names.items) e) ∙ ap (λ s. is_plain s.expr) at.named
