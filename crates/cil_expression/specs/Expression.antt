@@ -15,7 +15,7 @@ expr_in e = expr_of e.nodes.items e.names.items
 abbrev pub expr_by : {A : Type 0} → Form A → Expr Element
 expr_by (forms.Named element) = named element
 expr_by (forms.Listed element) = elements (named element) nothing
-expr_by (forms.List list) = listed list.names.items
+expr_by (forms.List names) = listed names.items
 expr_by (forms.Tree tree) = expr_in tree.value
 
 -- a set expression

@@ -5,4 +5,4 @@ use Rattle.cil_expression.proofs.set_expression.SetExpression.names.Goals as goa
 
 pub returns-in-List : goal.returns-in-List
 returns-in-List g c =
-    c.names.ensures ∙ sym (leaves-listed c.in-List.list.names.items) ∙ ap (λ form. leaves (expr_by form)) (sym c.in-List.is)
+    c.as_slice.ensures.value ∙ sym (leaves-listed c.in-List.names.items) ∙ ap (λ form. leaves (expr_by form)) (sym c.in-List.is)
