@@ -24,7 +24,7 @@ both-are : (a b : Bool) → (a && b) ≡ true → (a ≡ true) × (b ≡ true)
 both-are true b e = (refl, e)
 both-are false b e = absurd (true≢false (sym e))
 
-nodes-are : (xs ys : List SetNode) → all_same same_node xs ys ≡ true → xs ≡ ys
+pub nodes-are : (xs ys : List SetNode) → all_same same_node xs ys ≡ true → xs ≡ ys
 nodes-are [] [] e = refl
 nodes-are [] (y ∷ ys) e = absurd (true≢false (sym e))
 nodes-are (x ∷ xs) [] e = absurd (true≢false (sym e))

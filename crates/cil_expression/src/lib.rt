@@ -4,6 +4,7 @@
 mod evaluation;
 mod expression;
 mod laws;
+mod name_list;
 mod same;
 mod set_expression;
 

@@ -1,43 +1,66 @@
 //! A set expression: its nodes, and the types and attributes that its names lead to.
 
+ghost use Rattle.std.specs.Prelude.{IsTrue};
+ghost use Rattle.cil_expression.specs.Listed.{is_no_list};
+
 use crate::expression::{Element, Expression};
+use crate::name_list::{are_of_list, holds_one};
 use crate::same::are_same_names;
 use cil_parse::SetNode;
-use std::alloc::{Allocator, Global};
+use std::alloc::{AllocError, Allocator, Global};
 use std::slice::from_ref;
 
-/// How an expression is kept. Most are one name, alone or as the only element of a list: that takes no memory of its own.
+/// How an expression is kept. Most are one name, alone or as the only element of a list: that takes no memory of its own. Most others are
+/// a plain list of names, whose nodes follow from how many these are, and aren't kept.
 #[derive(Drop)]
 pub(crate) enum Form<A: Allocator = Global> {
     Named(Element),
     Listed(Element),
-    Tree(Expression<Element, A>),
+    List(Vec<Element, A>),
+    Tree(Box<Expression<Element, A>, A>),
 }
 
 /// A set expression whose names lead to types and attributes.
 #[derive(Drop)]
 pub struct SetExpression<A: Allocator = Global> {
     form: Form<A>,
+    ghost no_list: { IsTrue (is_no_list form) },
+}
+
+impl<A: Allocator + Copy> SetExpression<A> {
+    ghost use Rattle.std.specs.Prelude.{◌≡◌, IfOk};
+    ghost use Rattle.cil_specs.specs.Expr.{Expr, leaves};
+    ghost use Rattle.cil_expression.specs.Expression.{set_expr_in};
+    ghost use Rattle.cil_expression.specs.Spelling.{IsSpelt, nodes_of};
+
+    /// The expression of these nodes, which are copied where it is no plain list, and of what its names lead to.
+    pub fn of(alloc: A, nodes: &[SetNode], names: Vec<Element, A>) -> Result<Self, AllocError>
+        requires spelt { IsSpelt nodes.now names.items }
+        ensures { IfOk result (λ e. (expr : Expr Element) → nodes.now ≡ nodes_of expr
+            → names.items ≡ leaves expr → set_expr_in e ≡ expr) }
+    {
+        if are_of_list(nodes, names.len()) {
+            return Ok(SetExpression {
+                form: Form::List(names),
+            });
+        }
+        let nodes = Vec::from_slice(alloc, nodes)?;
+        let tree = Expression::new(nodes, names);
+        let boxed = Box::new(alloc, tree)?;
+        Ok(SetExpression {
+            form: Form::Tree(boxed),
+        })
+    }
 }
 
 impl<A: Allocator> SetExpression<A> {
-    ghost use Rattle.std.specs.Prelude.{◌≡◌, Bool, false, Contains};
-    ghost use Rattle.cil_specs.specs.Expr.{Expr, leaves, named, nothing, elements};
+    ghost use Rattle.std.specs.Prelude.{◌≡◌, Bool, false, Contains, MatchOption};
+    ghost use Rattle.cil_parse.specs.Forms.{is_plain};
+    ghost use Rattle.cil_specs.specs.Expr.{Expr, leaves, listed, named, nothing, elements};
     ghost use Rattle.cil_expression.specs.Expression.{set_expr_in};
     ghost use Rattle.cil_expression.specs.Holds.{holds_by, Answers};
     ghost use Rattle.cil_expression.specs.Same.{are_same, AnswersPairs};
     ghost use Rattle.cil_expression.specs.Spelling.{IsSpelt, nodes_of};
-
-    /// The expression of these nodes and of what its names lead to.
-    pub fn new(nodes: Vec<SetNode, A>, names: Vec<Element, A>) -> Self
-        requires spelt { IsSpelt nodes.items names.items }
-        ensures { (expr : Expr Element) → nodes.items ≡ nodes_of expr → names.items ≡ leaves expr
-            → set_expr_in result ≡ expr }
-    {
-        SetExpression {
-            form: Form::Tree(Expression::new(nodes, names)),
-        }
-    }
 
     /// The expression of one name. It takes no memory.
     pub fn named(element: Element) -> Self
@@ -57,15 +80,35 @@ impl<A: Allocator> SetExpression<A> {
         }
     }
 
-    /// Its nodes, each in front of those of its operands.
+    /// Its nodes, each in front of those of its operands, where it is no plain list.
     fn nodes(&self) -> &[SetNode]
+        requires { is_plain (set_expr_in self.now) ≡ false }
         ensures { result.now ≡ nodes_of (set_expr_in self.now) }
     {
         match &self.form {
             Form::Named(_) => &[SetNode::Name],
-            Form::Listed(_) => &[SetNode::Element, SetNode::Name, SetNode::Nothing],
             Form::Tree(tree) => tree.nodes(),
+            Form::Listed(_) | Form::List(_) => unreachable!("it is no plain list"),
         }
+    }
+
+    /// Its names, if it is a plain list of names.
+    fn as_list(&self) -> Option<&[Element]>
+        ensures { MatchOption result (is_plain (set_expr_in self.now) ≡ false)
+            (λ names. set_expr_in self.now ≡ listed names.now) }
+    {
+        match &self.form {
+            Form::Listed(element) => Some(from_ref(element)),
+            Form::List(names) => Some(names.as_slice()),
+            Form::Named(_) | Form::Tree(_) => None,
+        }
+    }
+
+    /// Whether it is a plain list of names.
+    pub fn is_list(&self) -> bool
+        ensures { result ≡ is_plain (set_expr_in self.now) }
+    {
+        self.as_list().is_some()
     }
 
     /// What its names lead to, in their order.
@@ -74,6 +117,7 @@ impl<A: Allocator> SetExpression<A> {
     {
         match &self.form {
             Form::Named(element) | Form::Listed(element) => from_ref(element),
+            Form::List(names) => names.as_slice(),
             Form::Tree(tree) => tree.names(),
         }
     }
@@ -87,6 +131,7 @@ impl<A: Allocator> SetExpression<A> {
     {
         match &self.form {
             Form::Named(element) | Form::Listed(element) => known(*element),
+            Form::List(names) => holds_one(names.as_slice(), &known),
             Form::Tree(tree) => tree.holds(known),
         }
     }
@@ -117,7 +162,7 @@ impl<A: Allocator> SetExpression<A> {
         }
     }
 
-    /// The same, by its nodes. Few expressions are more than one name.
+    /// The same, by its nodes where it is no plain list. Few expressions are more than one name.
     #[inline(never)]
     fn is_same_tree<F: Fn(Element, Element) -> bool>(
         &self,
@@ -129,7 +174,14 @@ impl<A: Allocator> SetExpression<A> {
             → AnswersPairs (F.post same) (leaves (set_expr_in self.now)) (leaves (set_expr_in other.now)) pairs
             → result ≡ are_same pairs (set_expr_in self.now) (set_expr_in other.now) }
     {
-        let nodes = self.nodes() == other.nodes();
-        nodes && are_same_names(self.names(), other.names(), &same)
+        match (self.as_list(), other.as_list()) {
+            (Some(names), Some(others)) => are_same_names(names, others, &same),
+            (None, None) => {
+                let nodes = self.nodes() == other.nodes();
+                nodes && are_same_names(self.names(), other.names(), &same)
+            }
+            (Some(_), None) => false,
+            (None, Some(_)) => false,
+        }
     }
 }

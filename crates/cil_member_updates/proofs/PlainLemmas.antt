@@ -3,61 +3,13 @@ use Rattle.cil_member_updates.proofs.Common.{◌≡◌, ◌≢◌, ◌==◌, ◌
 use Rattle.std.proofs.Common.{append-nil, drop, Contains}
 use Rattle.std.proofs.lemmas.List.{drop_all}
 use Rattle.cil_expression.proofs.HoldsLemmas.{holds-agree}
-use Rattle.cil_expression.proofs.ListedLemmas.{holds-listed, listed-mapped, plain-listed, plain-mapped}
-use Rattle.cil_expression.proofs.SameExprLemmas.{mapped-same, same-mapped}
-use Rattle.cil_expression.specs.Same.{are_same}
-use Rattle.cil_expression.specs.Spelling.{nodes_of}
-use Rattle.cil_parse.specs.Forms.{is_plain, name_nodes}
-use Rattle.cil_parse.specs.declared.row.SetNode.TheVariants as nodes
-use Rattle.cil_specs.specs.Expr.{holds_by, listed, map_leaves}
+use Rattle.cil_expression.proofs.ListedLemmas.{holds-listed, plain-listed}
+use Rattle.cil_parse.specs.Forms.{is_plain}
+use Rattle.cil_specs.specs.Expr.{holds_by}
 use Rattle.cil_specs.specs.Meaning as meanings
 use Rattle.cil_specs.specs.Sets as sets
 use Rattle.cil_member_updates.proofs.KeptLemmas.{zero-in}
 use Rattle.cil_member_updates.proofs.NameLemmas.{bytes-refl, holds-named, keeps-name, same-symbol}
-
--- ---- the nodes of a list
-
-pub front-more : (k : ℕ) → (name_nodes k ++ (nodes.Element ∷ [])) ++ (nodes.Name ∷ []) ≡ name_nodes (suc k)
-front-more zero = refl
-front-more (suc k) = ap (λ l. nodes.Element ∷ nodes.Name ∷ l) (front-more k)
-
-pub front-listed : {leaf : Type 0} (l : List leaf) → name_nodes (length l) ++ (nodes.Nothing ∷ []) ≡ nodes_of (listed l)
-front-listed [] = refl
-front-listed (x ∷ xs) = ap (λ l. nodes.Element ∷ nodes.Name ∷ l) (front-listed xs)
-
-listed-plain : {leaf : Type 0} (l : List leaf) → is_plain (listed l) ≡ true
-listed-plain [] = refl
-listed-plain (x ∷ xs) = listed-plain xs
-
--- the same of all
-abbrev one : {X : Type 0} → X → ℕ
-one x = 0
-
-module _ {leaf other : Type 0} where
-  as-long : (xs : List leaf) (ys : List other) → length xs ≡ length ys → map one xs ≡ map one ys
-  as-long [] [] e = refl
-  as-long [] (y ∷ ys) e = absurd (omega (arith, e))
-  as-long (x ∷ xs) [] e = absurd (omega (arith, e))
-  as-long (x ∷ xs) (y ∷ ys) e = ap (λ l. 0 ∷ l) (as-long xs ys (omega (arith, e)))
-
-  -- An expression is a plain list if its nodes are those of a list of as many names.
-  pub plain-same : (e : Expr leaf) (l : List other) → length (leaves e) ≡ length l → are_same (λ (x : leaf) (y : other). true) e (listed l) ≡ is_plain e
-  plain-same e l long = by (are_same (λ (x : leaf) (y : other). true) e (listed l)) refl (is_plain e) refl
-    where
-      same-plain : are_same (λ (x : leaf) (y : other). true) e (listed l) ≡ true → is_plain e ≡ true
-      same-plain is =
-          sym (plain-mapped one e) ∙ ap is_plain (same-mapped (λ (x : leaf) (y : other). true) one one (λ x y t. refl) e (listed l) is) ∙ plain-mapped one (listed l) ∙ listed-plain l
-
-      plain-is : is_plain e ≡ true → are_same (λ (x : leaf) (y : other). true) e (listed l) ≡ true
-      plain-is plain =
-          mapped-same (λ (x : leaf) (y : other). true) one one (λ x y t. refl) e (listed l)
-          (ap (map_leaves one) (plain-listed e plain) ∙ listed-mapped one (leaves e) ∙ ap listed (as-long (leaves e) l long) ∙ sym (listed-mapped one l))
-
-      by : (s : Bool) → are_same (λ (x : leaf) (y : other). true) e (listed l) ≡ s → (p : Bool) → is_plain e ≡ p → s ≡ p
-      by true is true plain = refl
-      by true is false plain = sym (same-plain is) ∙ plain
-      by false is true plain = sym is ∙ plain-is plain
-      by false is false plain = refl
 
 -- ---- bits of symbols
 

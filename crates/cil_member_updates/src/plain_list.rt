@@ -2,11 +2,9 @@
 //! name, and those whose expression is a plain list.
 
 ghost use Rattle.std.specs.Prelude.{◌≡◌, ◌||◌, ◌==◌, ◌<◌, ◌/◌, ◌+◌, ℕ, Bool, List, Contains, IfOk, IfSome, IsTrue, length, nat_lt};
-ghost use Rattle.cil_expression.specs.Spelling.{nodes_of};
-ghost use Rattle.cil_expression.specs.declared.expression.Element.{Element};
 ghost use Rattle.cil_parse.specs.Forms.{is_plain};
 ghost use Rattle.std.specs.List.{list_any};
-ghost use Rattle.cil_specs.specs.Expr.{holds_by, leaves, listed};
+ghost use Rattle.cil_specs.specs.Expr.{holds_by, leaves};
 ghost use Rattle.cil_specs.specs.Rule as meant;
 ghost use Rattle.cil_member_updates.specs.Common.{sets_in, HoldsTypes, MayHold, Reads, IsNameIn, held_by, is_set, name_holds, named_by, set_of};
 ghost use Rattle.cil_member_updates.specs.Policy.{counts_at};
@@ -14,8 +12,7 @@ ghost use Rattle.cil_member_updates.specs.Policy.{counts_at};
 use crate::side::Reading;
 use crate::when::{When, members};
 use cil_member_rows::MemberRows;
-use cil_parse::SetNode;
-use cil_resolve::{Element, SetExpression};
+use cil_resolve::Element;
 use std::alloc::{AllocError, Allocator};
 
 // How many symbols a word has.
@@ -25,44 +22,13 @@ const WORD: usize = 64;
 // each of these types.
 const MANY: usize = 16;
 
-/// The nodes of a plain list of so many names.
-fn list_nodes<A: Allocator + Copy>(alloc: A, names: usize) -> Result<Vec<SetNode, A>, AllocError>
-    ensures { IfOk result (λ nodes. (l : List Element) → length l ≡ names
-        → nodes.items ≡ nodes_of (listed l)) }
-{
-    let mut nodes = Vec::new(alloc);
-    for _ in 0..names {
-        nodes.push(SetNode::Element)?;
-        nodes.push(SetNode::Name)?;
-    }
-    nodes.push(SetNode::Nothing)?;
-    Ok(nodes)
-}
-
-/// Whether the expression of a set statement is a plain list of names. It is compared with the list
-/// of its names.
-fn is_plain_list<A: Allocator + Copy>(
-    alloc: A,
-    reading: &Reading<'_, A>,
-) -> Result<bool, AllocError>
+/// Whether the expression of a set statement is a plain list of names.
+fn is_plain_list<A: Allocator>(reading: &Reading<'_, A>) -> bool
     requires { reading.now.place < length (sets_in reading.now.side.now.resolved.now) }
-    ensures { IfOk result (λ is. is ≡ is_plain (set_of reading.now).expr) }
+    ensures { result ≡ is_plain (set_of reading.now).expr }
 {
-    let expression = &reading
-        .side
-        .resolved
-        .numbered_set(reading.place)
-        .unwrap()
-        .expression;
-    let names = expression.names();
-    let nodes = list_nodes(alloc, names.len())?;
-    let list = SetExpression::new(nodes, names.to_vec(alloc)?);
-    Ok(expression.is_same(
-        &list,
-        |_, _|
-            ensures { IsTrue result }
-        { true },
-    ))
+    let set = reading.side.resolved.numbered_set(reading.place);
+    set.unwrap().expression.is_list()
 }
 
 /// Whether a set statement has one name and holds what that holds.
@@ -86,16 +52,16 @@ fn holds_its_name<A: Allocator>(reading: &Reading<'_, A>) -> bool
 }
 
 /// Whether a set statement is told to hold what one of its names does.
-fn holds_names<A: Allocator + Copy>(alloc: A, reading: &Reading<'_, A>) -> Result<bool, AllocError>
+fn holds_names<A: Allocator>(reading: &Reading<'_, A>) -> bool
     requires { reading.now.place < length (sets_in reading.now.side.now.resolved.now) }
-    ensures { IfOk result (λ is. IsTrue is → (value : meant.Element → Bool)
+    ensures { IsTrue result → (value : meant.Element → Bool)
         → holds_by value (set_of reading.now).expr
-        ≡ list_any value (leaves (set_of reading.now).expr)) }
+        ≡ list_any value (leaves (set_of reading.now).expr) }
 {
     if holds_its_name(reading) {
-        return Ok(true);
+        return true;
     }
-    is_plain_list(alloc, reading)
+    is_plain_list(reading)
 }
 
 /// Sets the bit of a symbol.
@@ -184,7 +150,7 @@ pub fn plain_list<A: Allocator + Copy>(
     if are_few_types(reading.side.resolved.set_names(reading.place)) {
         return Ok(None);
     }
-    if !holds_names(alloc, reading)? {
+    if !holds_names(reading) {
         return Ok(None);
     }
     Ok(Some(listed_types(alloc, reading, rows)?))

@@ -65,6 +65,7 @@ fn name_bits<A: Allocator>(reading: &Reading<'_, A>, rows: &MemberRows<A>, word:
 }
 
 /// The types of a word that a set statement may hold, by its expression.
+#[inline(always)]
 fn reached_by_names<A: Allocator>(
     reading: &Reading<'_, A>,
     rows: &MemberRows<A>,

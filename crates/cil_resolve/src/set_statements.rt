@@ -55,9 +55,9 @@ impl<'l, 'p, 'm, A: Allocator + Copy> Lowering<'l, 'p, 'm, A> {
         requires { SeesSet self.now seen.now }
         ensures { IfOk result (IsSeenExpression self.now seen.now) }
     {
-        let nodes = Vec::from_slice(self.alloc, seen.view.nodes)?;
         let names = self.set_elements(seen)?;
-        Ok(SetExpression::new(nodes, names))
+        let expression = SetExpression::of(self.alloc, seen.view.nodes, names)?;
+        Ok(expression)
     }
 
     /// The set statement of a place, with its expression.
