@@ -25,7 +25,7 @@ pub use Rattle.cil_parse.specs.Forms.{expr_nodes, kind_of, nodes_in, permissions
 pub use Rattle.cil_parse.specs.Parsed.{permission_lists_of, texts_of}
 pub use Rattle.cil_resolve.specs.Below.{are_permissions_below, is_class_below, is_element_below, is_name_below, is_permission_below, is_permission_set_below, is_rule_below, is_set_below, is_target_below, is_written_below}
 pub use Rattle.cil_resolve.specs.Consistent.{are_permission_sets_of, are_permissions_of, are_placed_in, are_rules_of, is_aim_of, is_class_and_permissions_of, is_class_with, is_consistent, is_declared, is_element_of, is_rule_of}
-pub use Rattle.cil_resolve.specs.Dropped.{HaveMarks, dropped_if}
+pub use Rattle.cil_resolve.specs.Dropped.{AreFound, HaveMarks, dropped_if, dropped_unless, found_as, found_with, mark_of}
 pub use Rattle.cil_resolve.specs.FullNames.{full_name_of, full_name_or, is_numbered, is_numbered_kind, name_in, numbered_id, space_text}
 pub use Rattle.cil_resolve.specs.KnownPermissions.{HaveNumbers, KnowNumbers, known_at, list_at}
 pub use Rattle.cil_resolve.specs.Lowering.{AreElements, ArePartsOf, ArePermissionSets, ArePermissions, AreRules, AreSets, GivePermissions, GivesSet, HaveElements, IsClass, IsDeclared, IsElement, IsExpression, IsIn, IsLowering, IsPermissionSet, IsRule, IsRuleOfClass, IsRuleOfSet, IsRuleStart, IsSpeltBy, KnowSets, NamesPermissions, WritesPermissions, attribute_if, class_if, common_in, common_of, is_set, modules_of, permission_set_if, rule_if, rule_with, set_if, type_if}

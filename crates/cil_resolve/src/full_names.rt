@@ -13,8 +13,26 @@ use cil_names::counted_in_32_bits;
 use cil_parse::{Lists, NumberedWord, StatementKind};
 use std::alloc::{AllocError, Allocator};
 
+/// Puts the full name of a name in the namespace of a number behind bytes, by the names of the namespaces.
+pub fn add_full_name<A: Allocator + Copy>(
+    bytes: &mut Vec<u8, A>,
+    spaces: &[Text<A>],
+    namespace: u32,
+    name: &[u8],
+) -> Result<(), AllocError>
+    requires { namespace < length spaces.now }
+    ensures { OnOk result (bytes.new.items ≡ bytes.old.items ++ name_in spaces.now namespace name.now) }
+{
+    if namespace != 0 {
+        bytes.extend_from_slice(spaces[namespace as usize].as_slice())?;
+        bytes.push(b'.')?;
+    }
+    bytes.extend_from_slice(name)?;
+    Ok(())
+}
+
 /// The full name of a name in the namespace of a number, by the names of the namespaces.
-pub fn full_name<A: Allocator + Copy>(
+fn full_name<A: Allocator + Copy>(
     alloc: A,
     spaces: &[Text<A>],
     namespace: u32,
@@ -23,14 +41,8 @@ pub fn full_name<A: Allocator + Copy>(
     requires { namespace < length spaces.now }
     ensures { IfOk result (λ t. t ≡ name_in spaces.now namespace name.now) }
 {
-    if namespace == 0 {
-        return Text::of(alloc, name);
-    }
-    let space = spaces[namespace as usize].as_slice();
-    let mut bytes = Vec::with_capacity(alloc, space.len() + 1 + name.len())?;
-    bytes.extend_from_slice(space)?;
-    bytes.push(b'.')?;
-    bytes.extend_from_slice(name)?;
+    let mut bytes = Vec::with_capacity(alloc, name.len())?;
+    add_full_name(&mut bytes, spaces, namespace, name)?;
     Ok(Text::from_vec(bytes))
 }
 

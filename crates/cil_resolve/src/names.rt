@@ -4,7 +4,7 @@ ghost use Rattle.std.specs.Prelude.{◌≡◌, IsTrue, Some, IfOk};
 ghost use Rattle.std.specs.List.{flat_map};
 ghost use Rattle.cil_resolve.specs.Common.{has_name, number_in};
 
-use crate::text::Text;
+use crate::text::{Text, next_text};
 use cil_names::{Names, in_32_bits};
 use cil_shared::SharedPart;
 use std::alloc::{AllocError, Allocator};
@@ -35,12 +35,10 @@ pub fn to_texts<A: Allocator + Copy>(
 ) -> Result<Vec<Text<A>, A>, AllocError>
     ensures { IfOk result (λ copies. copies.items ≡ names.now) }
 {
-    let all = SharedPart::of(alloc, bytes_of(alloc, names)?)?;
+    let mut rest = SharedPart::of(alloc, bytes_of(alloc, names)?)?;
     let mut copies = Vec::with_capacity(alloc, names.len())?;
-    let mut start = 0;
     for name in names.as_slice() {
-        copies.push(Text::from_part(all.part(start, name.text.len())?))?;
-        start += name.text.len();
+        copies.push(next_text(&mut rest, name.text.len())?)?;
     }
     Ok(copies)
 }

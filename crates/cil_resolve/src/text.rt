@@ -1,6 +1,6 @@
 //! Bytes that are owned: a name, or the text of a module.
 
-ghost use Rattle.std.specs.Prelude.{◌≡◌, IfOk};
+ghost use Rattle.std.specs.Prelude.{◌≡◌, ◌≤◌, length, take, drop, IfOk, OnOk};
 
 use cil_shared::SharedPart;
 use std::alloc::{AllocError, Allocator, Global};
@@ -62,4 +62,19 @@ impl<A: Allocator> Text<A> {
             Bytes::Shared(part) => part.as_slice(),
         }
     }
+}
+
+/// The first so many bytes of a part as a text. The part is what stands behind them from then on.
+pub fn next_text<A: Allocator>(
+    rest: &mut SharedPart<u8, A>,
+    count: usize,
+) -> Result<Text<A>, AllocError>
+    requires { count ≤ length rest.old }
+    ensures text { IfOk result (λ t. t ≡ take count rest.old) }
+    ensures rest { OnOk result (rest.new ≡ drop count rest.old) }
+{
+    let text = Text::from_part(rest.part(0, count)?);
+    let behind = rest.as_slice().len() - count;
+    *rest = rest.part(count, behind)?;
+    Ok(text)
 }
