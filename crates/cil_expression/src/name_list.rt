@@ -42,7 +42,7 @@ pub(crate) fn are_of_list(spelling: &[SetNode], names: usize) -> bool
     is_end(left)
 }
 
-/// Whether known answers that one of some names holds something.
+/// Whether known answers that one of some names holds something. No name is asked behind the first that does.
 pub(crate) fn holds_one<T: Copy, F: Fn(T) -> bool>(names: &[T], known: &F) -> bool
     requires callable { F.IsAlwaysCallable known.now }
     ensures { (value : T → Bool) → Answers (F.post known.now) (λ e. Contains names.now e) value
