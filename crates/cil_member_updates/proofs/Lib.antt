@@ -12,6 +12,7 @@ pub mod NameLemmas
 pub mod PassLemmas
 pub mod PlaceLemmas
 pub mod PlainLemmas
+pub mod ReachLemmas
 pub mod RenewLemmas
 pub mod SideLemmas
 pub mod StayLemmas

@@ -171,6 +171,18 @@ module _ (symbols : List (List ℕ)) (before now : ℕ → ℕ → ℕ) where
   unchanged-more elements k word bits more unchanged next =
       below_more (λ m. IsUnchanged symbols before now (elements m) word (bit_or bits more)) k (λ m low. unchanged-first (elements m) word bits more (unchanged m low)) (unchanged-second (elements k) word bits more next)
 
+-- The members of what a set statement of two policies mentions, at a symbol at which nothing changed.
+module _ (symbols : List (List ℕ)) (old new : Meaning) (s r : SetStatement) (same : s.expr ≡ r.expr) (before now : ℕ → ℕ → ℕ) (was : Tell symbols old s before) (is : Tell symbols new r now)
+    (found : (attribute : List ℕ) → IsTrue (mentions attribute r.expr) → (a : ℕ) × (slice_get symbols a ≡ Some attribute)) where
+  pub members-stayed : (word bits : ℕ) → ((element : Element) → Contains (leaves r.expr) element → IsUnchanged symbols before now element word bits)
+      → (b : ℕ) → b < 64 → bit_at bits b ≡ 0 → (name : List ℕ) → slice_get symbols (64 * word + b) ≡ Some name → (attribute : List ℕ) → IsTrue (mentions attribute r.expr) → is_member old attribute name ≡ is_member new attribute name
+  members-stayed word bits unchanged b within none name at attribute mentioned =
+      let t = 64 * word + b in
+      let (a, at_a) = found attribute mentioned in
+      sym (was a t attribute name at_a at (subst (λ e. IsTrue (mentions attribute e)) (sym same) mentioned))
+      ∙ sym (above-same (now a t) (before a t) (unchanged (an_attribute attribute) (mention-there attribute r.expr mentioned) attribute a b refl at_a within none))
+      ∙ is a t attribute name at_a at mentioned
+
 -- A set statement of two policies, at the symbols of a word that both keep or neither does, and of whose mentioned attributes nothing
 -- changed.
 module _ (symbols : List (List ℕ)) (old new : Meaning) (s r : SetStatement) (same : s.expr ≡ r.expr) (before now : ℕ → ℕ → ℕ) (was : Tell symbols old s before) (is : Tell symbols new r now)
@@ -188,13 +200,6 @@ module _ (symbols : List (List ℕ)) (old new : Meaning) (s r : SetStatement) (s
       apart : (m n : ℕ) → m ≡ 1 → n ≡ 0 → m ≡ n → ⊥
       apart m n one zero_is e = omega (arith, one, zero_is, e)
 
-      members : (name : List ℕ) → slice_get symbols t ≡ Some name → (attribute : List ℕ) → IsTrue (mentions attribute r.expr) → is_member old attribute name ≡ is_member new attribute name
-      members name at attribute mentioned =
-          let (a, at_a) = found attribute mentioned in
-          sym (was a t attribute name at_a at (subst (λ e. IsTrue (mentions attribute e)) (sym same) mentioned))
-          ∙ sym (above-same (now a t) (before a t) (unchanged (an_attribute attribute) (mention-there attribute r.expr mentioned) attribute a b refl at_a within none))
-          ∙ is a t attribute name at_a at mentioned
-
       none-differ : (p q : Bool) → p ≡ q → differ p q ≡ false
       none-differ true true e = refl
       none-differ true false e = e
@@ -205,7 +210,7 @@ module _ (symbols : List (List ℕ)) (old new : Meaning) (s r : SetStatement) (s
       by true e true f =
           let (name, at, kept) = keeps-name symbols old t e in
           let kept_too : keeps_type new name ≡ true = sym (keeps-named symbols new t name at) ∙ f in
-          holds-named symbols old s t name at ∙ ap (λ x. is_in old x name) same ∙ agree name kept kept_too (members name at) ∙ sym (holds-named symbols new r t name at)
+          holds-named symbols old s t name at ∙ ap (λ x. is_in old x name) same ∙ agree name kept kept_too (members-stayed symbols old new s r same before now was is found word bits unchanged b within none name at) ∙ sym (holds-named symbols new r t name at)
       by true e false f = absurd (apart (bit_at kept_old b) (bit_at kept_new b) (are_old b within ∙ ap one_if e) (are_new b within ∙ ap one_if f) (alike b none))
       by false e true f = absurd (apart (bit_at kept_new b) (bit_at kept_old b) (are_new b within ∙ ap one_if f) (are_old b within ∙ ap one_if e) (sym (alike b none)))
       by false e false f = holds-kept symbols old s t e ∙ sym (holds-kept symbols new r t f)

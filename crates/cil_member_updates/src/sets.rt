@@ -91,8 +91,9 @@ pub fn give_set<A: Allocator + Copy>(
 }
 
 /// Moves the counters from what a set statement gave in the old policy to what it gives in the new
-/// one. Only the words are gone over in which the two policies keep different types, or an
-/// attribute that the statement mentions had a step, and those between them.
+/// one. Only the words are gone over in which an attribute that the statement mentions had a step,
+/// or, where it may hold types that none of its names holds, the two policies keep different types,
+/// and those between them.
 pub fn move_set<A: Allocator + Copy>(
     rows: &mut MemberRows<A>,
     alloc: A,

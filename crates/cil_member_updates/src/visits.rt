@@ -290,9 +290,10 @@ fn words_of_names<A: Allocator>(reading: &Reading<'_, A>, rows: &MemberRows<A>) 
     words
 }
 
-/// Words outside which a set statement of both policies holds the same in both: those in which the
-/// policies keep different types or an attribute that it mentions had a step, and what stands
-/// between them.
+/// Words outside which a set statement of both policies holds the same in both: those in which an
+/// attribute that it mentions had a step or, where it may hold types that none of its names holds,
+/// the policies keep different types; and what stands between them. Both policies keep the types
+/// that it names.
 pub fn turned_words<A: Allocator>(stayed: &Stayed<'_, A>, rows: &MemberRows<A>) -> Words
     requires policies { ArePolicies stayed.now.policies.now }
     requires stayed { HasStayed stayed.now rows.now }
@@ -310,5 +311,13 @@ pub fn turned_words<A: Allocator>(stayed: &Stayed<'_, A>, rows: &MemberRows<A>) 
         place: stayed.j,
         held: None,
     };
-    stayed.policies.unlike.joined(words_of_names(&is, rows))
+    let names = words_of_names(&is, rows);
+    if new.resolved.may_hold_any(stayed.j) {
+        return stayed.policies.unlike.joined(names);
+    }
+    let old = stayed.policies.old;
+    reach_is_a_bound();
+    resolved_is_sound(old.resolved);
+    resolved_sets_are_in_order(old.resolved);
+    names
 }
