@@ -16,7 +16,7 @@ pub use Rattle.cil_specs.specs.Shape.{ArePermissions, Fits, IsAllowed, IsAtWord,
 pub use Rattle.cil_specs.specs.Statements.{ClassPermissions, Form, RuleKind, Statements, Target, anonymous, as_declared, as_referred, block, by_name, class_permission_set, is_optional, itself, no_more, optional, permission_words, rule, rule_word, statement, statement_offsets, target_words, the_named, words_of}
 pub use Rattle.cil_specs.specs.TextFault.{IsNoLater, TextFault, TextFaultKind, bad_name, code_of, misshapen, not_in_optional, reserved, unsupported}
 pub use Rattle.cil_specs.specs.Trees.{Trees, a_list, a_string, a_word, are_lists, in_order, none}
-pub use Rattle.cil_text.specs.Expr.{AreExpressionList, BeginsOperation, SpellsElements, SpellsExpr, SpellsOne, SpellsOperation, SpellsTwo, exprs_of, operator_word}
+pub use Rattle.cil_text.specs.Expr.{AreExpressionList, BeginsOperation, SpellsBoxed, SpellsElements, SpellsExpr, SpellsOne, SpellsOperation, SpellsTwo, exprs_of, operator_word}
 pub use Rattle.cil_text.specs.Form.{AreClassAndPermissions, AreClasses, ArePermissionsOf, FitsAs, HasBody, at_of, behind, body_of, form_of, has_body, inner_of}
 pub use Rattle.cil_text.specs.Image.{FaultIs, expr_of, kind_of, permissions_of, place_of, row_expr, row_statements, rule_kind_of, shown, statement_then, statements_of, target_of, tree_then, trees_of, word_of}
 pub use Rattle.cil_text.specs.Name.{role_of, without_dot}

@@ -1,5 +1,5 @@
 -- What the front of trees spells, as the code finds it.
-use Rattle.cil_text.proofs.Common.{◌≡◌, ◌≢◌, ℕ, Bool, true, Option, refl, sym, ◌∙◌, ap, subst, bytes_eq, list_any, Trees, none, a_word, a_string, a_list, put_word, every, operators, Expresses, HasNoOperator, operator_of, AreOperands, operation_spelt, operation_is, no_all, is_nothing, operator_word, SpellsOperation, Expr}
+use Rattle.cil_text.proofs.Common.{◌≡◌, ◌≢◌, ℕ, Bool, true, Option, Some, None, refl, sym, ◌∙◌, ap, subst, bytes_eq, list_any, Trees, none, a_word, a_string, a_list, put_word, every, operators, Expresses, HasNoOperator, operator_of, AreOperands, operation_spelt, operation_is, no_all, is_nothing, expr_of, operator_word, SpellsBoxed, SpellsOne, SpellsOperation, Expr}
 use Rattle.cil_specs.specs.Place.{Place}
 use Rattle.cil_specs.specs.Names.{Word}
 use Rattle.cil_specs.specs.Expr as spec
@@ -7,6 +7,7 @@ use Rattle.cil_text.specs.declared.expr.Operator.{Operator}
 use Rattle.cil_text.specs.declared.expr.Operator.TheVariants.{And, Or, Xor, Not, All}
 use Rattle.cil_text.specs.declared.statement.Expr.TheVariants as exprs
 use Rattle.std.specs.Bool.{then_some}
+use Rattle.std.specs.Prelude.{Box}
 
 -- where no word stands first, no operator does
 pub no_word_first : (trees : Trees) → ((word : Word) (rest : Trees) → trees ≢ put_word word rest) → HasNoOperator trees
@@ -46,3 +47,8 @@ all_found {A} o operands found empty is sees answers =
     by (a_word at text rest) = operation_misfit o All (a_word at text rest) is (λ e. no_all (a_word at text rest) e (λ h. absurd cc))
     by (a_string at text rest) = operation_misfit o All (a_string at text rest) is (λ e. no_all (a_string at text rest) e (λ h. absurd cc))
     by (a_list at end items rest) = operation_misfit o All (a_list at end items rest) is (λ e. no_all (a_list at end items rest) e (λ h. absurd cc))
+
+-- what one tree spells, the trees do that are this one alone
+pub spells_one : {A : Type 0} → (front : Trees → Trees) (trees : Trees) → trees ≡ front none → (found : Option (Box (Expr A) A)) → SpellsBoxed front found → SpellsOne trees found
+spells_one front trees is None spells = λ e h. spells e none none (subst (λ trees. Expresses trees e none) is h)
+spells_one front trees is (Some x) spells = subst (λ trees. Expresses trees (expr_of x.value) none) (sym is) (spells none)

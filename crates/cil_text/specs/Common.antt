@@ -5,7 +5,7 @@ pub use Rattle.cil_specs.specs.Expr.{HasNoOperator, IsListThen, leaves}
 pub use Rattle.cil_specs.specs.Shape.{IsFirstShapeFault, IsShapeFault, IsTargetThen, Shapes, is_among, outside_optionals, put_word}
 pub use Rattle.cil_specs.specs.Statements.{Statements, as_declared, as_referred, is_optional, permission_words, target_words, words_of}
 pub use Rattle.cil_specs.specs.Trees.{Trees, a_list, are_lists, in_order, none}
-pub use Rattle.cil_text.specs.Expr.{AreExpressionList, BeginsOperation, SpellsElements, SpellsExpr, SpellsOne, SpellsOperation, SpellsTwo, exprs_of, operator_word}
+pub use Rattle.cil_text.specs.Expr.{AreExpressionList, BeginsOperation, SpellsBoxed, SpellsElements, SpellsExpr, SpellsOne, SpellsOperation, SpellsTwo, exprs_of, operator_word}
 pub use Rattle.cil_text.specs.Form.{AreClassAndPermissions, AreClasses, ArePermissionsOf, FitsAs, HasBody, IsAttributeAndSet, IsWithoutUnordered, form_of, has_body, inner_of}
 pub use Rattle.cil_text.specs.Image.{FaultIs, expr_of, permissions_of, place_of, statements_of, target_of, tree_then, trees_of, word_of}
 pub use Rattle.cil_text.specs.Name.{kind_option, role_of, without_dot}

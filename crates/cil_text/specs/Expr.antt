@@ -1,5 +1,5 @@
 -- What the code finds of expressions of types and of permissions, where it says so by an option.
-use Rattle.std.specs.Prelude.{◌≡◌, ℕ, List, [], ◌∷◌, Option, Some, None, Vec, Box, codes}
+use Rattle.std.specs.Prelude.{◌≡◌, ℕ, List, [], ◌∷◌, Option, Some, None, Vec, Box, codes, option_map}
 use Rattle.cil_specs.specs.Place.{Place}
 use Rattle.cil_specs.specs.Trees.{Trees, none, a_word, a_list}
 use Rattle.cil_specs.specs.Expr as spec
@@ -25,6 +25,10 @@ exprs_of (x ∷ xs) = elements (expr_of x) (exprs_of xs)
 abbrev pub SpellsExpr : {A : Type 0} → (Trees → Trees) → Option (Expr A) → Type 0
 SpellsExpr front None = (expr : spec.WordExpr) (rest after : Trees) → Expresses (front rest) expr after → ⊥
 SpellsExpr front (Some x) = (rest : Trees) → Expresses (front rest) (expr_of x) rest
+
+-- the front spells the boxed expression, whatever follows it, or none
+abbrev pub SpellsBoxed : {A : Type 0} → (Trees → Trees) → Option (Box (Expr A) A) → Type 0
+SpellsBoxed front found = SpellsExpr front (option_map (λ x. x.value) found)
 
 -- the trees are one list, which spells the expression, or not
 abbrev pub AreExpressionList : {A : Type 0} → Trees → Option (Expr A) → Type 0

@@ -1,7 +1,7 @@
 //! Recognising expressions of types and of permissions.
 
 ghost use Rattle.std.specs.Prelude.{◌≡◌, ℕ, IfOk, MatchOption, bytes_eq, codes};
-ghost use Rattle.cil_text.specs.Common.{a_list, HasNoOperator, trees_of, tree_then, operator_word, AreExpressionList, SpellsExpr, SpellsElements, SpellsOperation, SpellsOne, SpellsTwo, BeginsOperation};
+ghost use Rattle.cil_text.specs.Common.{a_list, HasNoOperator, trees_of, tree_then, operator_word, AreExpressionList, SpellsExpr, SpellsBoxed, SpellsElements, SpellsOperation, SpellsOne, SpellsTwo, BeginsOperation};
 ghost use Rattle.cil_specs.specs.Place.{Place as SpecPlace};
 
 use crate::split::{only_list, only_tree, split_word};
@@ -179,16 +179,18 @@ fn boxed<'a, A: Allocator + Copy>(
     Ok(Box::new(alloc, expr)?)
 }
 
-/// Two expressions, each in a box.
-fn boxed_pair<'a, A: Allocator + Copy>(
+/// The expression that a tree spells, in a box, if it spells one.
+#[cycle(expression)]
+fn operand<'a, A: Allocator + Copy>(
     alloc: A,
-    x: Expr<'a, A>,
-    y: Expr<'a, A>,
-) -> Result<(Box<Expr<'a, A>, A>, Box<Expr<'a, A>, A>), AllocError>
-    ensures { IfOk result (λ made. (made.0.value ≡ x.entry) × (made.1.value ≡ y.entry)) }
+    tree: Tree<'_, 'a>,
+) -> Result<Option<Box<Expr<'a, A>, A>>, AllocError>
+    ensures { IfOk result (SpellsBoxed (tree_then tree.entry)) }
 {
-    let x = boxed(alloc, x)?;
-    Ok((x, boxed(alloc, y)?))
+    match expression(alloc, tree)? {
+        Some(expr) => Ok(Some(boxed(alloc, expr)?)),
+        None => Ok(None),
+    }
 }
 
 #[cycle(expression)]
@@ -201,10 +203,7 @@ fn one_operand<'a, A: Allocator + Copy>(
     let Some(x) = only_tree(operands) else {
         return Ok(None);
     };
-    match expression(alloc, x)? {
-        Some(x) => Ok(Some(boxed(alloc, x)?)),
-        None => Ok(None),
-    }
+    operand(alloc, x)
 }
 
 #[cycle(expression)]
@@ -220,11 +219,11 @@ fn two_operands<'a, A: Allocator + Copy>(
     let Some(y) = only_tree(rest) else {
         return Ok(None);
     };
-    let Some(x) = expression(alloc, x)? else {
+    let Some(x) = operand(alloc, x)? else {
         return Ok(None);
     };
-    let Some(y) = expression(alloc, y)? else {
+    let Some(y) = operand(alloc, y)? else {
         return Ok(None);
     };
-    Ok(Some(boxed_pair(alloc, x, y)?))
+    Ok(Some((x, y)))
 }

@@ -184,8 +184,10 @@ pub fn next_statement<'t, 'a, A: Allocator + Copy>(
     let Tree::List { at, items, .. } = tree else {
         unreachable!("a tree that is no list");
     };
-    let statement = statement(alloc, false, at, items)?;
-    Ok(Some((statement, behind)))
+    match statement(alloc, false, at, items) {
+        Ok(statement) => Ok(Some((statement, behind))),
+        Err(fault) => Err(fault),
+    }
 }
 
 /// The statements that the trees spell, or the first shape fault.

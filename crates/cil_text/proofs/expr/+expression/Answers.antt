@@ -1,4 +1,4 @@
-use Rattle.cil_text.proofs.Common.{◌≡◌, ◌∙◌, ◌+◌, [], ◌∷◌, ◌++◌, ap, sym, subst, refl, inl, rules, arith, codes, none, a_word, a_list, opposite, both, either, one_of, Expresses, true≢false, string_spells, union_spelt, union_is, no_not, no_and, no_or, no_xor, place_of, trees_of, tree_then, expr_of, operator_word, exprs_of, SpellsExpr, SpellsElements, SpellsOperation, SpellsOne, SpellsTwo}
+use Rattle.cil_text.proofs.Common.{◌≡◌, ◌∙◌, ◌+◌, [], ◌∷◌, ◌++◌, ap, sym, subst, refl, inl, rules, arith, codes, none, a_word, a_list, opposite, both, either, one_of, Expresses, true≢false, string_spells, union_spelt, union_is, no_not, no_and, no_or, no_xor, place_of, trees_of, tree_then, expr_of, operator_word, exprs_of, SpellsBoxed, SpellsExpr, SpellsElements, SpellsOperation, SpellsOne, SpellsTwo}
 use Rattle.std.proofs.lemmas.Result.{IfOk-weaker}
 use Rattle.std.proofs.lemmas.Slice.Eq.{bytes_eq-Decides}
 use Rattle.cil_specs.proofs.ExprSame.{none_expresses}
@@ -6,7 +6,7 @@ use Rattle.cil_text.specs.declared.expr.Operator.TheVariants.{And, Or, Xor, Not}
 use Rattle.cil_text.proofs.Rows.{union_of}
 use Rattle.cil_reader.proofs.Nodes.{tree_size, size_first, size_behind}
 use Rattle.cil_text.proofs.Elements.{rest_is, one_tree, HasFound, found_first, found_next, found_none, found_all}
-use Rattle.cil_text.proofs.Spells.{operation_found, operation_misfit, all_found}
+use Rattle.cil_text.proofs.Spells.{operation_found, operation_misfit, all_found, spells_one}
 use Rattle.cil_text.proofs.expr.+expression.Goals as goal
 
 pub elements-loop-tree-init : goal.elements-loop-tree-init
@@ -81,12 +81,11 @@ list_expression-returns-in-None g t c at end e rest after h =
 pub one_operand-returns-in_default : goal.one_operand-returns-in_default
 one_operand-returns-in_default g t c e h = true≢false (sym (one_tree (trees_of c.args.operands) e h) ∙ c.in_default.ensures)
 
-pub one_operand-returns-in_ok-boxed-in-Some-2 : goal.one_operand-returns-in_ok-boxed-in-Some-2
-one_operand-returns-in_ok-boxed-in-Some-2 g t c =
-    let tree = c.in-Some.x in
-    let spelt = subst (SpellsExpr (tree_then tree)) c.in-Some-2.is c.in_ok-x.ensures in
-    subst (λ x. Expresses (trees_of c.args.operands) (expr_of x) none) (sym c.in_ok-boxed-in-Some-2.ensures)
-    (subst (λ trees. Expresses trees (expr_of c.in-Some-2.x) none) (sym c.in-Some.ensures) (spelt none))
+pub one_operand-returns : goal.one_operand-returns
+one_operand-returns g t c =
+    let operands = trees_of c.args.operands in
+    let front = tree_then c.in-Some.x in
+    IfOk-weaker c.operand.result (SpellsBoxed front) (SpellsOne operands) (spells_one front operands c.in-Some.ensures) c.operand.ensures
 
 pub operation-returns-in-All : goal.operation-returns-in-All
 operation-returns-in-All g t c = all_found c.args.operator (trees_of c.args.operands) c.then_some.result c.is_empty.result c.in-All.is c.is_empty.ensures c.then_some.ensures
@@ -149,7 +148,7 @@ two_operands-returns-in_default-3 g t c x y second h k =
     let rest = trees_of c.in-Some.rest in
     let last = c.in-Some-only_tree.y in
     let same = rest_is c.in-Some.x rest second x (subst (λ trees. Expresses trees x second) c.in-Some.ensures h) in
-    let other = subst (SpellsExpr (tree_then last)) c.in_default-3.is c.in_ok-y.ensures in
+    let other = subst (SpellsBoxed (tree_then last)) c.in_default-3.is c.in_ok-y.ensures in
     other y none none (subst (λ trees. Expresses trees y none) (sym same ∙ c.in-Some-only_tree.ensures) k)
 
 pub list_expression-returns-in-Some-2 : goal.list_expression-returns-in-Some-2

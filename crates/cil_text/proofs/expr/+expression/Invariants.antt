@@ -9,14 +9,17 @@ decreases-expression g l = 4 * tree_size (tree_then l.tree none)
 abbrev pub decreases-elements : goal.decreases-elements
 decreases-elements g l = 4 * tree_size (trees_of l.trees) + 1
 
+abbrev pub decreases-operand : goal.decreases-operand
+decreases-operand g l = 4 * tree_size (tree_then l.tree none) + 1
+
 abbrev pub decreases-one_operand : goal.decreases-one_operand
-decreases-one_operand g l = 4 * tree_size (trees_of l.operands) + 1
+decreases-one_operand g l = 4 * tree_size (trees_of l.operands) + 2
 
 abbrev pub decreases-two_operands : goal.decreases-two_operands
-decreases-two_operands g l = 4 * tree_size (trees_of l.operands) + 1
+decreases-two_operands g l = 4 * tree_size (trees_of l.operands) + 2
 
 abbrev pub decreases-operation : goal.decreases-operation
-decreases-operation g l = 4 * tree_size (trees_of l.operands) + 2
+decreases-operation g l = 4 * tree_size (trees_of l.operands) + 3
 
 abbrev pub decreases-list_expression : goal.decreases-list_expression
 decreases-list_expression g l = 4 * tree_size (trees_of l.items) + 3
