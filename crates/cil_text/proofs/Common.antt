@@ -17,11 +17,12 @@ pub use Rattle.cil_specs.specs.Statements.{ClassPermissions, Form, RuleKind, Sta
 pub use Rattle.cil_specs.specs.TextFault.{IsNoLater, TextFault, TextFaultKind, bad_name, code_of, misshapen, not_in_optional, reserved, unsupported}
 pub use Rattle.cil_specs.specs.Trees.{Trees, a_list, a_string, a_word, are_lists, in_order, none}
 pub use Rattle.cil_text.specs.Expr.{AreExpressionList, BeginsOperation, SpellsBoxed, SpellsElements, SpellsExpr, SpellsOne, SpellsOperation, SpellsTwo, exprs_of, operator_word}
-pub use Rattle.cil_text.specs.Form.{AreClassAndPermissions, AreClasses, ArePermissionsOf, FitsAs, HasBody, at_of, behind, body_of, form_of, has_body, inner_of}
+pub use Rattle.cil_text.specs.Form.{AreClassAndPermissions, AreClasses, ArePermissionsOf, FitsAs, at_of, form_of, scope_form}
 pub use Rattle.cil_text.specs.Image.{FaultIs, expr_of, kind_of, permissions_of, place_of, row_expr, row_statements, rule_kind_of, shown, statement_then, statements_of, target_of, tree_then, trees_of, word_of}
+pub use Rattle.cil_text.specs.Keyword.{opens, spelling}
 pub use Rattle.cil_text.specs.Name.{role_of, without_dot}
 pub use Rattle.cil_text.specs.Split.{AreWordAndList, AreWordList}
-pub use Rattle.cil_text.specs.Walk.{AreGood, Checks, IsFaultOf, IsFirstAmong, IsFirstBad, IsFirstOf, IsFoundAs, IsHeading, IsHeadingFault, IsStatement, in_role}
+pub use Rattle.cil_text.specs.Walk.{AreGood, Checks, IsFaultOf, IsFirstAmong, IsFirstBad, IsFirstOf, IsFoundAs, IsHeading, IsHeadingFault, IsScope, IsStatement, in_role}
 pub use Rattle.cil_text.specs.declared.statement.Expr.{Expr, Row_of-Expr, end_of-Expr, more_of-Expr}
 pub use Rattle.cil_text.specs.declared.statement.Statement.{Block', Class, ClassCommon, ClassOrder, ClassPermission, ClassPermissionSet, Common, Optional', Row_of-Statement, Rule, Statement, Statement-F, TypeAlias, TypeAliasActual, TypeAttribute, TypeAttributeSet, TypeName, end_of-Statement, more_of-Statement, out-Statement, roll-Statement, roll-out-Statement}
 pub use Rattle.std.proofs.Common.{Bool, Bor, Contains, Err, IfErr, IsErrAnd, IsTrue, List, MatchOption, None, Ok, Option, Result, Some, Vec, [], add-one, ap, arith, bytes_eq, codes, cond, drop, false, get_or, if◌then◌else◌, inl, inr, length, map, max, nat_le, not, option_map, refl, rules, subst, suc, sym, tests, true, zero, ℕ, ◌&&◌, ◌*◌, ◌++◌, ◌+◌, ◌-◌, ◌<◌, ◌==◌, ◌||◌, ◌∙◌, ◌∷◌, ◌≡◌, ◌≢◌, ◌≤◌, ◌⊎◌}

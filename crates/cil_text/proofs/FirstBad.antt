@@ -130,9 +130,12 @@ found_is P Q Memory more h = absurd h
 found_is P Q (Found kind at word) more h = more (record { kind = kind_of kind; at = place_of at; word = shown word }) h
 
 -- an error that is handed on
+pub handed : {T : Type 0} → (P : code.TextFault → Type 0) (result : Result T code.TextFault) (fault : code.TextFault) → IsErrAnd result (λ given. given ≡ fault) → P fault → IfErr result P
+handed P (Ok x) fault given h = absurd given
+handed P (Err e) fault given h = subst P (sym given) h
+
 pub handed_on : {T : Type 0} → (Q : TextFault → Type 0) (result : Result T code.TextFault) (fault : code.TextFault) → IsErrAnd result (λ given. given ≡ fault) → FaultIs fault Q → IfErr result (λ f. FaultIs f Q)
-handed_on Q (Ok x) fault given h = absurd given
-handed_on Q (Err e) fault given h = subst (λ f. FaultIs f Q) (sym given) h
+handed_on Q = handed (λ fault. FaultIs fault Q)
 
 -- a fault of which more is known
 pub fault_weaker : (P Q : TextFault → Type 0) (fault : code.TextFault) → ((f : TextFault) → P f → Q f) → FaultIs fault P → FaultIs fault Q

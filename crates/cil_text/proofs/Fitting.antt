@@ -1,15 +1,9 @@
 -- Operands that fit a form.
-use Rattle.cil_text.proofs.Common.{◌≡◌, ◌≢◌, ℕ, Option, Some, None, IsTrue, refl, sym, ◌∙◌, ap, subst, codes, Trees, none, a_list, are_lists, IsListThen, WordExpr, Expresses, RuleKind, rule_word, Target, itself, the_named, ClassPermissions, anonymous, by_name, Form, class_permission_set, rule, put_word, IsTargetThen, IsExpressionList, IsClassAndPermissions, ArePermissions, first_word, put_same, list_same, OperandsFit, behind, expr_of, SpellsExpr, AreExpressionList, Expr}
+use Rattle.cil_text.proofs.Common.{◌≡◌, ◌≢◌, ℕ, Option, Some, None, refl, sym, ◌∙◌, ap, subst, codes, Trees, none, a_list, IsListThen, WordExpr, Expresses, RuleKind, rule_word, Target, itself, the_named, ClassPermissions, anonymous, by_name, Form, class_permission_set, rule, put_word, IsTargetThen, IsExpressionList, IsClassAndPermissions, ArePermissions, first_word, put_same, list_same, OperandsFit, expr_of, SpellsExpr, AreExpressionList, Expr}
 use Rattle.cil_specs.specs.Place.{Place}
 use Rattle.cil_specs.specs.Names as spec
 use Rattle.cil_specs.specs.Statements.{allow, auditallow, dontaudit, neverallow}
 use Rattle.cil_specs.proofs.ExprLemmas.{apart}
-
--- the trees behind a word
-pub scope_operands : (operands inner : Trees) (id : spec.Word) → operands ≡ put_word id inner → IsTrue (are_lists inner) → (operands ≡ put_word id (behind operands)) × IsTrue (are_lists (behind operands))
-scope_operands operands inner id is lists =
-    let same : inner ≡ behind operands = ap behind (sym is) in
-    (is ∙ ap (put_word id) same, subst (λ trees. IsTrue (are_lists trees)) same lists)
 
 -- what the one list in trees spells, they spell
 pub in_a_list : {A : Type 0} → (trees items : Trees) → IsListThen trees items none → (found : Option (Expr A)) → ((at : Place) (end : ℕ) → SpellsExpr (a_list at end items) found) → AreExpressionList trees found

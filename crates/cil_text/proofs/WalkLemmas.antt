@@ -1,54 +1,60 @@
 -- Statements one after the other, and the first fault among them.
-use Rattle.cil_text.proofs.Common.{◌≡◌, ℕ, ◌+◌, ◌-◌, ◌≤◌, inl, inr, Bool, false, ◌||◌, List, [], ◌∷◌, ◌++◌, refl, sym, ◌∙◌, ap, subst, IsTrue, arith, true≢false, TextFault, IsNoLater, Trees, none, a_list, are_lists, in_order, Form, is_optional, Statements, no_more, Fits, Shapes, IsShapeFault, IsInnerFault, first_word, OperandsFit, fits_begin, order_list, inner_fault_is, list_no_fault, inner_of_list, shapes_no_fault, fits_rise, fault_within, list_within, tree_then, statement_then, statements_of, form_of, has_body, body_of, HasBody, IsHeading, IsStatement, IsFaultOf, IsFirstOf, IsFirstAmong, Tree, Statement}
+use Rattle.cil_text.proofs.Common.{◌≡◌, ℕ, ◌+◌, ◌-◌, ◌<◌, ◌≤◌, inl, inr, Bool, false, ◌||◌, List, [], ◌∷◌, ◌++◌, refl, sym, ◌∙◌, ap, subst, IsTrue, arith, true≢false, TextFault, IsNoLater, Trees, none, a_list, are_lists, in_order, Form, is_optional, Statements, no_more, Fits, Shapes, IsShapeFault, IsInnerFault, first_word, OperandsFit, fits_begin, order_list, inner_fault_is, list_no_fault, inner_of_list, shapes_no_fault, fits_rise, fault_within, list_within, tree_then, statement_then, statements_of, form_of, at_of, block, optional, word_of, place_of, Vec, IsHeading, IsScope, IsStatement, IsFaultOf, IsFirstOf, IsFirstAmong, Tree, Statement}
 use Rattle.cil_specs.specs.Place.{Place}
 use Rattle.cil_specs.specs.Statements as spec
 use Rattle.cil_reader.specs.declared.place.Place as code_place
+use Rattle.cil_reader.specs.declared.word.Word as words
 use Rattle.cil_reader.specs.declared.tree.Tree.TheVariants.{Word, String, List as Listed}
 use Rattle.cil_reader.specs.declared.tree.TreeSlice.{TreeSlice}
 use Rattle.cil_reader.proofs.Nodes.{tree_size}
-use Rattle.cil_text.proofs.Bodies.{leaf_then}
+use Rattle.cil_text.specs.declared.statement.Statement.TheVariants.{Block, Optional}
+use Rattle.cil_text.proofs.Rows.{block_then, optional_then}
+use Rattle.cil_text.proofs.Bodies.{has_body, leaf_then}
 
--- only blocks and optionals have inner statements
-body-is : (form : Form) (operands inner : Trees) (inside : Bool) (body : Statements) → OperandsFit operands form inner → Shapes inside inner body → body_of form body ≡ body
-body-is (spec.block id) operands inner inside body fits h = refl
-body-is (spec.optional id) operands inner inside body fits h = refl
-body-is _ operands inner inside no_more fits h = refl
-body-is _ operands inner inside (spec.statement at form more rest) fits h = absurd (let e : none ≡ a_list at h.0 h.1 h.3 = sym fits.1 ∙ h.4 in cc)
+-- a heading of a statement that holds no others is the statement
+pub leaf_is : {A : Type 0} → (inside : Bool) (at : Place) (parts : Trees) (s : Statement A) → at_of s ≡ at → IsHeading inside parts (form_of s) none → has_body (form_of s) ≡ false → IsStatement inside at parts s
+leaf_is inside at parts s here heading leaf = record {
+  form = form_of s;
+  inner = none;
+  body = no_more;
+  is = λ more. leaf_then s more leaf ∙ ap (λ at. spec.statement at (form_of s) no_more more) here;
+  fits = heading.fits;
+  allowed = heading.allowed;
+  good = heading.good;
+  holds = refl;
+}
 
--- a heading with the statements inside it is a statement
-pub statement_is : {A : Type 0} → (inside : Bool) (at : Place) (parts inner : Trees) (s new : Statement A) (body : List (Statement A)) → IsHeading inside at parts s inner
-    → Shapes (inside || is_optional (form_of s)) inner (statements_of body) → HasBody s body new → IsStatement inside at parts new
-statement_is inside at parts inner s new body heading holds has =
-    let form = form_of s in
-    let b = fits_begin parts form inner heading.fits in
-    record {
-      form = form;
-      inner = inner;
-      body = statements_of body;
-      is = λ more. has more ∙ λ i. spec.statement (heading.place i) form (body-is form b.1 inner (inside || is_optional form) (statements_of body) b.3 holds i) more;
-      fits = heading.fits;
-      allowed = heading.allowed;
-      good = heading.good;
-      holds = holds;
-    }
+-- a block and an optional are their headings with the statements inside them
+pub block_is : {A : Type 0} → (inside : Bool) (at : code_place.Place) (parts : Trees) (id : words.Word) (body : Vec (Statement A) A) → IsScope inside parts (block (word_of id)) (statements_of body.items)
+    → IsStatement inside (place_of at) parts (Block at id body)
+block_is inside at parts id body h = record {
+  form = block (word_of id);
+  inner = h.inner;
+  body = statements_of body.items;
+  is = block_then at id body;
+  fits = h.heading.fits;
+  allowed = h.heading.allowed;
+  good = h.heading.good;
+  holds = h.holds;
+}
 
--- nothing is inside a form that may have nothing inside it
-leaf-inner : (operands inner : Trees) (form : Form) → has_body form ≡ false → OperandsFit operands form inner → inner ≡ none
-leaf-inner operands inner (spec.block id) leaf fits = absurd cc
-leaf-inner operands inner (spec.optional id) leaf fits = absurd cc
-leaf-inner operands inner _ leaf fits = fits.1
-
--- a heading that may have no statements inside it is a statement
-pub leaf_is : {A : Type 0} → (inside : Bool) (at : Place) (parts inner : Trees) (s : Statement A) → IsHeading inside at parts s inner → has_body (form_of s) ≡ false → IsStatement inside at parts s
-leaf_is inside at parts inner s heading leaf =
-    let b = fits_begin parts (form_of s) inner heading.fits in
-    statement_is inside at parts inner s s [] heading (leaf-inner b.1 inner (form_of s) leaf b.3) (λ more. leaf_then s no_more more leaf)
+pub optional_is : {A : Type 0} → (inside : Bool) (at : code_place.Place) (parts : Trees) (id : words.Word) (body : Vec (Statement A) A) → IsScope inside parts (optional (word_of id)) (statements_of body.items)
+    → IsStatement inside (place_of at) parts (Optional at id body)
+optional_is inside at parts id body h = record {
+  form = optional (word_of id);
+  inner = h.inner;
+  body = statements_of body.items;
+  is = optional_then at id body;
+  fits = h.heading.fits;
+  allowed = h.heading.allowed;
+  good = h.heading.good;
+  holds = h.holds;
+}
 
 -- the first fault of the inner statements is that of the list
-pub inner_first : {A : Type 0} → (inside : Bool) (at : Place) (parts inner : Trees) (s : Statement A) (fault : TextFault) → IsHeading inside at parts s inner
-    → IsFirstAmong (inside || is_optional (form_of s)) inner fault → IsFirstOf inside at parts fault
-inner_first inside at parts inner s fault heading is =
-    let form = form_of s in
+pub inner_first : (inside : Bool) (at : Place) (parts inner : Trees) (form : Form) (fault : TextFault) → IsHeading inside parts form inner → IsFirstAmong (inside || is_optional form) inner fault
+    → IsFirstOf inside at parts fault
+inner_first inside at parts inner form fault heading is =
     let b = fits_begin parts form inner heading.fits in
     record {
       is = inr (subst (λ parts. IsInnerFault inside parts fault) (sym b.2) (inner_fault_is form b.0 b.1 inner inside fault b.3 is.is));
@@ -58,8 +64,8 @@ inner_first inside at parts inner s fault heading is =
     }
   where
     by : (low high : ℕ) → IsTrue (in_order low inner high) → (other : TextFault) → IsFaultOf inside at parts other → IsNoLater fault other
-    by low high order other (inl h) = absurd (list_no_fault inside at parts inner (form_of s) other heading.fits heading.allowed heading.good h)
-    by low high order other (inr h) = is.first low high order other (inner_of_list inside parts inner (form_of s) other heading.fits h)
+    by low high order other (inl h) = absurd (list_no_fault inside at parts inner form other heading.fits heading.allowed heading.good h)
+    by low high order other (inr h) = is.first low high order other (inner_of_list inside parts inner form other heading.fits h)
 
 -- the statements, and then the others
 abbrev pub statements_then : {A : Type 0} → List (Statement A) → Statements → Statements
@@ -135,8 +141,8 @@ no_other (Word w) rest not_list lists = true≢false (sym lists)
 no_other (String w) rest not_list lists = true≢false (sym lists)
 no_other (Listed at end items) rest not_list lists = not_list at end items refl
 
--- what stands inside is no more than all
-pub fits_size : (form : Form) (parts inner : Trees) → Fits parts form inner → tree_size inner ≤ tree_size parts
+-- what stands inside is less than all
+pub fits_size : (form : Form) (parts inner : Trees) → Fits parts form inner → tree_size inner < tree_size parts
 fits_size form parts inner fits =
     let b = fits_begin parts form inner fits in
     let all : tree_size parts ≡ tree_size b.1 + 1 = ap tree_size b.2 in

@@ -6,8 +6,8 @@ pub use Rattle.cil_specs.specs.Shape.{IsFirstShapeFault, IsShapeFault, IsTargetT
 pub use Rattle.cil_specs.specs.Statements.{Statements, as_declared, as_referred, is_optional, permission_words, target_words, words_of}
 pub use Rattle.cil_specs.specs.Trees.{Trees, a_list, are_lists, in_order, none}
 pub use Rattle.cil_text.specs.Expr.{AreExpressionList, BeginsOperation, SpellsBoxed, SpellsElements, SpellsExpr, SpellsOne, SpellsOperation, SpellsTwo, exprs_of, operator_word}
-pub use Rattle.cil_text.specs.Form.{AreClassAndPermissions, AreClasses, ArePermissionsOf, FitsAs, HasBody, IsAttributeAndSet, IsWithoutUnordered, form_of, has_body, inner_of}
+pub use Rattle.cil_text.specs.Form.{AreClassAndPermissions, AreClasses, ArePermissionsOf, FitsAs, IsAttributeAndSet, IsWithoutUnordered, form_of, scope_form}
 pub use Rattle.cil_text.specs.Image.{FaultIs, expr_of, permissions_of, place_of, statements_of, target_of, tree_then, trees_of, word_of}
 pub use Rattle.cil_text.specs.Name.{kind_option, role_of, without_dot}
-pub use Rattle.cil_text.specs.Walk.{AreGood, Checks, IsFirstAmong, IsFirstOf, IsHeading, IsHeadingFault, IsNext, IsStatement, in_role}
+pub use Rattle.cil_text.specs.Walk.{AreGood, BeginsAs, Checks, IsFirstAmong, IsFirstOf, IsHeading, IsHeadingFault, IsLeafWord, IsNext, IsOpener, IsScope, IsStatement, in_role}
 pub use Rattle.std.specs.List.{list_all, list_any, slice_split}

@@ -1,15 +1,16 @@
 -- Statements by their forms, and the forms that operands fit.
-use Rattle.std.specs.Prelude.{◌≡◌, ◌≢◌, ◌⊎◌, Bool, true, false, if◌then◌else◌, List, map, Option, Some, None, Vec, codes}
+use Rattle.std.specs.Prelude.{◌≡◌, ◌≢◌, ◌⊎◌, List, map, Option, Some, None, Vec, codes}
 use Rattle.cil_specs.specs.Place as spec_place
 use Rattle.cil_specs.specs.Names as spec_names
-use Rattle.cil_specs.specs.Trees.{Trees, none, a_word, a_string, a_list}
+use Rattle.cil_specs.specs.Trees.{Trees, none, a_word}
 use Rattle.cil_specs.specs.Expr as spec_exprs
 use Rattle.cil_specs.specs.Expr.{Expresses}
-use Rattle.cil_specs.specs.Statements.{Form, block, optional, type_name, type_alias, alias_actual, type_attribute, attribute_set, common, class, class_common, class_order, class_permission, class_permission_set, rule, ClassPermissions, Statements, no_more, statement}
+use Rattle.cil_specs.specs.Statements.{Form, block, optional, type_name, type_alias, alias_actual, type_attribute, attribute_set, common, class, class_common, class_order, class_permission, class_permission_set, rule, ClassPermissions}
 use Rattle.cil_specs.specs.Shape.{put_word, IsClassList, IsClassAndPermissions, ArePermissions, Fits}
-use Rattle.cil_text.specs.Image.{place_of, word_of, expr_of, rule_kind_of, target_of, permissions_of, statement_then, statements_of}
+use Rattle.cil_text.specs.Image.{place_of, word_of, expr_of, rule_kind_of, target_of, permissions_of}
 use Rattle.cil_text.specs.Keyword.{spelling}
 use Rattle.cil_text.specs.declared.keyword.Keyword.{Keyword}
+use Rattle.cil_text.specs.declared.keyword.Keyword.TheVariants.{Optional}
 use Rattle.cil_reader.specs.declared.word.Word.{Word}
 use Rattle.cil_text.specs.declared.statement.Expr.{Expr}
 use Rattle.cil_text.specs.declared.statement.ClassPermissions as code
@@ -49,27 +50,15 @@ at_of (ClassPermission at id) = place_of at
 at_of (ClassPermissionSet at set the_class permissions) = place_of at
 at_of (Rule at kind source target permissions) = place_of at
 
--- whether statements may stand inside a statement of the form
-abbrev pub has_body : Form → Bool
-has_body (block id) = true
-has_body (optional id) = true
-has_body _ = false
-
--- the trees behind the first
-abbrev pub behind : Trees → Trees
-behind none = none
-behind (a_word at text rest) = rest
-behind (a_string at text rest) = rest
-behind (a_list at end items rest) = rest
-
--- the inner statements among the operands of a form
-abbrev pub inner_of : Form → Trees → Trees
-inner_of form operands = if has_body form then behind operands else none
+-- the form of a block or an optional with this first word and this name
+abbrev pub scope_form : Keyword → spec_names.Word → Form
+scope_form Optional id = optional id
+scope_form _ id = block id
 
 -- the keyword and the operands fit the form of the statement, which stands there, or no form
 abbrev pub FitsAs : {A : Type 0} → spec_place.Place → Keyword → Trees → Option (Statement A) → Type 0
 FitsAs at keyword operands None = (place : spec_place.Place) (form : Form) (inner : Trees) → Fits (a_word place (spelling keyword) operands) form inner → ⊥
-FitsAs at keyword operands (Some s) = (at_of s ≡ at) × ((place : spec_place.Place) → Fits (a_word place (spelling keyword) operands) (form_of s) (inner_of (form_of s) operands))
+FitsAs at keyword operands (Some s) = (at_of s ≡ at) × ((place : spec_place.Place) → Fits (a_word place (spelling keyword) operands) (form_of s) none)
 
 -- the trees are an attribute and an expression, or not
 abbrev pub IsAttributeAndSet : {A : Type 0} → Trees → Option (Word × Expr A) → Type 0
@@ -95,11 +84,3 @@ AreClassAndPermissions trees (Some (the_class, permissions)) = IsClassAndPermiss
 abbrev pub ArePermissionsOf : {A : Type 0} → Trees → Option (code.ClassPermissions A) → Type 0
 ArePermissionsOf trees None = (permissions : ClassPermissions) → ArePermissions trees permissions → ⊥
 ArePermissionsOf trees (Some x) = ArePermissions trees (permissions_of x)
-
--- the inner statements of a form that may have some
-abbrev pub body_of : Form → Statements → Statements
-body_of form body = if has_body form then body else no_more
-
--- the new statement is the old one with these inside it, where its form may have some
-abbrev pub HasBody : {A : Type 0} → Statement A → List (Statement A) → Statement A → Type 0
-HasBody old body new = (more : Statements) → statement_then new more ≡ statement (at_of old) (form_of old) (body_of (form_of old) (statements_of body)) more

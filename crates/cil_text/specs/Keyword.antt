@@ -1,5 +1,5 @@
 -- How keywords are spelt.
-use Rattle.std.specs.Prelude.{ℕ, List, codes}
+use Rattle.std.specs.Prelude.{ℕ, Bool, true, false, List, codes}
 use Rattle.cil_specs.specs.Statements.{rule_word}
 use Rattle.cil_text.specs.Image.{rule_kind_of}
 use Rattle.cil_text.specs.declared.keyword.Keyword.{Keyword}
@@ -20,3 +20,9 @@ spelling ClassOrder = codes "classorder"
 spelling ClassPermission = codes "classpermission"
 spelling ClassPermissionSet = codes "classpermissionset"
 spelling (Rule kind) = rule_word (rule_kind_of kind)
+
+-- whether statements may stand inside a statement with this first word
+abbrev pub opens : Keyword → Bool
+opens Block = true
+opens Optional = true
+opens _ = false

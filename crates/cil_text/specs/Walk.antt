@@ -8,10 +8,10 @@ use Rattle.cil_specs.specs.Names.{Word, Role, name_fault}
 use Rattle.cil_specs.specs.Trees.{Trees, none, a_list, in_order}
 use Rattle.cil_specs.specs.Statements as spec_statements
 use Rattle.cil_specs.specs.Statements.{Form, words_of, is_optional, Statements}
-use Rattle.cil_specs.specs.Shape.{is_among, outside_optionals, Fits, IsAllowed, Shapes, IsAtWord, IsGoodWord, IsListFault, IsInnerFault, IsShapeFault}
-use Rattle.cil_text.specs.Image.{place_of, kind_of, shown, trees_of, statement_then}
+use Rattle.cil_specs.specs.Shape.{is_among, outside_optionals, put_word, Fits, IsAllowed, Shapes, IsAtWord, IsGoodWord, IsListFault, IsInnerFault, IsShapeFault}
+use Rattle.cil_text.specs.Image.{place_of, kind_of, shown, trees_of, word_of, statement_then}
 use Rattle.cil_text.specs.Form.{form_of, at_of}
-use Rattle.cil_text.specs.Keyword.{spelling}
+use Rattle.cil_text.specs.Keyword.{opens, spelling}
 use Rattle.cil_text.specs.declared.keyword.Keyword.{Keyword}
 use Rattle.cil_reader.specs.declared.word.Word as code
 use Rattle.cil_reader.specs.declared.fault.TextFaultKind.TheVariants.{NotInOptional}
@@ -49,13 +49,30 @@ IsHeadingFault inside keyword first form fault =
     ((inside ≡ true) × (is_among outside_optionals (spelling keyword) ≡ true) × (fault ≡ Found NotInOptional first.at (Text first.text)))
     ⊎ ((IsTrue inside → is_among outside_optionals (spelling keyword) ≡ false) × IsFoundAs (IsFirstBad (words_of form)) fault)
 
--- A list of the parts fits the form of the statement, which may stand there, and the words that are its own are good. Its inner
--- statements are left.
-pub record IsHeading {A : Type 0} (inside : Bool) (at : Place) (parts : Trees) (s : Statement A) (inner : Trees) : Type 0 where
-  pub place : at_of s ≡ at
-  pub fits : Fits parts (form_of s) inner
+-- the parts are this word, which is the keyword, and these operands
+abbrev pub BeginsAs : Trees → code.Word → Keyword → Trees → Type 0
+BeginsAs parts first keyword operands = (parts ≡ put_word (word_of first) operands) × (first.text.now ≡ spelling keyword)
+
+-- the word is this keyword, that of a statement that may hold others
+abbrev pub IsOpener : Keyword → code.Word → Type 0
+IsOpener keyword first = (opens keyword ≡ true) × (first.text.now ≡ spelling keyword)
+
+-- the word is this keyword, that of a statement that holds no others
+abbrev pub IsLeafWord : Keyword → code.Word → Type 0
+IsLeafWord keyword first = (opens keyword ≡ false) × (first.text.now ≡ spelling keyword)
+
+-- A list of the parts fits the form, its statement may stand there, and the words that are its own are good. Its inner statements
+-- are left.
+pub record IsHeading (inside : Bool) (parts : Trees) (form : Form) (inner : Trees) : Type 0 where
+  pub fits : Fits parts form inner
   pub allowed : IsAllowed inside parts
-  pub good : AreGood (words_of (form_of s))
+  pub good : AreGood (words_of form)
+
+-- such a list, and the statements inside it
+pub record IsScope (inside : Bool) (parts : Trees) (form : Form) (body : Statements) : Type 0 where
+  pub inner : Trees
+  pub heading : IsHeading inside parts form inner
+  pub holds : Shapes (inside || is_optional form) inner body
 
 -- a list of the parts spells the statement
 pub record IsStatement {A : Type 0} (inside : Bool) (at : Place) (parts : Trees) (s : Statement A) : Type 0 where

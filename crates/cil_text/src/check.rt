@@ -21,7 +21,7 @@ pub fn fault_at(kind: TextFaultKind, word: Word) -> TextFault
 
 /// Finds what is wrong with a word in this role.
 #[inline(always)]
-fn check_word(role: Role, word: Word) -> Result<(), TextFault>
+pub fn check_word(role: Role, word: Word) -> Result<(), TextFault>
     ensures { Checks ((role_of role, word_of word.entry) ∷ []) result }
 {
     match name_fault(role, word.text) {

@@ -1,53 +1,16 @@
 //! Fitting the operands of a statement's first word to its form (CIL Reference Guide, under the
 //! word of each).
 
-ghost use Rattle.std.specs.Prelude.{◌≡◌, ◌≢◌, IfOk};
+ghost use Rattle.std.specs.Prelude.{◌≡◌, ◌≢◌, false, IfOk};
 ghost use Rattle.cil_text.specs.Common.{Trees, put_word, IsTargetThen, place_of, word_of, trees_of, target_of, FitsAs, IsWithoutUnordered, AreClasses, AreClassAndPermissions, ArePermissionsOf, IsAttributeAndSet};
+ghost use Rattle.cil_text.specs.Keyword.{opens};
 
 use crate::expr::{expression, expression_list};
 use crate::keyword::Keyword;
-use crate::split::{
-    are_lists, only_list, only_tree, only_word, split_word, two_words, word_and_list, words,
-};
+use crate::split::{only_list, only_tree, only_word, split_word, two_words, word_and_list, words};
 use crate::statement::{ClassPermissions, Expr, RuleKind, Statement, Target};
 use cil_reader::{Place, TreeSlice, Word};
 use std::alloc::{AllocError, Allocator};
-
-fn block<'a, A: Allocator + Copy>(
-    alloc: A,
-    at: Place,
-    operands: TreeSlice<'_, 'a>,
-) -> Option<Statement<'a, A>>
-    ensures { FitsAs (place_of at) Keyword.Block (trees_of operands.entry) result }
-{
-    let (id, inner) = split_word(operands)?;
-    if !are_lists(inner) {
-        return None;
-    }
-    Some(Statement::Block {
-        at,
-        id,
-        body: Vec::new(alloc),
-    })
-}
-
-fn optional<'a, A: Allocator + Copy>(
-    alloc: A,
-    at: Place,
-    operands: TreeSlice<'_, 'a>,
-) -> Option<Statement<'a, A>>
-    ensures { FitsAs (place_of at) Keyword.Optional (trees_of operands.entry) result }
-{
-    let (id, inner) = split_word(operands)?;
-    if !are_lists(inner) {
-        return None;
-    }
-    Some(Statement::Optional {
-        at,
-        id,
-        body: Vec::new(alloc),
-    })
-}
 
 fn type_name<'a, A: Allocator>(at: Place, operands: TreeSlice<'_, 'a>) -> Option<Statement<'a, A>>
     ensures { FitsAs (place_of at) Keyword.TypeName (trees_of operands.entry) result }
@@ -308,18 +271,18 @@ fn rule<'a, A: Allocator + Copy>(
     }
 }
 
-/// The statement whose form the operands of a keyword fit, with no statements inside it yet.
+/// The statement whose form the operands of a keyword fit. It holds no others.
 pub fn fit<'a, A: Allocator + Copy>(
     alloc: A,
     at: Place,
     keyword: Keyword,
     operands: TreeSlice<'_, 'a>,
 ) -> Result<Option<Statement<'a, A>>, AllocError>
+    requires leaf { opens keyword ≡ false }
     ensures { IfOk result (FitsAs (place_of at) keyword (trees_of operands.entry)) }
 {
     match keyword {
-        Keyword::Block => Ok(block(alloc, at, operands)),
-        Keyword::Optional => Ok(optional(alloc, at, operands)),
+        Keyword::Block | Keyword::Optional => unreachable!("a statement that holds others"),
         Keyword::TypeName => Ok(type_name(at, operands)),
         Keyword::TypeAlias => Ok(type_alias(at, operands)),
         Keyword::TypeAliasActual => Ok(type_alias_actual(at, operands)),

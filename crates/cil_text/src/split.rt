@@ -1,6 +1,6 @@
 //! Trees from the front on, as the forms of statements ask for them.
 
-ghost use Rattle.std.specs.Prelude.{◌≡◌, ◌≢◌, false, IfOk, MatchOption};
+ghost use Rattle.std.specs.Prelude.{◌≡◌, ◌≢◌, false, IfOk, IsTrue, MatchOption};
 ghost use Rattle.cil_text.specs.Common.{Trees, none, are_lists, IsListThen, put_word, tree_then, trees_of, word_of, is_one};
 ghost use Rattle.cil_specs.specs.Names.{Word as SpecWord};
 ghost use Rattle.cil_text.specs.Split.{AreWords, AreWordList, AreWordAndList};
@@ -83,7 +83,7 @@ pub fn only_list<'t, 'a>(trees: TreeSlice<'t, 'a>) -> Option<TreeSlice<'t, 'a>>
 }
 
 /// Whether each of the trees is a list.
-pub fn are_lists(trees: TreeSlice<'_, '_>) -> bool
+fn are_lists(trees: TreeSlice<'_, '_>) -> bool
     ensures { result ≡ are_lists (trees_of trees.entry) }
 {
     let mut rest = trees;
@@ -94,6 +94,21 @@ pub fn are_lists(trees: TreeSlice<'_, '_>) -> bool
         rest = behind;
     }
     true
+}
+
+/// A word, and lists behind it.
+pub fn word_and_lists<'t, 'a>(trees: TreeSlice<'t, 'a>) -> Option<(Word<'a>, TreeSlice<'t, 'a>)>
+    ensures { MatchOption result
+        ((word : SpecWord) (lists : Trees)
+        → trees_of trees.entry ≡ put_word word lists → are_lists lists ≡ false)
+        (λ found. (trees_of trees.entry ≡ put_word (word_of found.0) (trees_of found.1))
+        × IsTrue (are_lists (trees_of found.1))) }
+{
+    let (word, lists) = split_word(trees)?;
+    if !are_lists(lists) {
+        return None;
+    }
+    Some((word, lists))
 }
 
 /// Words and nothing else.

@@ -1,71 +1,20 @@
 //! Recognising the statements that trees spell.
 
-ghost use Rattle.std.specs.Prelude.{◌≡◌, ◌&&◌, ◌||◌, false, not, IfOk, IfErr, OnOk, IsTrue};
-ghost use Rattle.cil_text.specs.Common.{are_lists, is_optional, words_of, is_among, outside_optionals, Shapes, IsFirstShapeFault, place_of, trees_of, statements_of, FaultIs, forest_of, form_of, has_body, inner_of, HasBody, AreGood, IsHeading, IsHeadingFault, IsStatement, IsNext, IsFirstOf, IsFirstAmong};
+ghost use Rattle.std.specs.Prelude.{◌≡◌, ◌&&◌, ◌||◌, Bool, false, not, IfOk, IfErr, OnOk, IsTrue};
+ghost use Rattle.cil_specs.specs.Names.{Word as SpecWord};
+ghost use Rattle.cil_specs.specs.Place.{Place as SpecPlace};
+ghost use Rattle.cil_text.specs.Common.{are_lists, is_optional, words_of, word_of, is_among, outside_optionals, put_word, Shapes, IsFirstShapeFault, place_of, trees_of, statements_of, FaultIs, forest_of, form_of, scope_form, AreGood, BeginsAs, IsOpener, IsLeafWord, IsHeading, IsHeadingFault, IsScope, IsStatement, IsNext, IsFirstOf, IsFirstAmong};
 ghost use Rattle.cil_text.specs.Keyword.{spelling};
 
-use crate::check::{check_statement, fault_at};
+use crate::check::{check_statement, check_word, fault_at};
 use crate::form::fit;
 use crate::keyword::Keyword;
 use crate::module::Module;
-use crate::split::split_word;
+use crate::name::Role;
+use crate::split::{split_word, word_and_lists};
 use crate::statement::Statement;
 use cil_reader::{Forest, Place, ShownWord, TextFault, TextFaultKind, Tree, TreeSlice, Word};
 use std::alloc::Allocator;
-
-fn holds_others<A: Allocator>(statement: &Statement<A>) -> bool
-    ensures { result ≡ has_body (form_of statement.now) }
-{
-    matches!(
-        statement,
-        Statement::Block { .. } | Statement::Optional { .. }
-    )
-}
-
-/// The trees of the statements inside a statement, among its operands.
-fn inner_trees<'t, 'a, A: Allocator>(
-    statement: &Statement<'a, A>,
-    operands: TreeSlice<'t, 'a>,
-) -> TreeSlice<'t, 'a>
-    ensures { trees_of result ≡ inner_of (form_of statement.now) (trees_of operands.entry) }
-{
-    if !holds_others(statement) {
-        return operands.end();
-    }
-    match operands.split_first() {
-        Some((_, inner)) => inner,
-        None => operands,
-    }
-}
-
-/// Whether the statements inside a statement stand in an optional, at whatever depth.
-fn is_inside<A: Allocator>(inside: bool, statement: &Statement<A>) -> bool
-    ensures { result ≡ (inside || is_optional (form_of statement.now)) }
-{
-    inside || matches!(statement, Statement::Optional { .. })
-}
-
-/// A block or an optional with these statements inside it, or another statement as it is.
-fn with_body<'a, A: Allocator>(
-    statement: Statement<'a, A>,
-    body: Vec<Statement<'a, A>, A>,
-) -> Statement<'a, A>
-    ensures { HasBody statement.entry body.entry.items result }
-{
-    match statement {
-        Statement::Block {
-            at,
-            id,
-            body: _empty,
-        } => Statement::Block { at, id, body },
-        Statement::Optional {
-            at,
-            id,
-            body: _empty,
-        } => Statement::Optional { at, id, body },
-        other => other,
-    }
-}
 
 /// Whether a statement with this first word may stand there.
 fn may_stand(inside: bool, keyword: Keyword) -> bool
@@ -93,17 +42,15 @@ fn check_heading<'a, A: Allocator>(
     Ok(())
 }
 
-/// A statement with no statements inside it yet, and the trees of these.
-fn heading<'t, 'a, A: Allocator + Copy>(
-    alloc: A,
-    inside: bool,
+/// The word in front of a list, the keyword that it is, and the trees behind it.
+fn first_keyword<'t, 'a>(
     at: Place,
     items: TreeSlice<'t, 'a>,
-) -> Result<(Statement<'a, A>, TreeSlice<'t, 'a>), TextFault<'a>>
+) -> Result<(Word<'a>, Keyword, TreeSlice<'t, 'a>), TextFault<'a>>
     ensures ok { IfOk result
-        (λ found. IsHeading inside (place_of at) (trees_of items.entry) found.0 (trees_of found.1)) }
-    ensures err { IfErr result
-        (λ fault. FaultIs fault (IsFirstOf inside (place_of at) (trees_of items.entry))) }
+        (λ found. BeginsAs (trees_of items.entry) found.0 found.1 (trees_of found.2)) }
+    ensures err { IfErr result (λ fault. (inside : Bool)
+        → FaultIs fault (IsFirstOf inside (place_of at) (trees_of items.entry))) }
 {
     let Some((first, operands)) = split_word(items) else {
         return Err(TextFault::Found {
@@ -115,12 +62,84 @@ fn heading<'t, 'a, A: Allocator + Copy>(
     let Some(keyword) = Keyword::find(first.text) else {
         return Err(fault_at(TextFaultKind::Unsupported, first));
     };
-    let Some(statement) = fit(alloc, at, keyword, operands)? else {
+    Ok((first, keyword, operands))
+}
+
+/// The statement of a keyword and its operands that holds no others.
+fn leaf<'a, A: Allocator + Copy>(
+    alloc: A,
+    inside: bool,
+    at: Place,
+    keyword: Keyword,
+    first: Word<'a>,
+    operands: TreeSlice<'_, 'a>,
+) -> Result<Statement<'a, A>, TextFault<'a>>
+    requires leaf { IsLeafWord keyword first }
+    ensures ok { IfOk result
+        (IsStatement inside (place_of at) (put_word (word_of first.entry) (trees_of operands.entry))) }
+    ensures err { IfErr result (λ fault. FaultIs fault
+        (IsFirstOf inside (place_of at) (put_word (word_of first.entry) (trees_of operands.entry)))) }
+{
+    match fit(alloc, at, keyword, operands) {
+        Ok(Some(statement)) => match check_heading(inside, keyword, first, &statement) {
+            Ok(()) => Ok(statement),
+            Err(fault) => Err(fault),
+        },
+        Ok(None) => Err(fault_at(TextFaultKind::Misshapen, first)),
+        Err(error) => Err(TextFault::from(error)),
+    }
+}
+
+/// The name of a block or an optional, and the trees of the statements inside it.
+fn scope_heading<'t, 'a>(
+    inside: bool,
+    keyword: Keyword,
+    first: Word<'a>,
+    operands: TreeSlice<'t, 'a>,
+) -> Result<(Word<'a>, TreeSlice<'t, 'a>), TextFault<'a>>
+    requires opener { IsOpener keyword first }
+    ensures ok { IfOk result (λ found.
+        IsHeading inside (put_word (word_of first.entry) (trees_of operands.entry))
+        (scope_form keyword (word_of found.0)) (trees_of found.1)) }
+    ensures err { IfErr result (λ fault. (at : SpecPlace) → FaultIs fault
+        (IsFirstOf inside at (put_word (word_of first.entry) (trees_of operands.entry)))) }
+{
+    let Some((id, inner)) = word_and_lists(operands) else {
         return Err(fault_at(TextFaultKind::Misshapen, first));
     };
-    check_heading(inside, keyword, first, &statement)?;
-    let inner = inner_trees(&statement, operands);
-    Ok((statement, inner))
+    if !may_stand(inside, keyword) {
+        return Err(fault_at(TextFaultKind::NotInOptional, first));
+    }
+    check_word(Role::Declared, id)?;
+    Ok((id, inner))
+}
+
+/// Whether the statements inside a block or an optional stand in an optional, at whatever depth.
+fn is_inside(inside: bool, keyword: Keyword) -> bool
+    ensures { (id : SpecWord) → result ≡ (inside || is_optional (scope_form keyword id)) }
+{
+    inside || matches!(keyword, Keyword::Optional)
+}
+
+/// The name of a block or an optional, and the statements inside it.
+#[cycle(walk)]
+fn scope<'a, A: Allocator + Copy>(
+    alloc: A,
+    inside: bool,
+    keyword: Keyword,
+    first: Word<'a>,
+    operands: TreeSlice<'_, 'a>,
+) -> Result<(Word<'a>, Vec<Statement<'a, A>, A>), TextFault<'a>>
+    requires opener { IsOpener keyword first }
+    ensures ok { IfOk result (λ found.
+        IsScope inside (put_word (word_of first.entry) (trees_of operands.entry))
+        (scope_form keyword (word_of found.0)) (statements_of found.1.items)) }
+    ensures err { IfErr result (λ fault. (at : SpecPlace) → FaultIs fault
+        (IsFirstOf inside at (put_word (word_of first.entry) (trees_of operands.entry)))) }
+{
+    let (id, inner) = scope_heading(inside, keyword, first, operands)?;
+    let body = statements(alloc, is_inside(inside, keyword), inner)?;
+    Ok((id, body))
 }
 
 /// The statement that a list of these trees spells.
@@ -135,12 +154,18 @@ fn statement<'a, A: Allocator + Copy>(
     ensures err { IfErr result
         (λ fault. FaultIs fault (IsFirstOf inside (place_of at) (trees_of items.entry))) }
 {
-    let (statement, inner) = heading(alloc, inside, at, items)?;
-    if !holds_others(&statement) {
-        return Ok(statement);
+    let (first, keyword, operands) = first_keyword(at, items)?;
+    match keyword {
+        Keyword::Block => match scope(alloc, inside, keyword, first, operands) {
+            Ok((id, body)) => Ok(Statement::Block { at, id, body }),
+            Err(fault) => Err(fault),
+        },
+        Keyword::Optional => match scope(alloc, inside, keyword, first, operands) {
+            Ok((id, body)) => Ok(Statement::Optional { at, id, body }),
+            Err(fault) => Err(fault),
+        },
+        _ => leaf(alloc, inside, at, keyword, first, operands),
     }
-    let body = statements(alloc, is_inside(inside, &statement), inner)?;
-    Ok(with_body(statement, body))
 }
 
 /// The statements that lists spell one after the other, inside an optional or not.
@@ -162,7 +187,10 @@ fn statements<'a, A: Allocator + Copy>(
         let Tree::List { at, items, .. } = tree else {
             unreachable!("a tree that is no list");
         };
-        found.push(statement(alloc, inside, at, items)?)?;
+        match statement(alloc, inside, at, items) {
+            Ok(statement) => found.push(statement)?,
+            Err(fault) => return Err(fault),
+        }
         rest = behind;
     }
     Ok(found)

@@ -7,6 +7,9 @@ use Rattle.cil_text.proofs.walk.+walk.Given as goal
 abbrev pub decreases-statement : goal.decreases-statement
 decreases-statement g l = 2 * tree_size (trees_of l.items) + 1
 
+abbrev pub decreases-scope : goal.decreases-scope
+decreases-scope g l = 2 * tree_size (trees_of l.operands) + 1
+
 abbrev pub decreases-statements : goal.decreases-statements
 decreases-statements g l = 2 * tree_size (trees_of l.trees)
 
