@@ -1,5 +1,5 @@
 -- Which statements may hold others.
-use Rattle.cil_text.proofs.Common.{◌≡◌, Bool, true, false, ◌∷◌, [], List, ℕ, codes, refl, sym, ap, ◌∙◌, IsTrue, true≢false, Trees, none, a_word, are_lists, is_among, Form, Statements, no_more, statement, rule, block, optional, put_word, Fits, first_word, fits_parts, fits_from, OperandsFit, words_of, as_declared, is_optional, opens, spelling, scope_form, statement_then, form_of, at_of, Statement, Block', Optional'}
+use Rattle.cil_text.proofs.Common.{◌≡◌, Bool, true, false, ◌∷◌, [], List, ℕ, codes, refl, sym, ap, ◌∙◌, IsTrue, true≢false, Trees, a_word, are_lists, is_among, Form, Statements, no_more, statement, rule, block, optional, put_word, Fits, first_word, fits_parts, fits_from, OperandsFit, words_of, as_declared, is_optional, opens, spelling, scope_form, statement_then, form_of, at_of, Statement, Block', Optional'}
 use Rattle.cil_specs.specs.Place.{Place}
 use Rattle.cil_specs.specs.Names.{Word}
 use Rattle.cil_specs.specs.Statements.{allow, auditallow, dontaudit, neverallow}

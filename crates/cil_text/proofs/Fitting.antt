@@ -1,5 +1,5 @@
 -- Operands that fit a form.
-use Rattle.cil_text.proofs.Common.{◌≡◌, ◌≢◌, ℕ, Option, Some, None, refl, sym, ◌∙◌, ap, subst, codes, Trees, none, a_list, IsListThen, WordExpr, Expresses, RuleKind, rule_word, Target, itself, the_named, ClassPermissions, anonymous, by_name, Form, class_permission_set, rule, put_word, IsTargetThen, IsExpressionList, IsClassAndPermissions, ArePermissions, first_word, put_same, list_same, OperandsFit, expr_of, SpellsExpr, AreExpressionList, Expr}
+use Rattle.cil_text.proofs.Common.{◌≡◌, ◌≢◌, ℕ, Option, Some, None, refl, sym, ◌∙◌, subst, codes, Trees, none, a_list, IsListThen, WordExpr, Expresses, RuleKind, rule_word, Target, itself, the_named, ClassPermissions, anonymous, by_name, Form, class_permission_set, rule, put_word, IsTargetThen, IsExpressionList, IsClassAndPermissions, ArePermissions, first_word, put_same, list_same, OperandsFit, expr_of, SpellsExpr, AreExpressionList, Expr}
 use Rattle.cil_specs.specs.Place.{Place}
 use Rattle.cil_specs.specs.Names as spec
 use Rattle.cil_specs.specs.Statements.{allow, auditallow, dontaudit, neverallow}

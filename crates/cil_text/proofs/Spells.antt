@@ -4,7 +4,7 @@ use Rattle.cil_specs.specs.Place.{Place}
 use Rattle.cil_specs.specs.Names.{Word}
 use Rattle.cil_specs.specs.Expr as spec
 use Rattle.cil_text.specs.declared.expr.Operator.{Operator}
-use Rattle.cil_text.specs.declared.expr.Operator.TheVariants.{And, Or, Xor, Not, All}
+use Rattle.cil_text.specs.declared.expr.Operator.TheVariants.{And, All}
 use Rattle.cil_text.specs.declared.statement.Expr.TheVariants as exprs
 use Rattle.std.specs.Bool.{then_some}
 use Rattle.std.specs.Prelude.{Box}

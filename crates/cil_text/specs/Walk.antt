@@ -10,7 +10,6 @@ use Rattle.cil_specs.specs.Statements as spec_statements
 use Rattle.cil_specs.specs.Statements.{Form, words_of, is_optional, Statements}
 use Rattle.cil_specs.specs.Shape.{is_among, outside_optionals, put_word, Fits, IsAllowed, Shapes, IsAtWord, IsGoodWord, IsListFault, IsInnerFault, IsShapeFault}
 use Rattle.cil_text.specs.Image.{place_of, kind_of, shown, trees_of, word_of, statement_then}
-use Rattle.cil_text.specs.Form.{form_of, at_of}
 use Rattle.cil_text.specs.Keyword.{opens, spelling}
 use Rattle.cil_text.specs.declared.keyword.Keyword.{Keyword}
 use Rattle.cil_reader.specs.declared.word.Word as code

@@ -1,4 +1,4 @@
-use Rattle.cil_text.proofs.Common.{◌≡◌, ◌∙◌, ◌+◌, [], ◌∷◌, ◌++◌, ap, sym, subst, refl, inl, rules, arith, codes, none, a_word, a_list, opposite, both, either, one_of, Expresses, true≢false, string_spells, union_spelt, union_is, no_not, no_and, no_or, no_xor, place_of, trees_of, tree_then, expr_of, operator_word, exprs_of, SpellsBoxed, SpellsExpr, SpellsElements, SpellsOperation, SpellsOne, SpellsTwo}
+use Rattle.cil_text.proofs.Common.{◌≡◌, ◌∙◌, ◌+◌, [], ◌∷◌, ◌++◌, ap, sym, subst, refl, inl, arith, codes, none, a_word, a_list, opposite, both, either, one_of, Expresses, true≢false, string_spells, union_spelt, union_is, no_not, no_and, no_or, no_xor, place_of, trees_of, tree_then, expr_of, operator_word, exprs_of, SpellsBoxed, SpellsExpr, SpellsElements, SpellsOperation, SpellsOne, SpellsTwo}
 use Rattle.std.proofs.lemmas.Result.{IfOk-weaker}
 use Rattle.std.proofs.lemmas.Slice.Eq.{bytes_eq-Decides}
 use Rattle.cil_specs.proofs.ExprSame.{none_expresses}

@@ -1,4 +1,4 @@
-use Rattle.cil_text.proofs.Common.{◌∙◌, sym, ap, refl, subst, inl, inr, is_among, keywords, outside_optionals, put_word, Fits, place_of, word_of, trees_of, FaultIs, IsFirstOf, AreGood, IsFirstBad, IsFoundAs, spelling, scope_form}
+use Rattle.cil_text.proofs.Common.{◌∙◌, sym, ap, refl, subst, inl, inr, is_among, keywords, outside_optionals, put_word, Fits, word_of, trees_of, FaultIs, IsFirstOf, AreGood, IsFirstBad, IsFoundAs, spelling, scope_form}
 use Rattle.cil_specs.specs.Place.{Place}
 use Rattle.cil_text.proofs.Bodies.{no_scope, scope_fits, scope_words}
 use Rattle.cil_text.proofs.HeadingLemmas.{spelling_is, misfit_first, bad_heading_first, fits_word, allowed_by, forbidden_by}
