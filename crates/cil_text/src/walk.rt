@@ -83,7 +83,11 @@ fn leaf<'a, A: Allocator + Copy>(
     match fit(alloc, at, keyword, operands) {
         Ok(Some(statement)) => match check_heading(inside, keyword, first, &statement) {
             Ok(()) => Ok(statement),
-            Err(fault) => Err(fault),
+            Err(fault) => {
+                // One call to prove, in place of a drop for each variant.
+                drop(statement);
+                Err(fault)
+            }
         },
         Ok(None) => Err(fault_at(TextFaultKind::Misshapen, first)),
         Err(error) => Err(TextFault::from(error)),

@@ -22,8 +22,8 @@ returns-in-Ok-clause-ok g c =
     })
     (has_body_is first.at keyword operands form none (fits.1 first.at) ∙ c.requires.leaf.0)
 
-pub returns-in-Ok-Some-clause-err : goal.returns-in-Ok-Some-clause-err
-returns-in-Ok-Some-clause-err g c =
+pub returns-in-Err-check_heading-clause-err : goal.returns-in-Err-check_heading-clause-err
+returns-in-Err-check_heading-clause-err g c =
     let first = word_of c.args.first in
     let operands = trees_of c.args.operands in
     let at = place_of c.args.at in
