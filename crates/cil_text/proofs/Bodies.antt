@@ -1,23 +1,41 @@
 -- Which statements may hold others.
-use Rattle.cil_text.proofs.Common.{◌≡◌, Bool, true, false, ◌∷◌, [], List, ℕ, codes, refl, sym, ap, ◌∙◌, IsTrue, true≢false, Trees, a_word, are_lists, is_among, Form, Statements, no_more, statement, rule, block, optional, put_word, Fits, first_word, fits_parts, fits_from, OperandsFit, words_of, as_declared, is_optional, opens, spelling, scope_form, statement_then, form_of, at_of, Statement, Block', Optional'}
+use Rattle.cil_text.proofs.Common.{if◌then◌else◌, Vec, has_body, Statement-F, out-Statement, roll-Statement, roll-out-Statement, ◌≡◌, Bool, true, false, ◌∷◌, [], List, ℕ, codes, refl, sym, ap, ◌∙◌, IsTrue, true≢false, Trees, a_word, are_lists, is_among, Form, Statements, no_more, statement, rule, block, optional, put_word, Fits, first_word, fits_parts, fits_from, OperandsFit, words_of, as_declared, is_optional, opens, spelling, scope_form, statement_then, form_of, at_of, Statement, Block', Optional'}
 use Rattle.cil_specs.specs.Place.{Place}
+use Rattle.cil_reader.specs.declared.place.Place as places
+use Rattle.cil_reader.specs.declared.word.Word as words
+use Rattle.cil_text.specs.declared.statement.Statement.TheOpen as opened
+use Rattle.cil_text.specs.declared.statement.Statement.TheVariants as made
 use Rattle.cil_specs.specs.Names.{Word}
 use Rattle.cil_specs.specs.Statements.{allow, auditallow, dontaudit, neverallow}
 use Rattle.cil_text.specs.declared.statement.RuleKind.TheVariants.{Allow, AuditAllow, DontAudit, NeverAllow}
 use Rattle.cil_text.specs.declared.keyword.Keyword.{Keyword}
 use Rattle.cil_text.specs.declared.keyword.Keyword.TheVariants.{Block, Optional, Rule}
 
--- whether statements may stand inside a statement of the form
-abbrev pub has_body : Form → Bool
-has_body (block id) = true
-has_body (optional id) = true
-has_body _ = false
-
 -- a statement that may have none inside it
-pub leaf_then : {A : Type 0} → (s : Statement A) (more : Statements) → has_body (form_of s) ≡ false → statement_then s more ≡ statement (at_of s) (form_of s) no_more more
-leaf_then (Block' at id shape row) more leaf = absurd cc
-leaf_then (Optional' at id shape row) more leaf = absurd cc
-leaf_then _ more leaf = refl
+pub leaf_then : {A : Type 0} → (s : Statement A) (body more : Statements) → has_body (form_of s) ≡ false → statement_then s more ≡ statement (at_of s) (form_of s) (if has_body (form_of s) then body else no_more) more
+leaf_then (Block' at id shape row) body more leaf = absurd cc
+leaf_then (Optional' at id shape row) body more leaf = absurd cc
+leaf_then _ body more leaf = refl
+
+-- a statement that is neither a block nor an optional may have none inside it
+pub leaf_form : {A : Type 0} → (s : Statement A) → ((at : places.Place) (id : words.Word) (v : Vec (Statement A) A) → s ≡ made.Block at id v → ⊥) → ((at : places.Place) (id : words.Word) (v : Vec (Statement A) A) → s ≡ made.Optional at id v → ⊥) → has_body (form_of s) ≡ false
+leaf_form {A} s no_block no_optional = by (out-Statement A s) (sym (roll-out-Statement A s))
+  where
+    by : (o : Statement-F A (Statement A)) → s ≡ roll-Statement A o → has_body (form_of s) ≡ false
+    by (opened.Block at id v) is = absurd (no_block at id v (is ∙ made.rolls-Block at id v))
+    by (opened.Optional at id v) is = absurd (no_optional at id v (is ∙ made.rolls-Optional at id v))
+    by (opened.TypeName at id) is = ap (λ s. has_body (form_of s)) (is ∙ made.rolls-TypeName at id)
+    by (opened.TypeAlias at id) is = ap (λ s. has_body (form_of s)) (is ∙ made.rolls-TypeAlias at id)
+    by (opened.TypeAliasActual at alias actual) is = ap (λ s. has_body (form_of s)) (is ∙ made.rolls-TypeAliasActual at alias actual)
+    by (opened.TypeAttribute at id) is = ap (λ s. has_body (form_of s)) (is ∙ made.rolls-TypeAttribute at id)
+    by (opened.TypeAttributeSet at attribute expr) is = ap (λ s. has_body (form_of s)) (is ∙ made.rolls-TypeAttributeSet at attribute expr)
+    by (opened.Common at id permissions) is = ap (λ s. has_body (form_of s)) (is ∙ made.rolls-Common at id permissions)
+    by (opened.Class at id permissions) is = ap (λ s. has_body (form_of s)) (is ∙ made.rolls-Class at id permissions)
+    by (opened.ClassCommon at the_class the_common) is = ap (λ s. has_body (form_of s)) (is ∙ made.rolls-ClassCommon at the_class the_common)
+    by (opened.ClassOrder at the_classes) is = ap (λ s. has_body (form_of s)) (is ∙ made.rolls-ClassOrder at the_classes)
+    by (opened.ClassPermission at id) is = ap (λ s. has_body (form_of s)) (is ∙ made.rolls-ClassPermission at id)
+    by (opened.ClassPermissionSet at set the_class permissions) is = ap (λ s. has_body (form_of s)) (is ∙ made.rolls-ClassPermissionSet at set the_class permissions)
+    by (opened.Rule at kind source target permissions) is = ap (λ s. has_body (form_of s)) (is ∙ made.rolls-Rule at kind source target permissions)
 
 -- whether the first word is that of a statement that may hold others
 abbrev is-opener : List ℕ → Bool

@@ -17,7 +17,7 @@ pub use Rattle.cil_specs.specs.Statements.{ClassPermissions, Form, RuleKind, Sta
 pub use Rattle.cil_specs.specs.TextFault.{IsNoLater, TextFault, TextFaultKind, bad_name, code_of, misshapen, not_in_optional, reserved, unsupported}
 pub use Rattle.cil_specs.specs.Trees.{Trees, a_list, a_string, a_word, are_lists, in_order, none}
 pub use Rattle.cil_text.specs.Expr.{AreExpressionList, BeginsOperation, SpellsBoxed, SpellsElements, SpellsExpr, SpellsOne, SpellsOperation, SpellsTwo, exprs_of, operator_word}
-pub use Rattle.cil_text.specs.Form.{AreClassAndPermissions, AreClasses, ArePermissionsOf, FitsAs, at_of, form_of, scope_form}
+pub use Rattle.cil_text.specs.Form.{AreClassAndPermissions, AreClasses, ArePermissionsOf, FitsAs, at_of, form_of, has_body, scope_form}
 pub use Rattle.cil_text.specs.Image.{FaultIs, expr_of, kind_of, permissions_of, place_of, row_expr, row_statements, rule_kind_of, shown, statement_then, statements_of, target_of, tree_then, trees_of, word_of}
 pub use Rattle.cil_text.specs.Keyword.{opens, spelling}
 pub use Rattle.cil_text.specs.Name.{role_of, without_dot}

@@ -1,5 +1,5 @@
 -- Statements one after the other, and the first fault among them.
-use Rattle.cil_text.proofs.Common.{◌≡◌, ℕ, ◌+◌, ◌-◌, ◌<◌, ◌≤◌, inl, inr, Bool, false, ◌||◌, List, [], ◌∷◌, ◌++◌, refl, sym, ◌∙◌, ap, subst, IsTrue, arith, true≢false, TextFault, IsNoLater, Trees, none, a_list, are_lists, in_order, Form, is_optional, Statements, no_more, Fits, Shapes, IsShapeFault, IsInnerFault, first_word, OperandsFit, fits_begin, order_list, inner_fault_is, list_no_fault, inner_of_list, shapes_no_fault, fits_rise, fault_within, list_within, tree_then, statement_then, statements_of, form_of, at_of, block, optional, word_of, place_of, Vec, IsHeading, IsScope, IsStatement, IsFaultOf, IsFirstOf, IsFirstAmong, Tree, Statement}
+use Rattle.cil_text.proofs.Common.{◌≡◌, ℕ, ◌+◌, ◌-◌, ◌<◌, ◌≤◌, inl, inr, Bool, false, ◌||◌, List, [], ◌∷◌, ◌++◌, refl, sym, ◌∙◌, ap, subst, IsTrue, arith, true≢false, TextFault, IsNoLater, Trees, none, a_list, are_lists, in_order, Form, is_optional, Statements, no_more, Fits, Shapes, IsShapeFault, IsInnerFault, first_word, OperandsFit, fits_begin, order_list, inner_fault_is, list_no_fault, inner_of_list, shapes_no_fault, fits_rise, fault_within, list_within, tree_then, statement_then, statements_of, form_of, at_of, has_body, if◌then◌else◌, block, optional, word_of, place_of, Vec, IsHeading, IsScope, IsStatement, IsFaultOf, IsFirstOf, IsFirstAmong, Tree, Statement}
 use Rattle.cil_specs.specs.Place.{Place}
 use Rattle.cil_specs.specs.Statements as spec
 use Rattle.cil_reader.specs.declared.place.Place as code_place
@@ -9,7 +9,7 @@ use Rattle.cil_reader.specs.declared.tree.TreeSlice.{TreeSlice}
 use Rattle.cil_reader.proofs.Nodes.{tree_size}
 use Rattle.cil_text.specs.declared.statement.Statement.TheVariants.{Block, Optional}
 use Rattle.cil_text.proofs.Rows.{block_then, optional_then}
-use Rattle.cil_text.proofs.Bodies.{has_body, leaf_then}
+use Rattle.cil_text.proofs.Bodies.{leaf_then}
 
 -- a heading of a statement that holds no others is the statement
 pub leaf_is : {A : Type 0} → (inside : Bool) (at : Place) (parts : Trees) (s : Statement A) → at_of s ≡ at → IsHeading inside parts (form_of s) none → has_body (form_of s) ≡ false → IsStatement inside at parts s
@@ -17,7 +17,7 @@ leaf_is inside at parts s here heading leaf = record {
   form = form_of s;
   inner = none;
   body = no_more;
-  is = λ more. leaf_then s more leaf ∙ ap (λ at. spec.statement at (form_of s) no_more more) here;
+  is = λ more. leaf_then s no_more more leaf ∙ ap (λ b. spec.statement (at_of s) (form_of s) (if b then no_more else no_more) more) leaf ∙ ap (λ at. spec.statement at (form_of s) no_more more) here;
   fits = heading.fits;
   allowed = heading.allowed;
   good = heading.good;

@@ -1,5 +1,5 @@
 -- Statements by their forms, and the forms that operands fit.
-use Rattle.std.specs.Prelude.{◌≡◌, ◌≢◌, ◌⊎◌, List, map, Option, Some, None, Vec, codes}
+use Rattle.std.specs.Prelude.{◌≡◌, ◌≢◌, ◌⊎◌, Bool, true, false, List, map, Option, Some, None, Vec, codes}
 use Rattle.cil_specs.specs.Place as spec_place
 use Rattle.cil_specs.specs.Names as spec_names
 use Rattle.cil_specs.specs.Trees.{Trees, none, a_word}
@@ -49,6 +49,12 @@ at_of (ClassOrder at the_classes) = place_of at
 at_of (ClassPermission at id) = place_of at
 at_of (ClassPermissionSet at set the_class permissions) = place_of at
 at_of (Rule at kind source target permissions) = place_of at
+
+-- whether statements may stand inside a statement of the form
+abbrev pub has_body : Form → Bool
+has_body (block id) = true
+has_body (optional id) = true
+has_body _ = false
 
 -- the form of a block or an optional with this first word and this name
 abbrev pub scope_form : Keyword → spec_names.Word → Form
