@@ -1,5 +1,5 @@
 -- Statements one behind the other.
-use Rattle.cil_parse.proofs.Common.{◌≡◌, ℕ, suc, ◌+◌, ◌<◌, List, [], ◌∷◌, ◌++◌, Vec, length, get_or, take, refl, sym, ap, ◌∙◌, append_assoc, append-nil, arith, length-append, false, if◌then◌else◌, take_more, Statements, no_more, statement, statement_then, row_statements, statements_of, form_of, at_of, has_body, Statement, Block', Optional', FlatStatement, block_inside, optional_inside, count, flat}
+use Rattle.cil_parse.proofs.Common.{◌≡◌, ℕ, suc, ◌+◌, ◌<◌, ◌≤◌, List, [], ◌∷◌, ◌++◌, Vec, length, get_or, take, refl, sym, ap, ◌∙◌, append_assoc, append-nil, arith, length-append, false, if◌then◌else◌, take_more, Statements, no_more, statement, statement_then, row_statements, statements_of, form_of, at_of, has_body, Statement, Block', Optional', FlatStatement, block_inside, optional_inside, count, flat}
 use Rattle.cil_reader.specs.declared.place.Place as code
 use Rattle.cil_reader.specs.declared.word.Word as words
 use Rattle.cil_text.specs.declared.statement.Statement.TheVariants.{Block, Optional}
@@ -72,16 +72,18 @@ flat-optional in_block in_optional n s at id v is =
     ∙ ap (λ l. head_of in_block in_optional (Optional at id v) ∷ l) (append-nil _) ∙ ap (λ r. head_of in_block in_optional r ∷ flat in_block (n + 1) (n + 1) (statements_of v.items)) (sym is)
 
 -- the statements inside a block or an optional among statements are less deep than these
-pub block-depth : {A : Type 0} → (statements : List (Statement A)) (i : ℕ) (s : Statement A) (at : code.Place) (id : words.Word) (v : Vec (Statement A) A) → i < length statements → s ≡ get_or statements i s → s ≡ Block at id v
-    → most (size-Statement A) v.items < most (size-Statement A) statements
-block-depth {A} statements i s at id v within is made =
-    let size : size-Statement A (Block at id v) ≡ most (size-Statement A) v.items + 1 = omega (arith, sized-Block A at id v) in
-    let here : size-Statement A (get_or statements i s) ≡ size-Statement A (Block at id v) = ap (size-Statement A) (sym is ∙ made) in
-    omega (arith, at_most (size-Statement A) statements i s within, here, size)
+pub block-depth : {A : Type 0} → (s : Statement A) (at : code.Place) (id : words.Word) (v : Vec (Statement A) A) → s ≡ Block at id v → most (size-Statement A) v.items < size-Statement A s
+block-depth {A} s at id v made =
+    let here : size-Statement A s ≡ size-Statement A (Block at id v) = ap (size-Statement A) made in
+    omega (arith, sized-Block A at id v, here)
 
-pub optional-depth : {A : Type 0} → (statements : List (Statement A)) (i : ℕ) (s : Statement A) (at : code.Place) (id : words.Word) (v : Vec (Statement A) A) → i < length statements → s ≡ get_or statements i s → s ≡ Optional at id v
-    → most (size-Statement A) v.items < most (size-Statement A) statements
-optional-depth {A} statements i s at id v within is made =
-    let size : size-Statement A (Optional at id v) ≡ most (size-Statement A) v.items + 1 = omega (arith, sized-Optional A at id v) in
-    let here : size-Statement A (get_or statements i s) ≡ size-Statement A (Optional at id v) = ap (size-Statement A) (sym is ∙ made) in
-    omega (arith, at_most (size-Statement A) statements i s within, here, size)
+pub optional-depth : {A : Type 0} → (s : Statement A) (at : code.Place) (id : words.Word) (v : Vec (Statement A) A) → s ≡ Optional at id v → most (size-Statement A) v.items < size-Statement A s
+optional-depth {A} s at id v made =
+    let here : size-Statement A s ≡ size-Statement A (Optional at id v) = ap (size-Statement A) made in
+    omega (arith, sized-Optional A at id v, here)
+
+-- a statement is no deeper than the list that it is in
+pub statement-depth : {A : Type 0} → (statements : List (Statement A)) (i : ℕ) (s : Statement A) → i < length statements → s ≡ get_or statements i s → size-Statement A s ≤ most (size-Statement A) statements
+statement-depth {A} statements i s within is =
+    let here : size-Statement A s ≡ size-Statement A (get_or statements i s) = ap (size-Statement A) is in
+    omega (arith, at_most (size-Statement A) statements i s within, here)

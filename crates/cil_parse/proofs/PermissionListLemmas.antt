@@ -1,5 +1,5 @@
 -- The lists of permissions of statements by their numbers.
-use Rattle.cil_parse.proofs.Common.{◌≡◌, ℕ, zero, suc, ◌+◌, ◌<◌, List, [], ◌∷◌, ◌++◌, map, length, get_or, take, drop, Option, Some, None, slice_get, refl, sym, ap, ◌∙◌, arith, drop-map, option_map, length-map, get_or-map, same_Some, slice_get_within, get_or_from_slice_get, place_of, flat, Statements, Word, leaves, texts, itself, the_named, Form, common, class, class_permission_set, rule, anonymous, read, kind_of, words_in, permissions_in, FlatStatement, permission_words, permission_texts, IsShown, NumberedWord, Row, StatementView}
+use Rattle.cil_parse.proofs.Common.{◌≡◌, ℕ, ◌<◌, List, [], ◌∷◌, map, length, get_or, drop, Option, Some, None, slice_get, refl, sym, ap, ◌∙◌, arith, drop-map, option_map, length-map, get_or-map, same_Some, slice_get_within, get_or_from_slice_get, place_of, flat, Statements, Word, leaves, texts, itself, the_named, Form, common, class, class_permission_set, rule, anonymous, read, kind_of, words_in, permissions_in, FlatStatement, permission_words, permission_texts, IsShown, NumberedWord, Row, StatementView}
 use Rattle.cil_parse.specs.Parsed.{texts_of, permission_lists_of, statement_count, Spells}
 use Rattle.cil_parse.specs.declared.parsed.ParsedModule.{ParsedModule}
 use Rattle.cil_parse.proofs.ParsedLemmas.{same-length, same-at, shown}

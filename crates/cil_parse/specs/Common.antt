@@ -1,5 +1,5 @@
 -- The names from elsewhere that this crate's contracts cite most, passed on from one place.
-pub use Rattle.cil_parse.specs.Citations.{AreCited, AreCitedBy, Finds, cited, citation_lists}
+pub use Rattle.cil_parse.specs.Citations.{AreCited, AreCitedBy, Finds, IsFound, cited, citation_lists}
 pub use Rattle.cil_parse.specs.Builder.{Adds, AddsExpr, AddsForm, AddsNamesInFront, AddsPermissions, Closes, IsAt, Places, Puts, read, top}
 pub use Rattle.cil_parse.specs.Flat.{FlatStatement, flat}
 pub use Rattle.cil_parse.specs.Forms.{expr_nodes, is_plain, kind_of, name_nodes, nodes_with, permission_nodes, permissions_in, words_with}

@@ -30,16 +30,16 @@ pub struct Builder<'a, A: Allocator = Global> {
 }
 
 impl<'a, A: Allocator + Copy> Builder<'a, A> {
-    /// Nothing was gone over.
-    fn new(alloc: A, seed: Seed) -> Result<Self, AllocError>
-        ensures { IfOk result (λ b. IsAt b [] [] []) }
+    /// Nothing was gone over. It takes no memory.
+    pub fn new(alloc: A, seed: Seed) -> Self
+        ensures { IsAt result [] [] [] }
     {
-        Ok(Builder {
-            lexicon: Lexicon::new(alloc, seed)?,
-            words: Lists::with_capacity(alloc, 0, 0)?,
-            nodes: Lists::with_capacity(alloc, 0, 0)?,
+        Builder {
+            lexicon: Lexicon::new(alloc, seed),
+            words: Lists::new(alloc),
+            nodes: Lists::new(alloc),
             rows: Vec::new(alloc),
-        })
+        }
     }
 
     /// A word of the statement that comes.
@@ -338,24 +338,42 @@ impl<'a, A: Allocator + Copy> Builder<'a, A> {
     }
 
     /// Statements, and those inside blocks and optionals.
+    #[cycle(place)]
     fn place(&mut self, around: Around, statements: &[Statement<'a, A>]) -> Result<(), AllocError>
         ensures { OnOk result (Places self.old self.new around (statements_of statements.now)) }
     {
         for statement in statements {
-            self.head(around, statement)?;
-            match statement {
-                Statement::Block { body, .. } => {
-                    let block = in_32_bits(self.rows.len())?;
-                    self.place(Around { block, ..around }, body)?;
-                }
-                Statement::Optional { body, .. } => {
-                    let optional = in_32_bits(self.rows.len())?;
-                    self.place(Around { optional, ..around }, body)?;
-                }
-                _ => {}
-            }
+            self.place_one(around, statement)?;
         }
         Ok(())
+    }
+
+    /// A statement, and those inside it.
+    #[cycle(place)]
+    fn place_one(&mut self, around: Around, statement: &Statement<'a, A>) -> Result<(), AllocError>
+        ensures { OnOk result (Places self.old self.new around (statements_of (statement.now ∷ []))) }
+    {
+        self.head(around, statement)?;
+        match statement {
+            Statement::Block { body, .. } => {
+                let block = in_32_bits(self.rows.len())?;
+                self.place(Around { block, ..around }, body)
+            }
+            Statement::Optional { body, .. } => {
+                let optional = in_32_bits(self.rows.len())?;
+                self.place(Around { optional, ..around }, body)
+            }
+            _ => Ok(()),
+        }
+    }
+
+    /// A statement, and those inside it. It is let go then.
+    fn take_one(&mut self, around: Around, statement: Statement<'a, A>) -> Result<(), AllocError>
+        ensures { OnOk result (Places self.old self.new around (statements_of (statement.entry ∷ []))) }
+    {
+        let placed = self.place_one(around, &statement);
+        drop(statement);
+        placed
     }
 
     /// The statements that lists spell, or the first fault of their shape. Each statement is let go once its words are kept.
@@ -370,28 +388,23 @@ impl<'a, A: Allocator + Copy> Builder<'a, A> {
         ensures err { IfErr result (λ fault. FaultIs fault (IsFirstAmong false (trees_of trees.entry))) }
     {
         let mut rest = trees;
-        let mut one = Vec::with_capacity(alloc, 1)?;
         while let Some((statement, behind)) = next_statement(alloc, rest)? {
-            one.clear();
-            one.push(statement)?;
-            self.place(around, &one)?;
+            self.take_one(around, statement)?;
             rest = behind;
         }
         Ok(())
     }
 
     /// Goes over the statements that the trees of a text spell. The trees are let go then.
-    pub fn of(alloc: A, seed: Seed, forest: Forest<'a, A>) -> Result<Self, TextFault<'a>>
-        ensures ok { IfOk result (IsAtTrees (forest_of forest.entry)) }
+    pub fn go_over(&mut self, alloc: A, forest: Forest<'a, A>) -> Result<(), TextFault<'a>>
+        ensures ok { OnOk result (IsAt self.old [] [] [] → IsAtTrees (forest_of forest.entry) self.new) }
         ensures err { IfErr result (λ fault. FaultIs fault (IsFirstShapeFault (forest_of forest.entry))) }
     {
-        let mut builder = Builder::new(alloc, seed)?;
         let around = Around {
             block: 0,
             optional: 0,
         };
-        builder.take(alloc, around, forest.trees())?;
-        Ok(builder)
+        self.take(alloc, around, forest.trees())
     }
 }
 

@@ -1,7 +1,7 @@
 //! What the references of a module's statements look up.
 
 ghost use Rattle.std.specs.Prelude.{◌≡◌, ◌∷◌, [], length, IfOk, OnOk};
-ghost use Rattle.cil_parse.specs.Common.{cited, AreCitedBy, Finds};
+ghost use Rattle.cil_parse.specs.Common.{cited, citation_lists, AreCitedBy, Finds, IsFound};
 
 use crate::lists::Lists;
 use crate::row::{NumberedWord, Row};
@@ -59,6 +59,18 @@ impl<A: Allocator + Copy> Found<A> {
         }
         Ok(())
     }
+
+    /// Puts a list with those of each statement behind the others.
+    fn push_lists(&mut self, rows: &[Row], words: &Lists<NumberedWord, A>) -> Result<(), AllocError>
+        requires { length words.now.0 ≡ length rows.now }
+        ensures { OnOk result (IsFound self.old [] [] → IsFound self.new (citation_lists rows.now words.now.0) []) }
+    {
+        for i in 0..rows.len() {
+            self.push_cited(&rows[i], words.get(i))?;
+            self.numbers.close()?;
+        }
+        Ok(())
+    }
 }
 
 impl<A: Allocator + Copy> Citations<A> {
@@ -72,14 +84,12 @@ impl<A: Allocator + Copy> Citations<A> {
         requires { length words.now.0 ≡ length rows.now }
         ensures { IfOk result (λ c. AreCitedBy c rows.now words.now.0) }
     {
+        let numbers = Lists::with_capacity(alloc, rows.len(), 0)?;
         let mut found = Found {
             distinct: IndexSet::with_hasher(alloc, seed),
-            numbers: Lists::with_capacity(alloc, rows.len(), 0)?,
+            numbers,
         };
-        for i in 0..rows.len() {
-            found.push_cited(&rows[i], words.get(i))?;
-            found.numbers.close()?;
-        }
+        found.push_lists(rows, words)?;
         found.numbers.shrink_to_fit();
         Ok(Citations {
             distinct: Vec::from_slice(alloc, found.distinct.as_slice())?,

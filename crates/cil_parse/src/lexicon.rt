@@ -40,16 +40,16 @@ fn split_dot(text: &[u8]) -> Option<(&[u8], &[u8])>
 }
 
 impl<'a, A: Allocator + Copy> Lexicon<'a, A> {
-    /// No word.
-    pub fn new(alloc: A, seed: Seed) -> Result<Self, AllocError>
-        ensures lexicon { IfOk result IsLexicon }
-        ensures empty { IfOk result (λ l. texts_in l ≡ []) }
+    /// No word. It takes no memory.
+    pub fn new(alloc: A, seed: Seed) -> Self
+        ensures lexicon { IsLexicon result }
+        ensures empty { texts_in result ≡ [] }
     {
-        Ok(Lexicon {
+        Lexicon {
             texts: RecalledNames::new(alloc, seed),
             names: Names::new(alloc, seed),
-            components: Lists::with_capacity(alloc, 0, 0)?,
-        })
+            components: Lists::new(alloc),
+        }
     }
 
     /// Puts the number of a name at the end of the open list.

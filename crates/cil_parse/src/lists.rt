@@ -27,6 +27,16 @@ impl<T: Copy, A: Allocator> Model for Lists<T, A> {
 }
 
 impl<T: Copy, A: Allocator + Copy> Lists<T, A> {
+    /// No list. It takes no memory.
+    pub fn new(alloc: A) -> Self
+        ensures { result ≡ ([], []) }
+    {
+        Lists {
+            items: Vec::new(alloc),
+            ends: Vec::new(alloc),
+        }
+    }
+
     /// No list, with room for so many lists and items.
     pub fn with_capacity(alloc: A, lists: usize, items: usize) -> Result<Self, AllocError>
         ensures { IfOk result (λ s. s ≡ ([], [])) }

@@ -54,7 +54,8 @@ impl<A: Allocator + Copy> ParsedModule<A> {
         ensures ok { IfOk result (SpellsTrees (forest_of forest.entry)) }
         ensures err { IfErr result (λ fault. FaultIs fault (IsFirstShapeFault (forest_of forest.entry))) }
     {
-        let builder = Builder::of(alloc, seed, forest)?;
+        let mut builder = Builder::new(alloc, seed);
+        builder.go_over(alloc, forest)?;
         let parsed = ParsedModule::owned(alloc, seed, builder)?;
         Ok(parsed)
     }

@@ -17,13 +17,6 @@ pub struct PermissionLists<A: Allocator = Global> {
     pub lists: Lists<u32, A>,
 }
 
-/// Lists, each once, and the number of each.
-#[derive(Drop)]
-struct Distinct<'l, A: Allocator = Global> {
-    lists: IndexSet<&'l [u32], Seed, A>,
-    numbers: Vec<u32, A>,
-}
-
 /// The words behind so many.
 fn behind(words: &[NumberedWord], n: usize) -> &[NumberedWord]
     ensures { result.now ≡ drop n words.now }
@@ -77,23 +70,36 @@ fn listed<A: Allocator + Copy>(
     Ok(lists)
 }
 
-/// The lists, each once.
-fn each_once<'l, A: Allocator + Copy>(
+/// The number of each list among the distinct ones. Those that are new come behind them.
+fn numbered<'l, A: Allocator + Copy>(
+    alloc: A,
+    lists: &'l Lists<u32, A>,
+    distinct: &mut IndexSet<&'l [u32], Seed, A>,
+) -> Result<Vec<u32, A>, AllocError>
+    ensures { IfOk result (λ numbers. AreNumbersOf (seen distinct.new.keys) numbers.items lists.now.0) }
+{
+    let mut numbers = Vec::with_capacity(alloc, lists.len())?;
+    for i in 0..lists.len() {
+        let (n, _new) = distinct.insert_full(lists.get(i))?;
+        numbers.push(in_32_bits(n)?)?;
+    }
+    Ok(numbers)
+}
+
+/// The lists, each once, and the number of each.
+fn each_once<A: Allocator + Copy>(
     alloc: A,
     seed: Seed,
-    lists: &'l Lists<u32, A>,
-) -> Result<Distinct<'l, A>, AllocError>
-    ensures { IfOk result (λ d. AreNumbersOf (seen d.lists.keys) d.numbers.items lists.now.0) }
+    lists: &Lists<u32, A>,
+) -> Result<PermissionLists<A>, AllocError>
+    ensures { IfOk result (λ p. AreNumbersOf p.lists.0 p.numbers.items lists.now.0) }
 {
-    let mut distinct = Distinct {
-        lists: IndexSet::with_hasher(alloc, seed),
-        numbers: Vec::with_capacity(alloc, lists.len())?,
-    };
-    for i in 0..lists.len() {
-        let (n, _new) = distinct.lists.insert_full(lists.get(i))?;
-        distinct.numbers.push(in_32_bits(n)?)?;
-    }
-    Ok(distinct)
+    let mut distinct = IndexSet::with_hasher(alloc, seed);
+    let numbers = numbered(alloc, lists, &mut distinct)?;
+    Ok(PermissionLists {
+        lists: copies(alloc, distinct.as_slice())?,
+        numbers,
+    })
 }
 
 impl<A: Allocator + Copy> PermissionLists<A> {
@@ -108,10 +114,6 @@ impl<A: Allocator + Copy> PermissionLists<A> {
         ensures { IfOk result (λ p. AreListed p rows.now words.now.0) }
     {
         let lists = listed(alloc, rows, words)?;
-        let distinct = each_once(alloc, seed, &lists)?;
-        Ok(PermissionLists {
-            lists: copies(alloc, distinct.lists.as_slice())?,
-            numbers: distinct.numbers,
-        })
+        each_once(alloc, seed, &lists)
     }
 }

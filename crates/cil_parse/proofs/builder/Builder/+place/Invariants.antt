@@ -1,8 +1,12 @@
-use Rattle.cil_parse.proofs.Common.{take, statements_of, Places}
+use Rattle.std.proofs.Common.{◌+◌, ◌*◌, take}
+use Rattle.cil_parse.proofs.Common.{statements_of, Places}
 use Rattle.cil_parse.proofs.builder.Builder.+place.Given as goal
 
 abbrev pub decreases-place : goal.decreases-place
-decreases-place g l = goal.size-place g l
+decreases-place g l = 2 * goal.size-place g l + 1
 
-abbrev pub invariant-loop-statement : goal.invariant-loop-statement
-invariant-loop-statement g l = Places l.initial.self l.self l.around (statements_of (take l.statement-index l.statements))
+abbrev pub decreases-place_one : goal.decreases-place_one
+decreases-place_one g l = 2 * goal.size-place_one g l
+
+abbrev pub invariant-place-loop-statement : goal.invariant-place-loop-statement
+invariant-place-loop-statement g l = Places l.initial.self l.self l.around (statements_of (take l.statement-index l.statements))

@@ -1,7 +1,0 @@
-use Rattle.std.proofs.Common.{refl}
-use Rattle.cil_parse.proofs.CitationLemmas.{step-list}
-use Rattle.cil_parse.proofs.citations.Citations.of.Goals as goal
-
-pub loop-i-preserved : goal.loop-i-preserved
-loop-i-preserved g c =
-    step-list c.args.rows.now c.args.words.now.0 c.loop-i.i _ _ c.get.result.now c.loop-i.found c.push_cited.new.self c.close.new.self c.requires c.loop-i-test.true refl c.get.ensures c.loop-i.invariant c.in_ok-push_cited.ensures c.in_ok-close.ensures.ok
