@@ -1,3 +1,4 @@
+pub mod Hashing
 pub mod Names
 pub mod Moves
 pub mod Keyed

@@ -20,6 +20,7 @@
 
 mod ended;
 mod group;
+mod key_hasher;
 mod keyed_lines;
 mod line_moves;
 mod moved;

@@ -1,6 +1,6 @@
 //! What a line of counters is of.
 
-ghost use Rattle.std.specs.Prelude.{◌++◌};
+ghost use Rattle.std.specs.Prelude.{◌++◌, ◌/◌, ◌%◌};
 ghost use Rattle.std.specs.Cmp.Rules.{hashing};
 ghost use Rattle.std.specs.Hash as fed;
 ghost use Rattle.std.proofs.Common.{rules};
@@ -20,13 +20,14 @@ pub struct SymbolKey {
 
 /// The kind isn't hashed: few keys differ in it alone.
 impl Hash for SymbolKey {
-    ghost hash_input = { λ key. fed.usize key.source ++ fed.usize key.class ++ fed.usize key.permission };
+    ghost hash_input = { λ key. fed.usize key.source ++ fed.usize key.class ++ fed.usize (key.permission / 4) ++ fed.u8 (key.permission % 4) };
 
     ghost respects_eq = { Prim.search (hashing, rules) };
 
     fn hash<H: Hasher>(&self, state: &mut H) {
         self.source.hash(state);
         self.class.hash(state);
-        self.permission.hash(state);
+        (self.permission / 4).hash(state);
+        state.write_u8((self.permission % 4) as u8);
     }
 }

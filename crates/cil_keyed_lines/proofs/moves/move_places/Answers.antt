@@ -1,5 +1,6 @@
 use Rattle.cil_keyed_lines.proofs.Common.{◌≡◌, ◌≤◌, ◌∙◌, ap, arith, count_now, drop, length, name_now, named_at, sym, take, AreNamed}
 use Rattle.cil_keyed_lines.proofs.RunLemmas.{above_run, named_run, names_run, now_run}
+use Rattle.std.proofs.lemmas.List.{take_all}
 use Rattle.cil_keyed_lines.proofs.moves.move_places.Goals as goal
 
 pub move_group-requires-clause-named : goal.move_group-requires-clause-named
@@ -50,3 +51,15 @@ loop-from-preserved g c =
       before = λ l t less. step.before l t (omega (arith, less, so.more)) ∙ so.before l t less;
       logged = λ are. step.logged (so.logged are);
     }
+
+pub returns-in_err-move_group-clause-names_before : goal.returns-in_err-move_group-clause-names_before
+returns-in_err-move_group-clause-names_before g c = λ p. c.move_group.ensures.names_before p ∙ c.loop-from.invariant.names_before p
+
+pub returns-in_err-move_group-clause-before : goal.returns-in_err-move_group-clause-before
+returns-in_err-move_group-clause-before g c = λ l t less.
+    c.move_group.ensures.before l t (omega (arith, less, c.loop-from.invariant.more)) ∙ c.loop-from.invariant.before l t less
+
+pub returns-clause-now : goal.returns-clause-now
+returns-clause-now g c =
+    let all : take c.loop-from.from c.args.places.now ≡ c.args.places.now = take_all c.loop-from.from c.args.places.now (omega arith) in
+    λ p t. rw (sym all) (c.loop-from.invariant.now p t)

@@ -60,3 +60,21 @@ returns-clause-times g c k =
     let keys = c.args.keys.now in
     let end : take c.loop-key.key-index keys ≡ keys = take_all c.loop-key.key-index keys (omega arith) in
     c.loop-key.invariant.times k ∙ ap (λ l. listed l k) end
+
+pub returns-in_err-place-clause-places : goal.returns-in_err-place-clause-places
+returns-in_err-place-clause-places g c = λ i k at. c.reach_key.ensures.places i k (c.loop-key.invariant.grown i k at)
+
+pub returns-in_err-place-clause-now : goal.returns-in_err-place-clause-now
+returns-in_err-place-clause-now g c = λ k t. c.reach_key.ensures.now k t ∙ c.loop-key.invariant.now k t
+
+pub returns-in_err-place-clause-before : goal.returns-in_err-place-clause-before
+returns-in_err-place-clause-before g c = λ k t. c.reach_key.ensures.before k t ∙ c.loop-key.invariant.before k t
+
+pub returns-in_err-push-clause-places : goal.returns-in_err-push-clause-places
+returns-in_err-push-clause-places g c = λ i k at. c.reach_key.ensures.places i k (c.loop-key.invariant.grown i k at)
+
+pub returns-in_err-push-clause-now : goal.returns-in_err-push-clause-now
+returns-in_err-push-clause-now g c = λ k t. c.reach_key.ensures.now k t ∙ c.loop-key.invariant.now k t
+
+pub returns-in_err-push-clause-before : goal.returns-in_err-push-clause-before
+returns-in_err-push-clause-before g c = λ k t. c.reach_key.ensures.before k t ∙ c.loop-key.invariant.before k t

@@ -1,4 +1,5 @@
-use Rattle.cil_keyed_lines.proofs.Common.{◌<◌, ◌^◌, ap, eq-eqb, false, get_or, if◌then◌else◌, ne_eqb, sym, true, true≢false, ◌∙◌, cases_eq, inl, inr, ◌≢◌}
+use Rattle.cil_keyed_lines.proofs.Common.{◌<◌, ◌^◌, ap, eq-eqb, false, get_or, if◌then◌else◌, ne_eqb, sym, true, true≢false, ◌∙◌, ◌≡◌, arith, take, cases_eq, inl, inr, ◌≢◌}
+use Rattle.std.proofs.lemmas.List.{take_all}
 use Rattle.std.proofs.lemmas.List.Elements.{All-more}
 use Rattle.cil_recorded.specs.declared.recorded_lines.changes.Change.{Change}
 use Rattle.cil_keyed_lines.proofs.keyed_lines.past.marks.Goals as goal
@@ -22,3 +23,13 @@ loop-change-preserved g c =
           ];
       short = All-more (λ (d : Change). d.word < 2 ^ 64) xs i none c.loop-change-test.true c.loop-change.invariant.short c.mark.ensures.short;
     }
+
+pub returns-clause-marked : goal.returns-clause-marked
+returns-clause-marked g c =
+    let all : take c.loop-change.change-index c.args.changes.now ≡ c.args.changes.now = take_all c.loop-change.change-index c.args.changes.now (omega arith) in
+    rw (sym all) c.loop-change.invariant.marked
+
+pub returns-clause-short : goal.returns-clause-short
+returns-clause-short g c =
+    let all : take c.loop-change.change-index c.args.changes.now ≡ c.args.changes.now = take_all c.loop-change.change-index c.args.changes.now (omega arith) in
+    rw (sym all) c.loop-change.invariant.short

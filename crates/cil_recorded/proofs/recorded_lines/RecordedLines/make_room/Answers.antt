@@ -11,3 +11,9 @@ invariant_of-self g c =
 pub returns-clause-before : goal.returns-clause-before
 returns-clause-before g c =
     rw (← c.self.view_is) (undone_same (reverse c.self.inside.log.items) (count_in c.self.inside.lines.items) (count_in c.make_room.new.lines.items) c.make_room.ensures.now)
+
+pub returns-clause-now : goal.returns-clause-now
+returns-clause-now g c = rw (← c.self.view_is) c.make_room.ensures.now
+
+pub returns-clause-limits : goal.returns-clause-limits
+returns-clause-limits g c = rw (← c.self.view_is) c.make_room.ensures.limits
