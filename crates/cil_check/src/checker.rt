@@ -59,42 +59,68 @@ impl<'p, 'm, A: Allocator + Copy> Checker<'p, 'm, A> {
         ensures noted { IfOk result (λ checker. (policy : List Placed) → IsOf bound.entry policy → IsNoted checker policy) }
         ensures bound { IfOk result (λ checker. checker.bound ≡ bound.entry) }
     {
-        let mut checker = Checker::listed(alloc, bound)?;
+        let permissions = Permissions::of(alloc, &bound)?;
+        let mut checker = Checker::listed(alloc, bound, permissions);
         checker.note_all(alloc)?;
-        let witnesses = Witnesses::of(
-            alloc,
-            &checker.bound,
-            &checker.permissions,
-            &checker.inherited,
-        )?;
-        checker.witnesses = witnesses;
         Ok(checker)
     }
 
     /// A bound policy with the permissions that its classes and commons list, and nothing else yet.
-    fn listed(alloc: A, bound: BoundPolicy<'p, 'm, A>) -> Result<Self, AllocError>
-        requires { (policy : List Placed) × IsOf bound policy }
-        ensures bound { IfOk result (λ checker. checker.bound ≡ bound.entry) }
-        ensures actuals { IfOk result (λ checker. checker.actuals ≡ []) }
-        ensures commons { IfOk result (λ checker. checker.commons ≡ []) }
-        ensures inherited { IfOk result (λ checker. checker.inherited ≡ ([], [])) }
-        ensures listed { IfOk result (λ checker. (policy : List Placed) → IsOf bound.entry policy → HaveListed bound.entry.policy.now.names policy checker.permissions.listed.keys) }
-        ensures words { IfOk result (λ checker. (policy : List Placed) → IsOf bound.entry policy → HaveWords bound.entry.policy.now.names policy checker.permissions.words.0) }
+    fn listed(alloc: A, bound: BoundPolicy<'p, 'm, A>, permissions: Permissions<A>) -> Self
+        ensures bound { result.bound ≡ bound.entry }
+        ensures permissions { result.permissions ≡ permissions }
+        ensures actuals { result.actuals ≡ [] }
+        ensures commons { result.commons ≡ [] }
+        ensures inherited { result.inherited ≡ ([], []) }
     {
-        let permissions = Permissions::of(alloc, &bound)?;
-        Ok(Checker {
+        Checker {
             bound,
             actuals: Firsts::new(alloc),
             commons: Firsts::new(alloc),
             permissions,
             inherited: Groups::new(alloc),
             witnesses: Witnesses::new(alloc),
-        })
+        }
+    }
+
+    /// Notes where a permission of several commons is to be looked for first.
+    fn note_witnesses(&mut self, alloc: A) -> Result<(), AllocError>
+        requires { (policy : List Placed) × IsOf self.old.bound policy }
+        ensures bound { self.new.bound ≡ self.old.bound }
+        ensures permissions { self.new.permissions ≡ self.old.permissions }
+        ensures actuals { self.new.actuals ≡ self.old.actuals }
+        ensures commons { self.new.commons ≡ self.old.commons }
+        ensures inherited { self.new.inherited ≡ self.old.inherited }
+    {
+        self.witnesses = Witnesses::of(alloc, &self.bound, &self.permissions, &self.inherited)?;
+        Ok(())
+    }
+
+    /// Notes what statements give to aliases and classes, and where permissions are to be looked for first.
+    fn note_all(&mut self, alloc: A) -> Result<(), AllocError>
+        requires is { (policy : List Placed) × IsOf self.old.bound policy }
+        requires actuals { self.old.actuals ≡ [] }
+        requires commons { self.old.commons ≡ [] }
+        requires inherited { self.old.inherited ≡ ([], []) }
+        ensures bound { OnOk result (self.new.bound ≡ self.old.bound) }
+        ensures permissions { OnOk result (self.new.permissions ≡ self.old.permissions) }
+        ensures actuals { OnOk result ((policy : List Placed) → IsOf self.old.bound policy
+            → HasFirsts Actual policy self.new.actuals) }
+        ensures commons { OnOk result ((policy : List Placed) → IsOf self.old.bound policy
+            → HasFirsts Common policy self.new.commons) }
+        ensures inherited { OnOk result ((policy : List Placed) → IsOf self.old.bound policy
+            → HasInherited policy self.new.inherited) }
+        ensures few { OnOk result ((policy : List Placed) → IsOf self.old.bound policy
+            → length policy < 2 ^ 32) }
+    {
+        self.note_given(alloc)?;
+        self.note_witnesses(alloc)?;
+        Ok(())
     }
 
     /// Notes what statements give to aliases and classes, in one pass over those about names.
     #[inline(never)]
-    fn note_all(&mut self, alloc: A) -> Result<(), AllocError>
+    fn note_given(&mut self, alloc: A) -> Result<(), AllocError>
         requires is { (policy : List Placed) × IsOf self.old.bound policy }
         requires actuals { self.old.actuals ≡ [] }
         requires commons { self.old.commons ≡ [] }

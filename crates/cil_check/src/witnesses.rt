@@ -48,33 +48,22 @@ fn listers<A: Allocator + Copy>(
     Ok(listers)
 }
 
-impl<'c, A: Allocator + Copy> Search<'c, A> {
-    /// A search of what is listed and given.
-    fn of(
-        alloc: A,
-        permissions: &'c Permissions<A>,
-        inherited: &'c Groups<A>,
-    ) -> Result<Self, AllocError> {
-        let mut search = Search {
-            permissions,
-            listers: listers(alloc, permissions)?,
-            inherited,
-            given: IndexMap::new(alloc),
-        };
-        for class in inherited.keys.iter() {
-            search.give(*class)?;
+/// At which index among the commons of classes each stands.
+fn indices<A: Allocator + Copy>(
+    alloc: A,
+    inherited: &Groups<A>,
+) -> Result<IndexMap<Given, usize, BuildHasherDefault<FoldHasher>, A>, AllocError> {
+    let mut given = IndexMap::new(alloc);
+    for class in inherited.keys.iter() {
+        for (at, common) in inherited.get(*class).iter().enumerate() {
+            let key = Given {
+                class: *class,
+                common: *common,
+            };
+            given.insert(key, at)?;
         }
-        Ok(search)
     }
-
-    /// Takes up the commons of a class.
-    fn give(&mut self, class: u32) -> Result<(), AllocError> {
-        for (at, common) in self.inherited.get(class).iter().enumerate() {
-            let common = *common;
-            self.given.insert(Given { class, common }, at)?;
-        }
-        Ok(())
-    }
+    Ok(given)
 }
 
 impl<'c, A: Allocator> Search<'c, A> {
@@ -120,18 +109,35 @@ impl<A: Allocator + Copy> Witnesses<A> {
     ) -> Result<Self, AllocError>
         requires { (policy : List Placed) × IsOf bound.now policy }
     {
-        let mut witnesses = Witnesses {
-            found: IndexMap::new(alloc),
-        };
         if inherited.lists.iter().all(|commons| commons.len() < 2) {
-            return Ok(witnesses);
+            return Ok(Witnesses::new(alloc));
         }
-        let search = Search::of(alloc, permissions, inherited)?;
+        let listers = listers(alloc, permissions)?;
+        let given = indices(alloc, inherited)?;
+        let search = Search {
+            permissions,
+            listers,
+            inherited,
+            given,
+        };
+        let mut witnesses = Witnesses::new(alloc);
+        witnesses.insert_each(bound, &search)?;
+        Ok(witnesses)
+    }
+
+    /// Looks for the permissions that the statements of a policy name.
+    fn insert_each(
+        &mut self,
+        bound: &BoundPolicy<'_, '_, A>,
+        search: &Search<'_, A>,
+    ) -> Result<(), AllocError>
+        requires { (policy : List Placed) × IsOf bound.now policy }
+    {
         for i in 0..bound.len() {
             let seen = bound.seen(i);
-            witnesses.insert_all(&search, &seen)?;
+            self.insert_all(search, &seen)?;
         }
-        Ok(witnesses)
+        Ok(())
     }
 
     /// Looks for the permissions that a statement names, if its class has several commons.

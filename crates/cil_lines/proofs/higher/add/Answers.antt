@@ -1,4 +1,4 @@
-use Rattle.cil_lines.proofs.Common.{◌≡◌, ◌+◌, suc, ◌∙◌, ap, sym, subst, length, get_or, set, drop, ◌<◌, bit_and, bit_xor, arith, bits_of, HasRoom}
+use Rattle.cil_lines.proofs.Common.{◌≡◌, ◌≤◌, ◌+◌, suc, ◌∙◌, ap, sym, subst, length, get_or, set, drop, ◌<◌, bit_and, bit_xor, arith, bit_at-zero, bits_of, drop_of_length-le, HasRoom}
 use Rattle.cil_lines.proofs.LineLemmas.{add_step, value-set_same, drop-set, room-next}
 use Rattle.cil_lines.proofs.PlaceLemmas.{limit-set}
 use Rattle.cil_lines.proofs.higher.add.Goals as goal
@@ -19,3 +19,22 @@ loop-i-preserved g c =
       others = λ w b other. value-set_same ds i w b d c.put.new.self within (c.put.ensures.others w other) ∙ was.others w b other;
       limits = λ w. omega (arith, was.limits w, limit-set ds i w d c.put.new.self within (c.put.ensures.kept w));
     })
+
+pub returns-then-carry-eq0-clause-sum : goal.returns-then-carry-eq0-clause-sum
+returns-then-carry-eq0-clause-sum g c b =
+    let was = rw (c.if-carry-eq0.true, bit_at-zero b) at (c.loop-i.invariant.sum b) in
+    omega (arith, was)
+
+pub returns-then-carry-eq0-clause-others : goal.returns-then-carry-eq0-clause-others
+returns-then-carry-eq0-clause-others g c = c.loop-i.invariant.others
+
+pub returns-clause-sum : goal.returns-clause-sum
+returns-clause-sum g c b =
+    let ds = c.loop-i.digits in
+    let past : length ds ≤ c.loop-i.i = let same = c.loop-i.auto.digits in let test = c.loop-i-test.false in omega (arith, same, test) in
+    let none : c.loop-i.carry ≡ 0 = subst (λ l. HasRoom l c.args.word c.loop-i.carry) (drop_of_length-le ds past) c.loop-i.invariant.room in
+    let was = rw (none, bit_at-zero b) at (c.loop-i.invariant.sum b) in
+    omega (arith, was)
+
+pub returns-clause-others : goal.returns-clause-others
+returns-clause-others g c = c.loop-i.invariant.others

@@ -1,4 +1,4 @@
-use Rattle.cil_lines.proofs.Common.{◌≡◌, ◌-◌, suc, ap, drop, arith, Words, bits_of, total}
+use Rattle.cil_lines.proofs.Common.{◌≡◌, ◌-◌, ◌∙◌, suc, ap, sym, drop, arith, Words, bits_of, total}
 use Rattle.cil_lines.proofs.LineLemmas.{total-drop}
 use Rattle.cil_lines.proofs.higher.end.Goals as goal
 
@@ -17,3 +17,8 @@ loop-i-preserved g c =
           let rest = c.loop-i.invariant.1 w (omega (arith, end, past)) in
           omega (arith, at, here, none, behind, rest),
     )
+
+pub returns : goal.returns
+returns g c = λ w past.
+    let none : c.loop-i.i ≡ 0 = let test = c.loop-i-test.false in omega (arith, test) in
+    sym (ap (λ k. total (drop k c.args.digits.now) w) none) ∙ c.loop-i.invariant.1 w past

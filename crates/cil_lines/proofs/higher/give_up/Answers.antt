@@ -22,3 +22,9 @@ loop-i-preserved g c =
       now = λ w b. value-set_same ds i w b d e within (c.give_up.ensures.bits w) ∙ was.now w b;
       limits = λ w other. let more = limit-set ds i w d e within (c.give_up.ensures.kept w other) in omega (arith, was.limits w other, more);
     }
+
+pub returns-clause-now : goal.returns-clause-now
+returns-clause-now g c = c.loop-i.invariant.now
+
+pub returns-clause-limits : goal.returns-clause-limits
+returns-clause-limits g c = c.loop-i.invariant.limits

@@ -1,4 +1,5 @@
-use Rattle.std.proofs.Common.{◌≡◌, ◌+◌, ◌<◌, ◌++◌, suc, ◌∙◌, ap, sym, subst, length, take, drop, take-append-drop, append_assoc, arith}
+use Rattle.std.proofs.Common.{◌≡◌, ◌≤◌, ◌+◌, ◌<◌, ◌++◌, suc, ◌∙◌, ap, sym, subst, length, take, drop, take-append-drop, append_assoc, arith}
+use Rattle.std.proofs.lemmas.List.{take_all}
 use Rattle.cil_lines.specs.Line.{HasRoom}
 use Rattle.cil_lines.proofs.LineLemmas.{value-set_same, room-none, room-more}
 use Rattle.cil_lines.proofs.PlaceLemmas.{limit-set}
@@ -37,3 +38,21 @@ loop-i-preserved g c =
       room = λ rest room. room-more ds rest i c.args.word c.loop-i.carry c.args.mask e within c.in_ok-make_place.ensures.place was.room room;
       limits = λ w. omega (arith, was.limits w, limit-set ds i w d e within (c.in_ok-make_place.ensures.kept w));
     })
+
+pub returns-then-carry-eq0-clause-now : goal.returns-then-carry-eq0-clause-now
+returns-then-carry-eq0-clause-now g c = c.loop-i.invariant.now
+
+pub returns-then-carry-eq0-clause-limits : goal.returns-then-carry-eq0-clause-limits
+returns-then-carry-eq0-clause-limits g c = c.loop-i.invariant.limits
+
+pub returns-clause-room : goal.returns-clause-room
+returns-clause-room g c rest room =
+    let ds = c.loop-i.digits in
+    let past : length ds ≤ c.loop-i.i = let same = c.loop-i.auto.digits in let test = c.loop-i-test.false in omega (arith, same, test) in
+    subst (λ l. HasRoom (l ++ rest) c.args.word c.args.mask) (take_all c.loop-i.i ds past) (c.loop-i.invariant.room rest room)
+
+pub returns-clause-now : goal.returns-clause-now
+returns-clause-now g c = c.loop-i.invariant.now
+
+pub returns-clause-limits : goal.returns-clause-limits
+returns-clause-limits g c = c.loop-i.invariant.limits

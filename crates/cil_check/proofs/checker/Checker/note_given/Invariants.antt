@@ -1,7 +1,7 @@
 use Rattle.cil_check.proofs.Common.{◌≡◌, List, length, Placed, IsOf}
 use Rattle.cil_bind.proofs.AboutNamesLemmas.{after_places}
 use Rattle.cil_check.proofs.NoteLemmas.{IsNotedTo}
-use Rattle.cil_check.proofs.checker.Checker.note_all.Given as goal
+use Rattle.cil_check.proofs.checker.Checker.note_given.Given as goal
 
 -- what so many statements give is noted, and else nothing changed
 abbrev pub invariant-loop-k : goal.invariant-loop-k

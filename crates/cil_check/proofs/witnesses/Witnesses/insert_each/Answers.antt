@@ -1,6 +1,6 @@
 use Rattle.std.proofs.Common.{◌<◌, length, arith}
 use Rattle.cil_check.proofs.SeenLemmas.{there-at}
-use Rattle.cil_check.proofs.witnesses.Witnesses.of.Goals as goal
+use Rattle.cil_check.proofs.witnesses.Witnesses.insert_each.Goals as goal
 
 pub insert_all-requires : goal.insert_all-requires
 insert_all-requires g c =
