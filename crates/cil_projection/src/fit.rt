@@ -12,7 +12,7 @@ use crate::declaration::truth;
 use crate::names::{add_expression, add_listed, add_name};
 use crate::operand::Operand;
 use crate::part::Part;
-use crate::piece::Piece;
+use crate::piece::{Piece, add_piece};
 use crate::split::split_word;
 use crate::table::Table;
 use cil_reader::{Tree, TreeSlice, Word};
@@ -56,15 +56,15 @@ fn add_word<'a, A: Allocator>(
     let name = word.text;
     let table = match part {
         Part::Declared(table) => {
-            pieces.push(Piece::Declared { table, name })?;
+            add_piece(pieces, Piece::Declared { table, name })?;
             return Ok(true);
         }
         Part::Class | Part::Classes => {
-            pieces.push(Piece::Class { name })?;
+            add_piece(pieces, Piece::Class { name })?;
             return Ok(true);
         }
         Part::ClassPermissions => {
-            pieces.push(Piece::PermissionSet { name })?;
+            add_piece(pieces, Piece::PermissionSet { name })?;
             return Ok(true);
         }
         Part::Expression(table) => {
@@ -84,7 +84,7 @@ fn add_word<'a, A: Allocator>(
         Part::Address => Table::Addresses,
         Part::ExtendedPermission => Table::ExtendedPermissions,
     };
-    pieces.push(Piece::Needed { table, name })?;
+    add_piece(pieces, Piece::Needed { table, name })?;
     Ok(true)
 }
 
@@ -99,12 +99,12 @@ fn add_level<'a, A: Allocator>(
     let Some((sensitivity, categories)) = split_word(items) else {
         return Ok(false);
     };
-    pieces.push(Piece::Needed {
+    let needed = Piece::Needed {
         table: Table::Sensitivities,
         name: sensitivity.text,
-    })?;
-    let fits = add_expression(pieces, Operand::Name(Table::Categories), categories)?;
-    Ok(fits)
+    };
+    add_piece(pieces, needed)?;
+    add_expression(pieces, Operand::Name(Table::Categories), categories)
 }
 
 /// Adds the names of an argument that is a list of these trees.
