@@ -39,11 +39,11 @@ fn add_listed<'a, A: Allocator>(
     ensures { IfOk result (λ fits. Adds pieces.old.items pieces.new.items fits
         (listed class.entry.text.now (trees_of items.entry))) }
 {
-    pieces.push(Piece::Opened { class: class.text })?;
+    add_piece(pieces, Piece::Opened { class: class.text })?;
     if !add_expression(pieces, Operand::Permission, items)? {
         return Ok(false);
     }
-    pieces.push(Piece::Closed)?;
+    add_piece(pieces, Piece::Closed)?;
     Ok(true)
 }
 
