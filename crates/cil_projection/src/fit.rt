@@ -54,19 +54,10 @@ fn add_word<'a, A: Allocator>(
         Adds pieces.old.items pieces.new.items fits (of_word part word.entry.text.now)) }
 {
     let name = word.text;
-    let table = match part {
-        Part::Declared(table) => {
-            add_piece(pieces, Piece::Declared { table, name })?;
-            return Ok(true);
-        }
-        Part::Class | Part::Classes => {
-            add_piece(pieces, Piece::Class { name })?;
-            return Ok(true);
-        }
-        Part::ClassPermissions => {
-            add_piece(pieces, Piece::PermissionSet { name })?;
-            return Ok(true);
-        }
+    let piece = match part {
+        Part::Declared(table) => Piece::Declared { table, name },
+        Part::Class | Part::Classes => Piece::Class { name },
+        Part::ClassPermissions => Piece::PermissionSet { name },
         Part::Expression(table) => {
             add_name(pieces, table, word)?;
             return Ok(true);
@@ -76,15 +67,33 @@ fn add_word<'a, A: Allocator>(
         Part::Ignored => return Ok(true),
         Part::Name(_) if name == b"self".as_slice() => return Ok(false),
         Part::Constraint => return Ok(false),
-        Part::Name(table) | Part::Names(table) => table,
-        Part::Target => Table::Types,
-        Part::Context | Part::PerhapsContext => Table::Contexts,
-        Part::Range => Table::Ranges,
-        Part::Level => Table::Levels,
-        Part::Address => Table::Addresses,
-        Part::ExtendedPermission => Table::ExtendedPermissions,
+        Part::Name(table) | Part::Names(table) => Piece::Needed { table, name },
+        Part::Target => Piece::Needed {
+            table: Table::Types,
+            name,
+        },
+        Part::Context | Part::PerhapsContext => Piece::Needed {
+            table: Table::Contexts,
+            name,
+        },
+        Part::Range => Piece::Needed {
+            table: Table::Ranges,
+            name,
+        },
+        Part::Level => Piece::Needed {
+            table: Table::Levels,
+            name,
+        },
+        Part::Address => Piece::Needed {
+            table: Table::Addresses,
+            name,
+        },
+        Part::ExtendedPermission => Piece::Needed {
+            table: Table::ExtendedPermissions,
+            name,
+        },
     };
-    add_piece(pieces, Piece::Needed { table, name })?;
+    add_piece(pieces, piece)?;
     Ok(true)
 }
 
