@@ -7,8 +7,8 @@ ghost use Rattle.cil_projection.specs.Forms.{fitting, rows_of, taken_by};
 ghost use Rattle.cil_projection.specs.Statements.{by_names};
 
 use crate::fit::fit;
-use crate::kinds::{FORMS, Form};
-use crate::piece::Piece;
+use crate::kinds::{Form, forms};
+use crate::piece::{Piece, add_piece};
 use cil_reader::{TreeSlice, Word};
 use std::alloc::{AllocError, Allocator};
 
@@ -31,11 +31,12 @@ fn taken<'a, A: Allocator>(
 {
     let (keyword, parts) = form;
     let mut pieces = Vec::new(alloc);
-    pieces.push(Piece::Blanked {
+    let blanked = Piece::Blanked {
         from: span.from,
         to: span.to,
-    })?;
-    pieces.push(Piece::Taken { keyword })?;
+    };
+    add_piece(&mut pieces, blanked)?;
+    add_piece(&mut pieces, Piece::Taken { keyword })?;
     if !fit(&mut pieces, parts, arguments)? {
         return Ok(None);
     }
@@ -63,8 +64,7 @@ fn fitting<'a, A: Allocator + Copy>(
             return Ok(Some(pieces));
         }
     }
-    let found = fitting(alloc, span, more, word, arguments)?;
-    Ok(found)
+    fitting(alloc, span, more, word, arguments)
 }
 
 /// The pieces of a statement by its names alone: by the first of the forms that it fits.
@@ -77,6 +77,5 @@ pub fn by_names<'a, A: Allocator + Copy>(
     ensures { IfOk result (λ found. option_map (λ pieces. pieces_of pieces.items) found
         ≡ by_names span.from span.to word.entry.text.now (trees_of arguments.entry)) }
 {
-    let found = fitting(alloc, span, &FORMS, word, arguments)?;
-    Ok(found)
+    fitting(alloc, span, forms(), word, arguments)
 }

@@ -6,7 +6,7 @@ ghost use Rattle.cil_projection.specs.Forms.{Adds, class_permissions, classes_in
 
 use crate::names::add_expression;
 use crate::operand::Operand;
-use crate::piece::Piece;
+use crate::piece::{Piece, add_piece};
 use crate::split::{split_list, split_word};
 use cil_reader::{Tree, TreeSlice, Word};
 use std::alloc::{AllocError, Allocator};
@@ -24,7 +24,7 @@ pub fn add_classes<'a, A: Allocator>(
         let Tree::Word(word) = tree else {
             return Ok(false);
         };
-        pieces.push(Piece::Class { name: word.text })?;
+        add_piece(pieces, Piece::Class { name: word.text })?;
         rest = behind;
     }
     Ok(true)
@@ -39,11 +39,11 @@ fn add_listed<'a, A: Allocator>(
     ensures { IfOk result (λ fits. Adds pieces.old.items pieces.new.items fits
         (listed class.entry.text.now (trees_of items.entry))) }
 {
-    pieces.push(Piece::Opened { class: class.text })?;
+    add_piece(pieces, Piece::Opened { class: class.text })?;
     if !add_expression(pieces, Operand::Permission, items)? {
         return Ok(false);
     }
-    pieces.push(Piece::Closed)?;
+    add_piece(pieces, Piece::Closed)?;
     Ok(true)
 }
 
@@ -64,6 +64,5 @@ pub fn add_class_permissions<'a, A: Allocator>(
     if !behind.is_empty() {
         return Ok(false);
     }
-    let fits = add_listed(pieces, class, items)?;
-    Ok(fits)
+    add_listed(pieces, class, items)
 }

@@ -5,7 +5,7 @@ ghost use Rattle.cil_reader.specs.Common.{trees_of};
 ghost use Rattle.cil_projection.specs.Forms.{Adds, compared, comparison, constraint, constraints, variable};
 
 use crate::names::add_listed;
-use crate::piece::Piece;
+use crate::piece::{Piece, add_piece};
 use crate::split::split_word;
 use crate::table::Table;
 use crate::words::is_among;
@@ -53,10 +53,11 @@ fn add_compared<'a, A: Allocator>(
         return Ok(false);
     };
     if table_of(word.text).is_none() {
-        pieces.push(Piece::Needed {
+        let needed = Piece::Needed {
             table,
             name: word.text,
-        })?;
+        };
+        add_piece(pieces, needed)?;
     }
     Ok(true)
 }
@@ -89,8 +90,7 @@ fn add_comparison<'a, A: Allocator>(
             let Some(table) = table else {
                 return Ok(false);
             };
-            let fits = add_listed(pieces, table, items)?;
-            Ok(fits)
+            add_listed(pieces, table, items)
         }
     }
 }

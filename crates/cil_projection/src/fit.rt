@@ -12,7 +12,7 @@ use crate::declaration::truth;
 use crate::names::{add_expression, add_listed, add_name};
 use crate::operand::Operand;
 use crate::part::Part;
-use crate::piece::Piece;
+use crate::piece::{Piece, add_piece};
 use crate::split::split_word;
 use crate::table::Table;
 use cil_reader::{Tree, TreeSlice, Word};
@@ -54,19 +54,10 @@ fn add_word<'a, A: Allocator>(
         Adds pieces.old.items pieces.new.items fits (of_word part word.entry.text.now)) }
 {
     let name = word.text;
-    let table = match part {
-        Part::Declared(table) => {
-            pieces.push(Piece::Declared { table, name })?;
-            return Ok(true);
-        }
-        Part::Class | Part::Classes => {
-            pieces.push(Piece::Class { name })?;
-            return Ok(true);
-        }
-        Part::ClassPermissions => {
-            pieces.push(Piece::PermissionSet { name })?;
-            return Ok(true);
-        }
+    let piece = match part {
+        Part::Declared(table) => Piece::Declared { table, name },
+        Part::Class | Part::Classes => Piece::Class { name },
+        Part::ClassPermissions => Piece::PermissionSet { name },
         Part::Expression(table) => {
             add_name(pieces, table, word)?;
             return Ok(true);
@@ -76,15 +67,33 @@ fn add_word<'a, A: Allocator>(
         Part::Ignored => return Ok(true),
         Part::Name(_) if name == b"self".as_slice() => return Ok(false),
         Part::Constraint => return Ok(false),
-        Part::Name(table) | Part::Names(table) => table,
-        Part::Target => Table::Types,
-        Part::Context | Part::PerhapsContext => Table::Contexts,
-        Part::Range => Table::Ranges,
-        Part::Level => Table::Levels,
-        Part::Address => Table::Addresses,
-        Part::ExtendedPermission => Table::ExtendedPermissions,
+        Part::Name(table) | Part::Names(table) => Piece::Needed { table, name },
+        Part::Target => Piece::Needed {
+            table: Table::Types,
+            name,
+        },
+        Part::Context | Part::PerhapsContext => Piece::Needed {
+            table: Table::Contexts,
+            name,
+        },
+        Part::Range => Piece::Needed {
+            table: Table::Ranges,
+            name,
+        },
+        Part::Level => Piece::Needed {
+            table: Table::Levels,
+            name,
+        },
+        Part::Address => Piece::Needed {
+            table: Table::Addresses,
+            name,
+        },
+        Part::ExtendedPermission => Piece::Needed {
+            table: Table::ExtendedPermissions,
+            name,
+        },
     };
-    pieces.push(Piece::Needed { table, name })?;
+    add_piece(pieces, piece)?;
     Ok(true)
 }
 
@@ -99,12 +108,12 @@ fn add_level<'a, A: Allocator>(
     let Some((sensitivity, categories)) = split_word(items) else {
         return Ok(false);
     };
-    pieces.push(Piece::Needed {
+    let needed = Piece::Needed {
         table: Table::Sensitivities,
         name: sensitivity.text,
-    })?;
-    let fits = add_expression(pieces, Operand::Name(Table::Categories), categories)?;
-    Ok(fits)
+    };
+    add_piece(pieces, needed)?;
+    add_expression(pieces, Operand::Name(Table::Categories), categories)
 }
 
 /// Adds the names of an argument that is a list of these trees.

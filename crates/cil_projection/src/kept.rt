@@ -6,7 +6,7 @@ ghost use Rattle.cil_projection.specs.Pieces.{pieces_of};
 ghost use Rattle.cil_projection.specs.Statements.{kept_rules};
 
 use crate::needs::{Choice, begins_rule};
-use crate::piece::Piece;
+use crate::piece::{Piece, add_piece};
 use crate::split::split_word;
 use cil_reader::{Tree, TreeSlice};
 use std::alloc::{AllocError, Allocator};
@@ -27,22 +27,23 @@ fn add_kept_rules<'a, A: Allocator>(
         if let Tree::List { at, end, items } = tree {
             if let Some((word, _)) = split_word(items) {
                 if begins_rule(word.text) {
-                    pieces.push(Piece::Blanked {
+                    let blanked = Piece::Blanked {
                         from,
                         to: at.offset,
-                    })?;
-                    pieces.push(Piece::Copied {
+                    };
+                    add_piece(pieces, blanked)?;
+                    let copied = Piece::Copied {
                         from: at.offset,
                         to: end,
-                    })?;
+                    };
+                    add_piece(pieces, copied)?;
                     from = end;
                 }
             }
         }
         rest = behind;
     }
-    pieces.push(Piece::Blanked { from, to })?;
-    Ok(())
+    add_piece(pieces, Piece::Blanked { from, to })
 }
 
 impl<'w, 'm, A: Allocator + Copy> Choice<'w, 'm, A> {
@@ -77,7 +78,6 @@ impl<'w, 'm, A: Allocator + Copy> Choice<'w, 'm, A> {
             }
             rest = behind;
         }
-        pieces.push(Piece::Blanked { from, to })?;
-        Ok(())
+        add_piece(pieces, Piece::Blanked { from, to })
     }
 }

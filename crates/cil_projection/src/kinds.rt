@@ -1,5 +1,8 @@
 //! The kinds of statements outside the language that are taken by their names.
 
+ghost use Rattle.std.specs.Prelude.{◌≡◌};
+ghost use Rattle.cil_projection.specs.Forms.{forms, rows_of};
+
 use crate::part::Part;
 use crate::part::Part::{
     Address, Class, ClassPermissions, Classes, Constraint, Context, Declared, Expression,
@@ -130,6 +133,13 @@ pub const FORMS: [Form; 75] = [
         &[Declared(ExtendedPermissions), ExtendedPermission],
     ),
 ];
+
+/// The forms, in their order.
+pub fn forms() -> &'static [Form]
+    ensures { rows_of result.now ≡ forms }
+{
+    &FORMS
+}
 
 /// A kind of statements: their first word, and in a few words what they do in a policy.
 pub type Kind = (&'static [u8], &'static [u8]);

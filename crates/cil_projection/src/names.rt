@@ -6,7 +6,7 @@ ghost use Rattle.cil_projection.specs.Pieces.{pieces_of};
 ghost use Rattle.cil_projection.specs.Forms.{Adds, expression_needs, has_no_string, listed_names, name_or_operator, of_operand, operands_in, permission_or_operator};
 
 use crate::operand::Operand;
-use crate::piece::Piece;
+use crate::piece::{Piece, add_piece};
 use crate::table::Table;
 use crate::words::is_among;
 use cil_reader::{Tree, TreeSlice, Word};
@@ -29,13 +29,14 @@ pub fn add_name<'a, A: Allocator>(
     ensures { OnOk result (pieces_of pieces.new.items
         ≡ pieces_of pieces.old.items ++ name_or_operator table word.entry.text.now) }
 {
-    if !is_among(&OPERATORS, word.text) {
-        pieces.push(Piece::Needed {
-            table,
-            name: word.text,
-        })?;
+    if is_among(&OPERATORS, word.text) {
+        return Ok(());
     }
-    Ok(())
+    let needed = Piece::Needed {
+        table,
+        name: word.text,
+    };
+    add_piece(pieces, needed)
 }
 
 /// Adds a permission that is needed, where the word is one and no operator.
@@ -46,10 +47,10 @@ fn add_permission<'a, A: Allocator>(
     ensures { OnOk result (pieces_of pieces.new.items
         ≡ pieces_of pieces.old.items ++ permission_or_operator word.entry.text.now) }
 {
-    if !is_among(&PERMISSION_OPERATORS, word.text) {
-        pieces.push(Piece::Permission { name: word.text })?;
+    if is_among(&PERMISSION_OPERATORS, word.text) {
+        return Ok(());
     }
-    Ok(())
+    add_piece(pieces, Piece::Permission { name: word.text })
 }
 
 /// Adds an operand of an expression, where the word is one and no operator.
@@ -140,10 +141,11 @@ pub fn add_listed<'a, A: Allocator>(
         let Tree::Word(word) = tree else {
             return Ok(false);
         };
-        pieces.push(Piece::Needed {
+        let needed = Piece::Needed {
             table,
             name: word.text,
-        })?;
+        };
+        add_piece(pieces, needed)?;
         rest = behind;
     }
     Ok(true)

@@ -11,7 +11,7 @@ use crate::booleans::Booleans;
 use crate::branches::is_for;
 use crate::fit::{fit, fitted};
 use crate::part::Part;
-use crate::piece::Piece;
+use crate::piece::{Piece, add_piece};
 use crate::split::split_word;
 use crate::table::Table;
 use crate::words::is_among;
@@ -90,7 +90,7 @@ fn add_rule_needs<'a, A: Allocator + Copy>(
     let Some(mut needs) = type_rule_needs(alloc, arguments)? else {
         return Ok(false);
     };
-    pieces.push(Piece::Taken { keyword: word })?;
+    add_piece(pieces, Piece::Taken { keyword: word })?;
     pieces.append(&mut needs)?;
     Ok(true)
 }
@@ -166,8 +166,7 @@ impl<'w, 'm, A: Allocator + Copy> Choice<'w, 'm, A> {
         if !is_among(&[b"true", b"false"], branch.text) {
             return Ok(false);
         }
-        let fits = add_rules(pieces, alloc, self.takes(branch.text), rules)?;
-        Ok(fits)
+        add_rules(pieces, alloc, self.takes(branch.text), rules)
     }
 
     /// Adds the names that the rules of branches need, but for those that stay where they are.

@@ -1,6 +1,9 @@
 //! The pieces of a projected text.
 
+ghost use Rattle.std.specs.Prelude.{◌≡◌, ◌++◌, ◌∷◌, [], OnOk};
+
 use crate::table::Table;
+use std::alloc::{AllocError, Allocator};
 
 /// A piece of a projected text. Offsets are those of the text that is projected.
 #[derive(Clone, Copy, Debug)]
@@ -25,4 +28,15 @@ pub enum Piece<'a> {
     Permission { name: &'a [u8] },
     /// Its end.
     Closed,
+}
+
+/// Adds a piece.
+pub fn add_piece<'a, A: Allocator>(
+    pieces: &mut Vec<Piece<'a>, A>,
+    piece: Piece<'a>,
+) -> Result<(), AllocError>
+    ensures { OnOk result (pieces.new.items ≡ pieces.old.items ++ piece.entry ∷ []) }
+{
+    pieces.push(piece)?;
+    Ok(())
 }

@@ -10,7 +10,7 @@ use crate::condition::list_value;
 use crate::names::{add_name, add_operands};
 use crate::needs::Choice;
 use crate::operand::Operand;
-use crate::piece::Piece;
+use crate::piece::{Piece, add_piece};
 use crate::table::Table;
 use cil_reader::{Tree, TreeSlice, Word};
 use std::alloc::{AllocError, Allocator};
@@ -30,11 +30,11 @@ pub fn add_copied<'a, A: Allocator>(
     ensures { OnOk result (pieces_of pieces.new.items
         ≡ pieces_of pieces.old.items ++ copied span.from span.to ∷ []) }
 {
-    pieces.push(Piece::Copied {
+    let copied = Piece::Copied {
         from: span.from,
         to: span.to,
-    })?;
-    Ok(())
+    };
+    add_piece(pieces, copied)
 }
 
 impl<'w, 'm, A: Allocator + Copy> Projector<'w, 'm, A> {
@@ -65,8 +65,7 @@ impl<'w, 'm, A: Allocator + Copy> Projector<'w, 'm, A> {
             Tree::String(_) => Ok(None),
             Tree::List { items, .. } => {
                 add_operands(names, Operand::Name(table), items)?;
-                let value = list_value(self.alloc, self.booleans, items)?;
-                Ok(value)
+                list_value(self.alloc, self.booleans, items)
             }
         }
     }
@@ -93,9 +92,10 @@ impl<'w, 'm, A: Allocator + Copy> Projector<'w, 'm, A> {
         let mut names = names;
         let mut pieces = Vec::new(self.alloc);
         choice.add_kept(&mut pieces, span.from, branches, span.to)?;
-        pieces.push(Piece::Taken {
+        let taken = Piece::Taken {
             keyword: b"booleanif",
-        })?;
+        };
+        add_piece(&mut pieces, taken)?;
         pieces.append(&mut names)?;
         if !choice.add_branches(&mut pieces, self.alloc, branches)? {
             return Ok(None);
@@ -120,8 +120,7 @@ impl<'w, 'm, A: Allocator + Copy> Projector<'w, 'm, A> {
         let Some(holds) = self.add_condition(&mut names, Table::Booleans, condition)? else {
             return Ok(None);
         };
-        let found = self.chosen(span, holds, names, branches)?;
-        Ok(found)
+        self.chosen(span, holds, names, branches)
     }
 
     /// The pieces of a statement with this first word that holds no others, where it is taken by its names.
@@ -136,11 +135,9 @@ impl<'w, 'm, A: Allocator + Copy> Projector<'w, 'm, A> {
             (trees_of arguments.entry)) }
     {
         if word.text == b"booleanif".as_slice() {
-            let found = self.conditional(span, arguments)?;
-            return Ok(found);
+            return self.conditional(span, arguments);
         }
-        let found = by_names(self.alloc, span, word, arguments)?;
-        Ok(found)
+        by_names(self.alloc, span, word, arguments)
     }
 
     /// Adds the pieces of a statement with this first word that holds no others.

@@ -7,7 +7,7 @@ ghost use Rattle.cil_projection.specs.Statements.{between};
 use crate::body::holds_others;
 use crate::branches::{are_branches, branch_for};
 use crate::by_names::Span;
-use crate::piece::Piece;
+use crate::piece::{Piece, add_piece};
 use crate::split::split_word;
 use crate::statement::{Projector, add_copied};
 use crate::table::Table;
@@ -50,7 +50,7 @@ impl<'w, 'm, A: Allocator + Copy> Projector<'w, 'm, A> {
         let mut rest = trees;
         while let Some((tree, behind)) = rest.split_first() {
             if let Tree::List { at, end, items } = tree {
-                pieces.push(between(stays, from, at.offset))?;
+                add_piece(pieces, between(stays, from, at.offset))?;
                 let inner = Span {
                     from: at.offset,
                     to: end,
@@ -60,8 +60,7 @@ impl<'w, 'm, A: Allocator + Copy> Projector<'w, 'm, A> {
             }
             rest = behind;
         }
-        pieces.push(between(stays, from, span.to))?;
-        Ok(())
+        add_piece(pieces, between(stays, from, span.to))
     }
 
     /// Adds the pieces of the statement that a list of these trees is.
@@ -130,9 +129,10 @@ impl<'w, 'm, A: Allocator + Copy> Projector<'w, 'm, A> {
             return add_copied(pieces, span);
         };
         self.add_branch(pieces, span, holds, branches)?;
-        pieces.push(Piece::Taken {
+        let taken = Piece::Taken {
             keyword: b"tunableif",
-        })?;
+        };
+        add_piece(pieces, taken)?;
         pieces.append(&mut names)?;
         Ok(())
     }
@@ -151,10 +151,11 @@ impl<'w, 'm, A: Allocator + Copy> Projector<'w, 'm, A> {
             (trees_of branches.entry)) }
     {
         let Some(inner) = branch_for(holds, branches) else {
-            pieces.push(Piece::Blanked {
+            let blanked = Piece::Blanked {
                 from: span.from,
                 to: span.to,
-            })?;
+            };
+            add_piece(pieces, blanked)?;
             return Ok(());
         };
         self.add_statements(pieces, span, false, inner)

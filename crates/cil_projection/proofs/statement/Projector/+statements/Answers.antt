@@ -29,7 +29,7 @@ add_branch-returns-in_default g t c =
     let settings = settings_of c.args.self.now.booleans.now in
     let branches = trees_of c.args.branches in
     let is = ap (λ found. option_map_or (λ inner. projected settings false from inner to) found (blanked from to ∷ [])) c.in_default.ensures ∙ branch_is settings holds from to branches in
-    added_one c.args.pieces.now.items c.push.new.self.items _ c.in_ok-push.ensures.items ∙ ap (λ added. pieces_of c.args.pieces.now.items ++ added) is
+    added_one c.args.pieces.now.items c.add_piece.new.pieces.items _ c.in_ok-add_piece.ensures ∙ ap (λ added. pieces_of c.args.pieces.now.items ++ added) is
 
 pub add_branch-add_statements-requires : goal.add_branch-add_statements-requires
 add_branch-add_statements-requires g t c κs within =
@@ -57,6 +57,6 @@ add_tunable-returns g t c =
     let names = c.in_ok-holds.ensures.names inner ∙ ap (λ l. pieces_of l ++ condition_names Tunables (tree_then c.in-Some.condition inner)) c.new-names.ensures.items in
     let branches = sym c.are_branches.ensures ∙ c.if-not-are_branches.false in
     let value = sym c.in-Some-2.is ∙ c.in_ok-holds.ensures.value inner in
-    names_behind old c.add_branch.new.pieces.items c.push.new.self.items c.append.new.self.items c.add_condition.new.names.items _ kept c.in_ok-add_branch.ensures c.in_ok-push.ensures.items c.in_ok-append.ensures.items
+    names_behind old c.add_branch.new.pieces.items c.add_piece.new.pieces.items c.append.new.self.items c.add_condition.new.names.items _ kept c.in_ok-add_branch.ensures c.in_ok-add_piece.ensures c.in_ok-append.ensures.items
     ∙ ap (λ names. pieces_of old ++ (kept ++ taken (codes "tunableif") ∷ names)) names
     ∙ ap (λ added. pieces_of old ++ added) (tunable_is settings from to c.in-Some.condition inner holds branches value ∙ ap (tunable_projected settings from to) (sym c.in-Some.ensures))
