@@ -25,6 +25,11 @@ module _ (held held' : List (List ℕ)) (s s' : State) (is : IsHeld held s) wher
         room = room;
       }
 
+  -- no counter moved, and no row has fewer words
+  pub held_still : rows_in s' ≤ length held' → ((r : ℕ) → words_of held r ≤ words_of held' r) → ((r w : ℕ) → bits_at held' r w ≡ bits_at held r w)
+      → ((r t : ℕ) → count_now s' r t ≡ count_now s r t) → ((r t : ℕ) → count_before s' r t ≡ count_before s r t) → IsHeld held' s'
+  held_still rows words bits now before = held_on rows bits before (λ r t past. now r t ∙ is.room r t (omega (arith, words r, past)))
+
   -- counters of a word went down and others up
   module _ (row word gone come : ℕ) (lowered : ℕ → ℕ → ℕ) where
     pub held_shifted : rows_in s' ≤ length held' → ((r : ℕ) → words_of held r ≤ words_of held' r) → ((r w : ℕ) → bits_at held' r w ≡ bits_at held r w)

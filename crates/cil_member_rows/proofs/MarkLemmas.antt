@@ -4,6 +4,14 @@ use Rattle.cil_member_rows.specs.Words.{AreSome, IsOutside}
 use Rattle.cil_member_rows.specs.declared.words.Words.{Words}
 
 module _ (marks marks' : List Words) (s s' : State) (is : AreMarked marks s) (rows : rows_in s' ≤ length marks') (before : (r t : ℕ) → count_before s' r t ≡ count_before s r t) where
+  -- no counter moved, and the marks are the same
+  pub marked_still : ((r : ℕ) → mark_at marks' r ≡ mark_at marks r) → ((r t : ℕ) → count_now s' r t ≡ count_now s r t) → steps_in s' ≡ steps_in s → AreMarked marks' s'
+  marked_still same now steps = record {
+    rows = rows;
+    same = λ r t out. before r t ∙ is.same r t (subst (λ m. IsOutside m (t / 64)) (same r) out) ∙ sym (now r t);
+    steps = λ r some. omega (arith, is.steps r (subst AreSome (same r) some), steps);
+  }
+
   -- counters of a word of a row went down and others up
   module _ (row word gone come : ℕ) (lowered : ℕ → ℕ → ℕ) (step : Bool) (is_step : IsTrue step ↔ (0 < gone + come)) where
     pub marked_shifted : ((w : ℕ) → IsOutside (mark_at marks' row) w → IsOutside (mark_at marks row) w) → (step ≡ true → (w : ℕ) → IsOutside (mark_at marks' row) w → w ≢ word)

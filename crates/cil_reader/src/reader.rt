@@ -281,21 +281,22 @@ impl<'a, A: Allocator + Copy> Reader<'a, A> {
     {
         let b = self.text[self.at.offset as usize];
         if is_word_byte(b) {
-            self.take_word()?;
-            return Ok(());
+            return self.take_word();
         }
         if is_white(b) {
             self.skip_white();
             return Ok(());
         }
         match b {
-            b'(' => self.open()?,
-            b')' => self.close()?,
-            b';' => self.skip_comment(),
-            b'"' => self.take_string()?,
-            _ => return Err(self.fault(TextFaultKind::BadByte, ShownWord::Byte(b))),
+            b'(' => self.open(),
+            b')' => self.close(),
+            b';' => {
+                self.skip_comment();
+                Ok(())
+            }
+            b'"' => self.take_string(),
+            _ => Err(self.fault(TextFaultKind::BadByte, ShownWord::Byte(b))),
         }
-        Ok(())
     }
 }
 

@@ -1,6 +1,6 @@
-use Rattle.cil_member_rows.proofs.Common.{◌≡◌, ℕ, ◌+◌, ◌^◌, ◌<◌, bit_and, arith, rules, w64, bit_not, hit_at, count_before, count_now}
-use Rattle.cil_member_rows.proofs.HeldLemmas.{held_shifted}
-use Rattle.cil_member_rows.proofs.MarkLemmas.{marked_shifted}
+use Rattle.cil_member_rows.proofs.Common.{◌≡◌, ℕ, ◌+◌, ◌^◌, ◌<◌, bit_and, arith, rules, w64, bit_not, hit_at, refl, count_before, count_now}
+use Rattle.cil_member_rows.proofs.HeldLemmas.{held_shifted, held_still}
+use Rattle.cil_member_rows.proofs.MarkLemmas.{marked_shifted, marked_still}
 use Rattle.cil_member_rows.proofs.ShiftLemmas.{hit_without, hit_at_without}
 use Rattle.cil_member_rows.proofs.member_rows.MemberRows.shift.Goals as goal
 
@@ -41,3 +41,13 @@ returns-clause-ok g c r t =
       c.lower.ensures.now r t,
       c.raise.ensures.now r t,
     ))
+
+pub invariant_of-self : goal.invariant_of-self
+invariant_of-self g c =
+    let rows = c.self.inside.rows in
+    let room = c.make_room.ensures in (
+      held_still c.self.inside.held.items c.make_room.new.held.items rows c.make_room.new.rows c.self.invariant.0
+          (omega (arith, c.self.invariant.0.rows, room.rows, room.lines)) room.words room.bits room.now room.before,
+      marked_still c.self.inside.turned.items c.self.inside.turned.items rows c.make_room.new.rows c.self.invariant.1
+          (omega (arith, c.self.invariant.1.rows, room.lines)) room.before (λ r. refl) room.now room.steps,
+    )
