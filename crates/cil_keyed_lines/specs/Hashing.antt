@@ -1,4 +1,4 @@
--- What a hasher of keys computes.
+-- What the hasher of keys computes.
 use Rattle.std.specs.Prelude.{ℕ, ◌+◌, ◌*◌, ◌%◌, ◌^◌, List, length, if◌then◌else◌, nat_eq, slice_index}
 use Rattle.std.specs.Hash.FoldHasher as folding
 use Rattle.cil_keyed_lines.specs.declared.key_hasher.KeyHasher.{KeyHasher}

@@ -1,11 +1,11 @@
-//! The hasher of keys: those of one source and class with permissions next to one another fall near one another.
+//! The hasher of keys, by which those of a rule stand near one another in their table.
 
 ghost use Rattle.cil_keyed_lines.specs.Hashing.{finished, written};
 
 use std::hash::{FoldHasher, Hasher};
 
-/// A hasher that writes of one byte move little: the byte changes the upper half of the lower 32 bits alone, by which a table tells the
-/// entries of a group apart. So what differs in that byte alone is in one group of a table, mostly one line of the cache.
+/// A hasher in which a write of one byte changes bits 24 to 31 of the answer alone: by these a table tells the entries of a group apart,
+/// and by lower ones it chooses the group. So keys that differ in that byte alone are in one group, mostly one line of the cache.
 #[derive(Clone, Copy)]
 pub struct KeyHasher {
     group: FoldHasher,

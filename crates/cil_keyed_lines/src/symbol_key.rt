@@ -18,7 +18,8 @@ pub struct SymbolKey {
     pub permission: usize,
 }
 
-/// The kind isn't hashed: few keys differ in it alone.
+/// The kind isn't hashed: few keys differ in it alone. The lowest two bits of the permission choose no group of a table (`KeyHasher`): a rule
+/// gives permissions of one class that are often declared beside one another, and looks up their keys one after the other.
 impl Hash for SymbolKey {
     ghost hash_input = { λ key. fed.usize key.source ++ fed.usize key.class ++ fed.usize (key.permission / 4) ++ fed.u8 (key.permission % 4) };
 
