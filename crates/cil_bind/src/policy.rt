@@ -2,7 +2,7 @@
 
 ghost use Rattle.std.specs.Prelude.{◌≡◌, ◌<◌, ◌^◌, [], ℕ, IfOk, OnOk, List, false, filter, bytes_eq, length, slice_index_or};
 ghost use Rattle.cil_bind.specs.Common.{IsDistinct, list_all, AreSpelt, AreFrom, AreAround, StandsFor, HaveDeclared, IsOnce, Makes, IsBoundTo, AreMarked, TellsAround, AreWorded, IsNumbered, Optionals, AreApart, restricted, bound_of, kinds_told, Knows};
-ghost use Rattle.cil_bind.specs.WithLeads.{with_leads};
+ghost use Rattle.cil_bind.specs.Parts.{made_of, with_leads};
 ghost use Rattle.cil_bind.specs.Moves.{AreAllFound};
 ghost use Rattle.cil_bind.specs.AboutNames.{name_places as places_of_kinds};
 ghost use Rattle.cil_specs.specs.Joined.{Placed, Module, joined as joined_policy};
@@ -158,7 +158,21 @@ impl<'m, A: Allocator + Copy> Policy<'m, A> {
         ensures around { IfOk result (λ made. (policy : List Placed) → AreAround policy 0 scope.entry.rows.items policy → TellsAround policy made) }
     {
         let leads = Lists::with_capacity(alloc, 0, 0)?;
-        let mut policy = Policy {
+        let mut policy = Policy::of_parts(scope, numbers, declarations, leads);
+        policy.look_up(alloc, joined, &[])?;
+        Ok(Joining::Once(policy))
+    }
+
+    /// The policy of its parts.
+    fn of_parts(
+        scope: Scope<'m, A>,
+        numbers: Numbers<A>,
+        declarations: Declarations<A>,
+        leads: Lists<Lead, A>,
+    ) -> Self
+        ensures { result ≡ made_of scope.entry numbers declarations leads }
+    {
+        Policy {
             names: scope.names,
             words: numbers.words,
             lookup: Lookup {
@@ -170,9 +184,7 @@ impl<'m, A: Allocator + Copy> Policy<'m, A> {
             leads,
             kinds: scope.kinds,
             name_places: numbers.name_places,
-        };
-        policy.look_up(alloc, joined, &[])?;
-        Ok(Joining::Once(policy))
+        }
     }
 
     /// The policy of the statements that stand in marked optionals alone, or in none. An optional's mark is that of its number, its place
