@@ -200,8 +200,13 @@ impl<'m, A: Allocator + Copy> Policy<'m, A> {
             → AreMarked set kept.now self.entry.rows.items policy → IsBoundTo p joined.now.modules.items (restricted set policy)) }
     {
         let mut policy = self;
-        policy.keep(alloc, joined, kept)?;
-        Ok(policy)
+        match policy.keep(alloc, joined, kept) {
+            Ok(()) => Ok(policy),
+            Err(error) => {
+                drop(policy);
+                Err(error)
+            }
+        }
     }
 
     /// Keeps the statements that stand in marked optionals alone, or in none. Where all are marked it stays as it is.
