@@ -159,8 +159,13 @@ impl<'m, A: Allocator + Copy> Policy<'m, A> {
     {
         let leads = Lists::with_capacity(alloc, 0, 0)?;
         let mut policy = Policy::of_parts(scope, numbers, declarations, leads);
-        policy.look_up(alloc, joined, &[])?;
-        Ok(Joining::Once(policy))
+        match policy.look_up(alloc, joined, &[]) {
+            Ok(()) => Ok(Joining::Once(policy)),
+            Err(error) => {
+                drop(policy);
+                Err(error)
+            }
+        }
     }
 
     /// The policy of its parts.
