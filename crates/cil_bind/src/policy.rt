@@ -135,6 +135,8 @@ impl<'m, A: Allocator + Copy> Policy<'m, A> {
             }
             Declared::Twice(place) => {
                 let again = Redeclaration::of(joined, &scope.rows[place]);
+                drop(scope);
+                drop(numbers);
                 Ok(Joining::Twice(again))
             }
         }

@@ -22,8 +22,8 @@ of-again-requires g c =
     c.requires.stands.2 that c.in-Twice.is c.index.ensures
     (twice-within scope.names scope.namespaces scope.rows.items policy c.in-Twice.place c.in_ok-declared.declared stands.rows_are that c.in-Twice.is)
 
-pub returns-clause-made : goal.returns-clause-made
-returns-clause-made g c = λ policy stands from.
+pub returns-in-Twice-clause-made : goal.returns-in-Twice-clause-made
+returns-in-Twice-clause-made g c = λ policy stands from.
     let scope = c.args.scope in
     let that = c.in_ok-declared.ensures scope.names scope.namespaces policy stands.numbered (subst (λ r. AreRows scope.names scope.namespaces r policy) (sym c.as_slice-rows.ensures.value) stands.rows_are) in
     first-again c.args.joined.now.modules.items scope.names scope.namespaces scope.rows.items policy c.in-Twice.place c.index.result.now c.in_ok-declared.declared c.of-again.result
