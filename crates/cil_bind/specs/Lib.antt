@@ -13,3 +13,4 @@ pub mod Listing
 pub mod KnownLists
 pub mod Moves
 pub mod AboutNames
+pub mod Parts

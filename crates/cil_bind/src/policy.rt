@@ -1,7 +1,9 @@
 //! A joined policy whose references are bound.
 
 ghost use Rattle.std.specs.Prelude.{◌≡◌, ◌<◌, ◌^◌, [], ℕ, IfOk, OnOk, List, false, filter, bytes_eq, length, slice_index_or};
-ghost use Rattle.cil_bind.specs.Common.{IsDistinct, list_all, AreSpelt, AreFrom, AreAround, StandsFor, HaveDeclared, DeclareThat, IsOnce, Makes, IsBoundTo, AreMarked, TellsAround, AreWorded, IsNumbered, Optionals, AreApart, restricted, bound_of, kinds_told};
+ghost use Rattle.cil_bind.specs.Common.{IsDistinct, list_all, AreSpelt, AreFrom, AreAround, StandsFor, HaveDeclared, IsOnce, Makes, IsBoundTo, AreMarked, TellsAround, AreWorded, IsNumbered, Optionals, AreApart, restricted, bound_of, kinds_told, Knows};
+ghost use Rattle.cil_bind.specs.Parts.{made_of, with_leads};
+ghost use Rattle.cil_bind.specs.Moves.{AreAllFound};
 ghost use Rattle.cil_bind.specs.AboutNames.{name_places as places_of_kinds};
 ghost use Rattle.cil_specs.specs.Joined.{Placed, Module, joined as joined_policy};
 
@@ -45,6 +47,32 @@ struct Numbers<A: Allocator = Global> {
     name_places: Vec<u32, A>,
 }
 
+impl<A: Allocator + Copy> Numbers<A> {
+    /// Those of modules whose names have these numbers, and of their statements, of which there are fewer than 2^32.
+    fn of(
+        alloc: A,
+        joined: &Joined<'_, A>,
+        scope: &Scope<'_, A>,
+        words: Vec<Vec<u32, A>, A>,
+    ) -> Result<Self, AllocError>
+        requires stands { (modules : List Module) × AreSpelt joined.now.modules.items modules × StandsFor scope.now (joined_policy modules) }
+        requires kinds { scope.now.kinds.items ≡ kinds_told scope.now.rows.items }
+        ensures numbered { IfOk result (λ numbers. AreWorded scope.now.names words.items joined.now.modules.items
+            → IsNumbered scope.now.names scope.now.namespaces joined.now.modules.items numbers) }
+        ensures places { IfOk result (λ numbers. numbers.name_places.items ≡ places_of_kinds 0 scope.now.kinds.items) }
+        ensures few { IfOk result (λ numbers. length scope.now.rows.items < 2 ^ 32) }
+    {
+        counted_in_32_bits(scope.rows.len())?;
+        let spaces = scope.spaces(alloc, joined)?;
+        let name_places = name_places(alloc, scope.kinds.as_slice())?;
+        Ok(Numbers {
+            words,
+            spaces,
+            name_places,
+        })
+    }
+}
+
 /// A policy in which each name is declared once, or the first name that is declared again.
 #[derive(Drop)]
 pub enum Joining<'m, A: Allocator = Global> {
@@ -78,14 +106,7 @@ impl<'m, A: Allocator + Copy> Policy<'m, A> {
         ensures around { IfOk result (λ made. (modules : List Module) → AreSpelt joined.now.modules.items modules → TellsAround (joined_policy modules) made) }
     {
         let scope = Scope::of(alloc, names, joined)?;
-        counted_in_32_bits(scope.rows.len())?;
-        let spaces = scope.spaces(alloc, joined)?;
-        let name_places = name_places(alloc, scope.kinds.as_slice())?;
-        let numbers = Numbers {
-            words,
-            spaces,
-            name_places,
-        };
+        let numbers = Numbers::of(alloc, joined, &scope, words)?;
         Policy::of_statements(alloc, joined, scope, numbers)
     }
 
@@ -108,36 +129,69 @@ impl<'m, A: Allocator + Copy> Policy<'m, A> {
         let rows = scope.rows.as_slice();
         let places = numbers.name_places.as_slice();
         let declared = Declarations::of(alloc, scope.names.len(), rows, places)?;
-        Policy::of_declared(alloc, joined, scope, numbers, declared)
+        match declared {
+            Declared::Once(declarations) => {
+                Policy::of_scope(alloc, joined, scope, numbers, declarations)
+            }
+            Declared::Twice(place) => {
+                let again = Redeclaration::of(joined, &scope.rows[place]);
+                drop(scope);
+                drop(numbers);
+                Ok(Joining::Twice(again))
+            }
+        }
     }
 
-    /// The policy of statements by what they declare, or the first name that they declare again.
-    fn of_declared(
+    /// The policy of rows that declare each name once.
+    fn of_scope(
         alloc: A,
         joined: &Joined<'m, A>,
         scope: Scope<'m, A>,
         numbers: Numbers<A>,
-        declared: Declared<A>,
+        declarations: Declarations<A>,
     ) -> Result<Joining<'m, A>, AllocError>
-        requires stands { (policy : List Placed) × StandsFor scope policy × AreFrom joined.now.modules.items scope.rows.items policy }
         requires numbered { IsNumbered scope.names scope.namespaces joined.now.modules.items numbers }
-        requires declared { (policy : List Placed) → StandsFor scope policy → DeclareThat scope.names scope.namespaces policy declared }
         requires kinds { scope.kinds.items ≡ kinds_told scope.rows.items }
         requires places { numbers.name_places.items ≡ places_of_kinds 0 scope.kinds.items }
         requires few { length scope.rows.items < 2 ^ 32 }
         ensures made { IfOk result (λ made. (policy : List Placed) → StandsFor scope.entry policy → AreFrom joined.now.modules.items scope.entry.rows.items policy
+            → HaveDeclared scope.entry.names scope.entry.namespaces declarations.first.entries policy → IsOnce policy
             → Makes joined.now.modules.items policy made) }
         ensures around { IfOk result (λ made. (policy : List Placed) → AreAround policy 0 scope.entry.rows.items policy → TellsAround policy made) }
     {
-        let declarations = match declared {
-            Declared::Once(declarations) => declarations,
-            Declared::Twice(place) => {
-                let again = Redeclaration::of(joined, &scope.rows[place]);
-                return Ok(Joining::Twice(again));
+        let leads = Lists::with_capacity(alloc, 0, 0)?;
+        let mut policy = Policy::of_parts(scope, numbers, declarations, leads);
+        match policy.look_up(alloc, joined, &[]) {
+            Ok(()) => Ok(Joining::Once(policy)),
+            Err(error) => {
+                drop(policy);
+                Err(error)
             }
-        };
-        let policy = Policy::of_scope(alloc, joined, scope, numbers, declarations)?;
-        Ok(Joining::Once(policy))
+        }
+    }
+
+    /// The policy of its parts.
+    fn of_parts(
+        scope: Scope<'m, A>,
+        numbers: Numbers<A>,
+        declarations: Declarations<A>,
+        leads: Lists<Lead, A>,
+    ) -> Self
+        ensures { result ≡ made_of scope.entry numbers declarations leads }
+    {
+        Policy {
+            names: scope.names,
+            words: numbers.words,
+            lookup: Lookup {
+                namespaces: scope.namespaces,
+                declared: declarations.first,
+            },
+            rows: scope.rows,
+            spaces: numbers.spaces,
+            leads,
+            kinds: scope.kinds,
+            name_places: numbers.name_places,
+        }
     }
 
     /// The policy of the statements that stand in marked optionals alone, or in none. An optional's mark is that of its number, its place
@@ -153,8 +207,13 @@ impl<'m, A: Allocator + Copy> Policy<'m, A> {
             → AreMarked set kept.now self.entry.rows.items policy → IsBoundTo p joined.now.modules.items (restricted set policy)) }
     {
         let mut policy = self;
-        policy.keep(alloc, joined, kept)?;
-        Ok(policy)
+        match policy.keep(alloc, joined, kept) {
+            Ok(()) => Ok(policy),
+            Err(error) => {
+                drop(policy);
+                Err(error)
+            }
+        }
     }
 
     /// Keeps the statements that stand in marked optionals alone, or in none. Where all are marked it stays as it is.
@@ -187,69 +246,37 @@ impl<'m, A: Allocator + Copy> Policy<'m, A> {
         let declarations = Declarations::of_once(alloc, room, rows, name_places.as_slice())?;
         self.lookup.declared = declarations.first;
         self.name_places = name_places;
-        let words = self.words.as_slice();
         let moved = places.as_slice();
+        self.look_up(alloc, joined, moved)?;
+        Ok(())
+    }
+
+    /// Looks up where what the statements of modules look up leads, but for what led to a statement that has a new place.
+    fn look_up(
+        &mut self,
+        alloc: A,
+        joined: &Joined<'m, A>,
+        places: &[Lead],
+    ) -> Result<(), AllocError>
+        requires worded { (names : List (List ℕ)) × AreWorded names self.old.words.items joined.now.modules.items }
+        requires spaced { length self.old.spaces.0 ≡ length joined.now.modules.items }
+        ensures same { OnOk result (self.new ≡ with_leads self.old self.new.leads) }
+        ensures long { OnOk result (length self.new.leads.0 ≡ length joined.now.modules.items) }
+        ensures led { OnOk result ((names : List (List ℕ)) (policy : List Placed)
+            → Knows self.old.lookup.namespaces self.old.lookup.declared.entries names policy
+            → AreWorded names self.old.words.items joined.now.modules.items
+            → AreAllFound names self.old.lookup.namespaces policy joined.now.modules.items places.now
+            self.old.spaces.0 self.old.leads.0 self.new.leads.0) }
+    {
         let asked = Asked {
-            words,
+            words: self.words.as_slice(),
             spaces: &self.spaces,
             led: &self.leads,
-            places: moved,
+            places,
         };
         let leads = leads(alloc, &self.lookup, joined, &asked)?;
         self.leads = leads;
         Ok(())
-    }
-
-    /// The policy of rows that declare each name once.
-    fn of_scope(
-        alloc: A,
-        joined: &Joined<'m, A>,
-        scope: Scope<'m, A>,
-        numbers: Numbers<A>,
-        declarations: Declarations<A>,
-    ) -> Result<Self, AllocError>
-        requires numbered { IsNumbered scope.names scope.namespaces joined.now.modules.items numbers }
-        requires kinds { scope.kinds.items ≡ kinds_told scope.rows.items }
-        requires places { numbers.name_places.items ≡ places_of_kinds 0 scope.kinds.items }
-        requires few { length scope.rows.items < 2 ^ 32 }
-        ensures made { IfOk result (λ p. (policy : List Placed) → StandsFor scope.entry policy → AreFrom joined.now.modules.items scope.entry.rows.items policy
-            → HaveDeclared scope.entry.names scope.entry.namespaces declarations.first.entries policy → IsOnce policy
-            → IsBoundTo p joined.now.modules.items policy) }
-        ensures rows { IfOk result (λ p. p.rows.items ≡ scope.entry.rows.items) }
-    {
-        let Scope {
-            names,
-            namespaces,
-            rows,
-            kinds,
-        } = scope;
-        let lookup = Lookup {
-            namespaces,
-            declared: declarations.first,
-        };
-        let Numbers {
-            words,
-            spaces,
-            name_places,
-        } = numbers;
-        let none = Lists::with_capacity(alloc, 0, 0)?;
-        let asked = Asked {
-            words: words.as_slice(),
-            spaces: &spaces,
-            led: &none,
-            places: &[],
-        };
-        let leads = leads(alloc, &lookup, joined, &asked)?;
-        Ok(Policy {
-            names,
-            words,
-            lookup,
-            rows,
-            spaces,
-            leads,
-            kinds,
-            name_places,
-        })
     }
 }
 

@@ -1,4 +1,5 @@
-use Rattle.cil_bind.proofs.Common.{◌<◌, ◌^◌, ◌≡◌, filter, length, ap, sym, ◌∙◌, subst, is_within, restricted, once-filtered, length-map, AreBound, AreRows, AreFrom, AreWorded, bound_rows}
+use Rattle.cil_bind.proofs.Common.{◌<◌, ◌^◌, ◌≡◌, filter, length, ap, sym, ◌∙◌, subst, is_within, restricted, once-filtered, length-map, AreBound, AreRows, AreFrom, bound_rows}
+use Rattle.cil_bind.specs.Policy.{IsBoundTo}
 use Rattle.cil_bind.specs.Moves.{mark, AreAllFound}
 use Rattle.cil_bind.proofs.RestrictLemmas.{from-kept, stands-kept, few-kept}
 use Rattle.cil_bind.proofs.DeclareLemmas.{kinds-are}
@@ -23,13 +24,11 @@ pub of_once-requires-clause-few : goal.of_once-requires-clause-few
 of_once-requires-clause-few g c =
     subst (λ rows. length rows < 2 ^ 32) (sym (c.as_slice-rows.ensures.value ∙ c.in_ok-places.ensures.rows)) (few-kept c.args.kept.now c.args.self.now.rows.items c.requires.1.few)
 
-pub leads-requires-clause-worded : goal.leads-requires-clause-worded
-leads-requires-clause-worded g c =
-    let self = c.args.self.now in
-    (self.names, subst (λ w. AreWorded self.names w c.args.joined.now.modules.items) (sym c.as_slice-words.ensures.value) c.requires.1.worded)
+pub look_up-requires-clause-worded : goal.look_up-requires-clause-worded
+look_up-requires-clause-worded g c = (c.args.self.now.names, c.requires.1.worded)
 
-pub leads-requires-clause-spaced : goal.leads-requires-clause-spaced
-leads-requires-clause-spaced g c = c.requires.1.spaces_long
+pub look_up-requires-clause-spaced : goal.look_up-requires-clause-spaced
+look_up-requires-clause-spaced g c = c.requires.1.spaces_long
 
 pub returns : goal.returns
 returns g c = λ policy set is apart marked.
@@ -43,13 +42,15 @@ returns g c = λ policy set is apart marked.
     let once = once-filtered (is_within set) policy is.once in
     let stands = stands-kept self.names spaces set kept self.rows.items rows policy apart marked is.stands stay in
     let from = subst (λ r. AreFrom items r rest) (sym stay) (from-kept items set kept self.rows.items policy marked is.from) in
-    bound-to _ items rest stands from
+    let leads = c.look_up.new.self.leads.0 in
+    subst (λ p. IsBoundTo p items rest) (sym c.in_ok-look_up.ensures.same)
+    (bound-to _ items rest stands from
     (c.in_ok-declarations.ensures self.names spaces rest stands.numbered (subst (λ r. AreRows self.names spaces r rest) (sym c.as_slice-rows.ensures.value) stands.rows_are) once)
-    once (record { worded = is.worded; spaced = is.spaced; long = is.spaces_long }) c.in_ok-leads.ensures.long
+    once (record { worded = is.worded; spaced = is.spaced; long = is.spaces_long }) c.in_ok-look_up.ensures.long
     (λ knows.
-    let led = c.in_ok-leads.ensures.led self.names rest knows (subst (λ w. AreWorded self.names w items) (sym c.as_slice-words.ensures.value) is.worded) in
-    let found = subst (λ p. AreAllFound self.names spaces rest items p self.spaces.0 self.leads.0 c.in_ok-leads.leads.0) (c.as_slice-moved.ensures.value ∙ c.in_ok-places.ensures.places) led in
-    subst (λ r. AreBound rest rest (bound_rows items c.in_ok-leads.leads.0 r)) (sym stay)
-    (rows-moved set policy apart kept self.rows.items marked self.names spaces items self.spaces.0 self.leads.0 c.in_ok-leads.leads.0 is.spaced found self.rows.items policy marked is.from is.bound))
+    let led = c.in_ok-look_up.ensures.led self.names rest knows is.worded in
+    let found = subst (λ p. AreAllFound self.names spaces rest items p self.spaces.0 self.leads.0 leads) (c.as_slice-moved.ensures.value ∙ c.in_ok-places.ensures.places) led in
+    subst (λ r. AreBound rest rest (bound_rows items leads r)) (sym stay)
+    (rows-moved set policy apart kept self.rows.items marked self.names spaces items self.spaces.0 self.leads.0 leads is.spaced found self.rows.items policy marked is.from is.bound))
     (c.in_ok-places.ensures.kinds ∙ kinds-are self.names spaces rows rest stands.rows_are)
-    (c.in_ok-name_places.ensures ∙ ap (name_places 0) c.as_slice.ensures.value) (subst (λ r. length r < 2 ^ 32) (sym stay) (few-kept kept self.rows.items is.few))
+    (c.in_ok-name_places.ensures ∙ ap (name_places 0) c.as_slice.ensures.value) (subst (λ r. length r < 2 ^ 32) (sym stay) (few-kept kept self.rows.items is.few)))
