@@ -135,6 +135,7 @@ impl<'m, A: Allocator + Copy> Policy<'m, A> {
             }
             Declared::Twice(place) => {
                 let again = Redeclaration::of(joined, &scope.rows[place]);
+                // Calls to prove, in place of a drop for each field.
                 drop(scope);
                 drop(numbers);
                 Ok(Joining::Twice(again))
@@ -164,6 +165,7 @@ impl<'m, A: Allocator + Copy> Policy<'m, A> {
         match policy.look_up(alloc, joined, &[]) {
             Ok(()) => Ok(Joining::Once(policy)),
             Err(error) => {
+                // One call to prove, in place of a drop for each field.
                 drop(policy);
                 Err(error)
             }
@@ -210,6 +212,7 @@ impl<'m, A: Allocator + Copy> Policy<'m, A> {
         match policy.keep(alloc, joined, kept) {
             Ok(()) => Ok(policy),
             Err(error) => {
+                // One call to prove, in place of a drop for each field.
                 drop(policy);
                 Err(error)
             }
