@@ -1,4 +1,3 @@
-pub mod Hashing
 pub mod Names
 pub mod Moves
 pub mod Keyed

@@ -8,16 +8,15 @@ ghost use Rattle.cil_keyed_lines.specs.Names.{has_place, name_now};
 ghost use Rattle.cil_keyed_lines.specs.Keyed.{now_in, AreCounted, AreLines, ArePaired, AreKeyed, AreTaken};
 
 use crate::names::{Names, Rename};
-use crate::key_hasher::KeyHasher;
 use crate::symbol_key::SymbolKey;
 use cil_recorded::RecordedLines;
 use indexmap::IndexSet;
 use std::alloc::Allocator;
-use std::hash::BuildHasherDefault;
+use std::hash::{BuildHasherDefault, FoldHasher};
 
 /// Takes out a key that names no line, and puts the last key in its place.
 fn take_out<A: Allocator>(
-    keys: &mut IndexSet<SymbolKey, BuildHasherDefault<KeyHasher>, A>,
+    keys: &mut IndexSet<SymbolKey, BuildHasherDefault<FoldHasher>, A>,
     names: &mut Names<A>,
     place: usize,
 )
@@ -37,7 +36,7 @@ fn take_out<A: Allocator>(
 /// Takes out keys until that of a place names a line, or there is none: what comes from the end to the place may name
 /// none, too.
 fn fill_place<A: Allocator>(
-    keys: &mut IndexSet<SymbolKey, BuildHasherDefault<KeyHasher>, A>,
+    keys: &mut IndexSet<SymbolKey, BuildHasherDefault<FoldHasher>, A>,
     names: &mut Names<A>,
     place: usize,
 )
@@ -57,7 +56,7 @@ fn fill_place<A: Allocator>(
 /// Takes out the keys that name no line, where all of these are places of changes. It empties the list of the changes. It
 /// takes no memory, and looks at no other key.
 pub fn take_out_unnamed<A: Allocator>(
-    keys: &mut IndexSet<SymbolKey, BuildHasherDefault<KeyHasher>, A>,
+    keys: &mut IndexSet<SymbolKey, BuildHasherDefault<FoldHasher>, A>,
     names: &mut Names<A>,
     changes: &mut Vec<Rename, A>,
 )
@@ -75,7 +74,7 @@ pub fn take_out_unnamed<A: Allocator>(
 
 /// Takes out the keys from a place on, which name no line, and the lines behind the last that a key names.
 pub fn cut<A: Allocator>(
-    keys: &mut IndexSet<SymbolKey, BuildHasherDefault<KeyHasher>, A>,
+    keys: &mut IndexSet<SymbolKey, BuildHasherDefault<FoldHasher>, A>,
     names: &mut Names<A>,
     lines: &mut RecordedLines<A>,
     places: usize,
@@ -105,7 +104,7 @@ pub fn cut<A: Allocator>(
 /// keys. Packing looks at all lines and keys, so lines have come since that pay for it. It answers how many lines there were
 /// when they were packed last. It takes no memory.
 pub fn pack_grown<A: Allocator>(
-    keys: &IndexSet<SymbolKey, BuildHasherDefault<KeyHasher>, A>,
+    keys: &IndexSet<SymbolKey, BuildHasherDefault<FoldHasher>, A>,
     names: &mut Names<A>,
     lines: &mut RecordedLines<A>,
     packed: usize,

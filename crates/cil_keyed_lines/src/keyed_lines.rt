@@ -16,13 +16,12 @@ use crate::moved::Moved;
 use crate::moves::move_places;
 use crate::named::{Named, put_in_order};
 use crate::names::{Names, Rename};
-use crate::key_hasher::KeyHasher;
 use crate::symbol_key::SymbolKey;
 use cil_recorded::{RecordedLines, Step};
 use indexmap::IndexSet;
 pub use past::Past;
 use std::alloc::{AllocError, Allocator, Global};
-use std::hash::BuildHasherDefault;
+use std::hash::{BuildHasherDefault, FoldHasher};
 use std::marker::Model;
 use std::mem;
 
@@ -41,7 +40,7 @@ fn moved_counters(keys: usize, moved: &[Moved]) -> u128
 
 /// The place of a key, which is put in behind the others where it isn't there, and whether it was new.
 fn insert<A: Allocator>(
-    keys: &mut IndexSet<SymbolKey, BuildHasherDefault<KeyHasher>, A>,
+    keys: &mut IndexSet<SymbolKey, BuildHasherDefault<FoldHasher>, A>,
     key: SymbolKey,
 ) -> Result<(usize, bool), AllocError>
     ensures place { IfOk result (λ r. (r.0 ≡ index_of keys.old.keys key)
@@ -61,7 +60,7 @@ fn insert<A: Allocator>(
 /// One look-up tells whether it is there and where it goes.
 #[inline(never)]
 fn put_key<A: Allocator>(
-    keys: &mut IndexSet<SymbolKey, BuildHasherDefault<KeyHasher>, A>,
+    keys: &mut IndexSet<SymbolKey, BuildHasherDefault<FoldHasher>, A>,
     names: &mut Names<A>,
     key: SymbolKey,
 ) -> Result<usize, AllocError>
@@ -92,7 +91,7 @@ fn put_key<A: Allocator>(
 /// keys come. At the end of the steps, keys are taken out that name no line.
 #[derive(Drop)]
 pub struct KeyedLines<A: Allocator = Global> {
-    keys: IndexSet<SymbolKey, BuildHasherDefault<KeyHasher>, A>,
+    keys: IndexSet<SymbolKey, BuildHasherDefault<FoldHasher>, A>,
     names: Names<A>,
     lines: RecordedLines<A>,
     /// How many keys and lines there were before the steps.
@@ -127,7 +126,7 @@ impl<A: Allocator + Copy> KeyedLines<A> {
         ensures before { (k : SymbolKey) (t : ℕ) → count_before result k t ≡ 0 }
     {
         KeyedLines {
-            keys: IndexSet::with_hasher(alloc, BuildHasherDefault::new()),
+            keys: IndexSet::new(alloc),
             names: Names::new(alloc),
             lines: RecordedLines::new(alloc),
             keys_before: 0,

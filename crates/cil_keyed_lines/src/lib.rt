@@ -20,7 +20,6 @@
 
 mod ended;
 mod group;
-mod key_hasher;
 mod keyed_lines;
 mod line_moves;
 mod moved;

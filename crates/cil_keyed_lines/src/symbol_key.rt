@@ -1,6 +1,6 @@
 //! What a line of counters is of.
 
-ghost use Rattle.std.specs.Prelude.{◌++◌, ◌/◌, ◌%◌};
+ghost use Rattle.std.specs.Prelude.{◌++◌};
 ghost use Rattle.std.specs.Cmp.Rules.{hashing};
 ghost use Rattle.std.specs.Hash as fed;
 ghost use Rattle.std.proofs.Common.{rules};
@@ -18,17 +18,15 @@ pub struct SymbolKey {
     pub permission: usize,
 }
 
-/// The kind isn't hashed: few keys differ in it alone. The lowest two bits of the permission choose no group of a table (`KeyHasher`): a rule
-/// gives permissions of one class that are often declared beside one another, and looks up their keys one after the other.
+/// The kind isn't hashed: few keys differ in it alone.
 impl Hash for SymbolKey {
-    ghost hash_input = { λ key. fed.usize key.source ++ fed.usize key.class ++ fed.usize (key.permission / 4) ++ fed.u8 (key.permission % 4) };
+    ghost hash_input = { λ key. fed.usize key.source ++ fed.usize key.class ++ fed.usize key.permission };
 
     ghost respects_eq = { Prim.search (hashing, rules) };
 
     fn hash<H: Hasher>(&self, state: &mut H) {
         self.source.hash(state);
         self.class.hash(state);
-        (self.permission / 4).hash(state);
-        state.write_u8((self.permission % 4) as u8);
+        self.permission.hash(state);
     }
 }
