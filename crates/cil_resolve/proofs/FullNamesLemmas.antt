@@ -1,5 +1,5 @@
 -- The names of namespaces, and the full names of what statements declare.
-use Rattle.cil_resolve.proofs.Common.{◌≡◌, ℕ, ◌<◌, ◌≤◌, zero, suc, true, false, List, [], ◌∷◌, ◌++◌, length, get_or, take, map, Option, Some, None, is_some, option_map, refl, sym, ap, ◌∙◌, subst, true≢false, arith, length-take-le, AllByRecursion, length-map, take_all, get_or-map, get_or-take, none-some, slice_get-get_or, get_or_from_slice_get, Word, Placed, Form, block, optional, type_name, type_alias, alias_actual, type_attribute, attribute_set, common, class, class_common, class_order, class_permission, class_permission_set, rule, anonymous, by_name, itself, the_named, full_name, kind_of, words_in, word_at, namespace_at, distinct-place, all-get, Row, Reads, space_text, name_in, numbered_id, is_numbered, is_numbered_kind}
+use Rattle.cil_resolve.proofs.Common.{◌≡◌, ◌≢◌, ℕ, ◌<◌, ◌≤◌, zero, suc, true, false, List, [], ◌∷◌, ◌++◌, length, get_or, take, map, Option, Some, None, is_some, option_map, refl, sym, ap, ◌∙◌, subst, true≢false, arith, length-take-le, AllByRecursion, length-map, take_all, get_or-map, get_or-take, none-some, slice_get-get_or, get_or_from_slice_get, append_assoc, Word, Placed, Form, block, optional, type_name, type_alias, alias_actual, type_attribute, attribute_set, common, class, class_common, class_order, class_permission, class_permission_set, rule, anonymous, by_name, itself, the_named, full_name, kind_of, words_in, word_at, namespace_at, distinct-place, all-get, Row, Reads, space_text, name_in, numbered_id, is_numbered, is_numbered_kind}
 use Rattle.std.proofs.Common.{slice_get}
 use Rattle.cil_bind.specs.Lookup.{named}
 use Rattle.cil_bind.specs.Rows.{IsRow, AreNumbered}
@@ -22,6 +22,14 @@ name_in-spaces names spaces texts (suc n) name root inner within low each =
     by : (s : List ℕ) → ((s ≡ []) → ⊥) → space_name_of names s ++ 46 ∷ name ≡ full_name (named names s) name
     by [] never = absurd (never refl)
     by (w ∷ s) never = refl
+
+-- a name behind that of its namespace, which is not the global one
+pub name-behind : (old : List ℕ) (spaces : List (List ℕ)) (namespace : ℕ) (name : List ℕ) → namespace ≢ 0
+    → ((old ++ get_or spaces namespace []) ++ 46 ∷ []) ++ name ≡ old ++ name_in spaces namespace name
+name-behind old spaces zero name other = absurd (other refl)
+name-behind old spaces (suc n) name other =
+    let space = get_or spaces (suc n) [] in
+    append_assoc (old ++ space) (46 ∷ []) name ∙ append_assoc old space (46 ∷ name)
 
 -- the names of the first namespaces, one by one
 pub each-name : (names spaces texts : List (List ℕ)) (n : ℕ) → n ≤ length spaces → texts ≡ map (space_name_of names) (take n spaces)

@@ -1,6 +1,9 @@
 -- What is known of the numbers of permissions, as lists come.
-use Rattle.cil_resolve.proofs.Common.{◌≡◌, ◌∙◌, ◌||◌, ℕ, zero, suc, Bool, map, list_all, first_true, second_true, same_Some, true, false, true≢false, List, [], ◌∷◌, Some, None, none-some, refl, sym, ap, subst, slice_get, bytes_eq, bytes_eq-true, list_any-append, AllByRecursion, contains-first, contains-other, Word, Form, class, common, Placed, components, own_permissions, permissions_in, texts, has_name, listed_names, known_at, list_at, HaveNumbers, IsOneName, KnowNumbers}
+use Rattle.cil_resolve.proofs.Common.{◌≡◌, ◌≢◌, ◌==◌, ◌∙◌, ◌||◌, Option, eq-eqb, if◌then◌else◌, option_and_then, ℕ, zero, suc, Bool, map, list_all, first_true, second_true, same_Some, true, false, true≢false, List, [], ◌∷◌, Some, None, none-some, refl, sym, ap, subst, slice_get, bytes_eq, bytes_eq-true, list_any-append, AllByRecursion, contains-first, contains-other, Word, Form, class, common, Placed, components, own_permissions, permissions_in, texts, has_name, listed_names, known_at, list_at, HaveNumbers, IsOneName, KnowNumbers}
 use Rattle.cil_bind.specs.Written.{HaveOneNames}
+use Rattle.std.proofs.Common.{ne_eqb}
+use Rattle.std.specs.Rc.{rc_value}
+use Rattle.std.specs.declared.rc.Rc.{Rc}
 use Rattle.cil_resolve.specs.declared.known_permissions.KnownPermissions.{KnownPermissions}
 use Rattle.cil_resolve.specs.declared.lowering.Lowering.{Lowering}
 
@@ -49,3 +52,21 @@ module _ {A : Type 0} where
       let same = others m n numbers found in
       subst (λ p. HaveNumbers l.numbering.now.names.items policy (list_at l.checker.now.bound.joined.now p n) numbers) (sym same)
       (have n numbers (sym (here n) ∙ ap (λ p. known_at known p n) (sym same) ∙ found))
+
+  -- the numbers of a list of several, if these are known
+  abbrev known-in : Option (Rc (List (List ℕ) × List ℕ) A) → ℕ → Option (List ℕ)
+  known-in known n = option_and_then (λ lists. slice_get (rc_value {X = List (List ℕ) × List ℕ} lists).0 n) known
+
+  known-here : (known : KnownPermissions A) (m n : ℕ) → known.«module» ≡ m → known_at known m n ≡ known-in known.lists n
+  known-here known m n here = ap (λ b. if b then known-in known.lists n else None) (eq-eqb known.«module» m here)
+
+  -- nothing is known of another module's lists, nor where no lists are known
+  pub known-other : (known : KnownPermissions A) (m n : ℕ) → known.«module» ≢ m → known_at known m n ≡ None
+  known-other known m n other = ap (λ b. if b then known-in known.lists n else None) (ne_eqb known.«module» m other)
+
+  pub known-unset : (known : KnownPermissions A) (m n : ℕ) → known.«module» ≡ m → known.lists ≡ None → known_at known m n ≡ None
+  known-unset known m n here none = known-here known m n here ∙ ap (λ lists. known-in lists n) none
+
+  -- those of a list of the module
+  pub known-of : (known : KnownPermissions A) (m n : ℕ) (lists : Rc (List (List ℕ) × List ℕ) A) → known.«module» ≡ m → known.lists ≡ Some lists → known_at known m n ≡ slice_get (rc_value lists).0 n
+  known-of known m n lists here some = known-here known m n here ∙ ap (λ lists. known-in lists n) some

@@ -1,4 +1,4 @@
-use Rattle.cil_resolve.proofs.Common.{◌≡◌, ◌<◌, ◌++◌, length, arith, rules, sym, ap, ◌∙◌, length-append, length-map, none-some, declared_as, declared_in, scopes, full_name, word_text, texts_of, modules_of, is-there, from-within}
+use Rattle.cil_resolve.proofs.Common.{◌≡◌, ◌<◌, ◌++◌, length, arith, rules, sym, ap, ◌∙◌, length-append, length-map, none-some, declared_as, declared_in, scopes, full_name, word_text, texts_of, modules_of, name_in, is-there, from-within}
 use Rattle.std.proofs.Common.{◌-◌}
 use Rattle.cil_parse.specs.Kinds.{table_of}
 use Rattle.cil_bind.proofs.ScopeLemmas.{read-text, read-within}
@@ -43,6 +43,13 @@ add_full_name-requires g c =
     let low = row-within c.args.policy.now c.args.joined.now.modules.items policy i c.args.row.now s bound here at in
     let long = ap length c.requires.spaces ∙ length-map c.args.policy.now.lookup.namespaces (space_name_of c.args.policy.now.names) in
     omega (arith, low, long)
+
+pub overflow_sub-len : goal.overflow_sub-len
+overflow_sub-len g c =
+    let more = ap length c.in_ok-add_full_name.ensures ∙ length-append c.args.found.now.names.items (name_in c.args.spaces.now c.args.row.now.namespace c.text-name.result.now) in
+    let before = c.len-start.ensures in
+    let behind = c.len.ensures in
+    omega (arith, more, before, behind)
 
 pub returns : goal.returns
 returns g c = λ policy i s before bound here at is are.

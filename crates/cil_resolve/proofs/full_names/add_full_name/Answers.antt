@@ -1,15 +1,7 @@
-use Rattle.std.proofs.Common.{◌≢◌}
-use Rattle.cil_resolve.proofs.Common.{◌≡◌, ◌++◌, ◌∷◌, ◌∙◌, ℕ, zero, suc, List, [], get_or, refl, ap, sym, append_assoc, get_or_default, name_in}
+use Rattle.cil_resolve.proofs.Common.{◌≡◌, ◌++◌, ◌∷◌, ◌∙◌, [], ap, sym, get_or_default, name_in}
+use Rattle.cil_resolve.proofs.FullNamesLemmas.{name-behind}
 use Rattle.cil_resolve.proofs.full_names.add_full_name.Goals as goal
 use Rattle.cil_resolve.proofs.full_names.add_full_name.Goals.{then-namespace-ne0+in_ok-extend_from_slice+in_ok-push, else-namespace-ne0}
-
--- a name behind that of its namespace, which is not the global one
-name-behind : (old : List ℕ) (spaces : List (List ℕ)) (namespace : ℕ) (name : List ℕ) → namespace ≢ 0
-    → ((old ++ get_or spaces namespace []) ++ 46 ∷ []) ++ name ≡ old ++ name_in spaces namespace name
-name-behind old spaces zero name other = absurd (other refl)
-name-behind old spaces (suc n) name other =
-    let space = get_or spaces (suc n) [] in
-    append_assoc (old ++ space) (46 ∷ []) name ∙ append_assoc old space (46 ∷ name)
 
 pub returns : goal.returns
 returns g c =

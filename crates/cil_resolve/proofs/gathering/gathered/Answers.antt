@@ -1,10 +1,22 @@
-use Rattle.cil_resolve.proofs.Common.{◌≡◌, ◌<◌, ◌+◌, Some, set, length, sym, ap, subst, arith, refl, take, slice_get_read, slice_get_within, AreGathered}
+use Rattle.cil_resolve.proofs.Common.{◌≡◌, ◌<◌, ◌+◌, Some, set, length, sym, ap, subst, arith, refl, take, take_all, slice_get_read, slice_get_within, AreGathered}
 use Rattle.std.proofs.Common.{slice_get}
 use Rattle.cil_resolve.proofs.GatheredLemmas.{gathered-more}
 use Rattle.cil_bind.proofs.PositionLemmas.{take-last}
 use Rattle.cil_resolve.proofs.StatementLemmas.{contained}
 use Rattle.cil_resolve.proofs.gathering.gathered.Goals as goal
 use Rattle.cil_resolve.proofs.gathering.gathered.Goals.{in-Some+in_ok-add, in_default}
+
+pub loop-statement-init : goal.loop-statement-init
+loop-statement-init g c = c.in_ok-lists.ensures
+
+pub place_of-requires : goal.place_of-requires
+place_of-requires g c = c.requires.rising
+
+pub index_mut-requires : goal.index_mut-requires
+index_mut-requires g c =
+    let within = slice_get_within c.args.numbers.now c.in-Some.place c.statement-item.result.set c.in-Some.ensures.some in
+    let long = c.loop-statement.invariant.long in
+    omega (arith, within, long)
 
 pub loop-statement-preserved : goal.loop-statement-preserved
 loop-statement-preserved g c =
@@ -26,3 +38,8 @@ loop-statement-preserved g c =
           (gathered-more (take i statements) t numbers lists place v w.add.new.list c.requires.rising found here w.in_ok-add.ensures c.loop-statement.invariant))
       | in_default w ↦ absurd (w.in_default.ensures.none (c.requires.all t (contained statements i t at)))
     ]
+
+pub returns : goal.returns
+returns g c =
+    subst (λ some. AreGathered some c.args.numbers.now c.loop-statement.lists.items) (take_all c.loop-statement.statement-index c.args.statements.now c.loop-statement-test.false)
+    c.loop-statement.invariant
