@@ -1,5 +1,5 @@
 -- What is listed and given the other way round.
-use Rattle.cil_optionals.proofs.Common.{◌≡◌, ℕ, zero, suc, ◌<◌, ◌==◌, ◌&&◌, ◌||◌, Bool, true, false, List, [], ◌∷◌, ◌++◌, length, set, position, replicate, get_or, slice_get, Option, Some, None, is_some, Vec, Result, Ok, Err, OnOk, OnErr, bytes_eq, refl, sym, ap, ◌∙◌, true≢false, arith, inl, inr, if◌then◌else◌, list_any, option_or, option_and_then, eqb-true, eq-eqb, ne_eqb, cases_eq, list_any-append, position-Some, none-some, same_Some, bytes_eq-Decides, first_true, second_true, has_name, with_name, at_if, position-append, any-position, lists, places_in, commons_at, listers_at, has_gift, given_at, IsInverse, AreAnswers, AreRecent, Permission}
+use Rattle.cil_optionals.proofs.Common.{◌≡◌, ℕ, zero, suc, ◌<◌, ◌==◌, ◌&&◌, ◌||◌, Bool, true, false, List, [], ◌∷◌, ◌++◌, length, set, position, replicate, get_or, slice_get, Option, Some, None, is_some, Vec, Result, Ok, Err, OnOk, OnErr, bytes_eq, refl, sym, ap, ◌∙◌, true≢false, arith, inl, inr, if◌then◌else◌, subst, list_any, option_or, option_and_then, eqb-true, eq-eqb, ne_eqb, cases_eq, list_any-append, position-Some, none-some, same_Some, bytes_eq-Decides, first_true, second_true, has_name, with_name, at_if, position-append, any-position, lists, places_in, commons_at, listers_at, has_gift, given_at, IsInverse, AreAnswers, AreRecent, Permission}
 use Rattle.std.proofs.Math.Bool.{or-false}
 use Rattle.indexmap.specs.IndexSet.{insert_key}
 use Rattle.cil_optionals.specs.declared.listed.Gift.{Gift}
@@ -233,6 +233,14 @@ pub recent-none : (has : ℕ → List ℕ → Bool) (n : ℕ) → AreRecent has 
 recent-none has zero i p at = absurd (none-some (Some p) at)
 recent-none has (suc n) zero p at = absurd (none-some p (same_Some None (Some p) at))
 recent-none has (suc n) (suc i) p at = recent-none has n i p at
+
+-- a question that was answered with yes is put at hand
+pub recent-noted : (has : ℕ → List ℕ → Bool) (recent : List (Option Permission)) (slot : ℕ) (q : Permission) → AreRecent has recent → has q.place q.name.now ≡ true → AreRecent has (set recent slot (Some q))
+recent-noted has [] slot q are yes_it i p at = are i p at
+recent-noted has (r ∷ recent) zero q are yes_it zero p at = subst (λ (x : Permission). has x.place x.name.now ≡ true) (same_Some q p (same_Some (Some q) (Some p) at)) yes_it
+recent-noted has (r ∷ recent) zero q are yes_it (suc i) p at = are (suc i) p at
+recent-noted has (r ∷ recent) (suc slot) q are yes_it zero p at = are zero p at
+recent-noted has (r ∷ recent) (suc slot) q are yes_it (suc i) p at = recent-noted has recent slot q (λ j. are (suc j)) yes_it i p at
 
 -- the answer of a question that is at hand
 pub recent-recalled : (has : ℕ → List ℕ → Bool) (recent : List (Option Permission)) (slot : ℕ) (p : Permission) (place : ℕ) (name : List ℕ) → AreRecent has recent → slice_get recent slot ≡ Some (Some p)

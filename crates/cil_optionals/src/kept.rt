@@ -1,10 +1,12 @@
 //! The optionals that a policy keeps.
 
-ghost use Rattle.std.specs.Prelude.{◌≡◌, ◌+◌, ℕ, List, true, false, not, length, replicate, slice_index_or, IfOk};
+ghost use Rattle.std.specs.Prelude.{◌≡◌, ◌+◌, ℕ, List, true, false, not, length, replicate, slice_index_or, IfOk, OnOk};
 ghost use Rattle.cil_optionals.specs.Common.{list_all, Placed, AreApart, AreNeeds, IsReady};
 ghost use Rattle.cil_bind.specs.Policy.{IsBoundTo};
 ghost use Rattle.cil_bind.specs.Nested.{AreNested};
 ghost use Rattle.cil_optionals.specs.Nested.{ShowsKept};
+ghost use Rattle.cil_optionals.specs.Providers.{AreProviders};
+ghost use Rattle.cil_optionals.specs.Given.{IsInverse, IsUpTo};
 
 use crate::listed::Listed;
 use crate::others::others;
@@ -29,6 +31,47 @@ fn all_marked<A: Allocator + Copy>(alloc: A, count: usize) -> Result<Vec<bool, A
     Ok(marks)
 }
 
+/// Takes up what a policy's statements list and give, and puts what the names and the statements in its optionals need behind others,
+/// where there are none.
+fn push_told<'m, A: Allocator + Copy>(
+    alloc: A,
+    joined: &Joined<'m, A>,
+    policy: &Policy<'m, A>,
+    listed: &mut Listed<'m, A>,
+    needs: &mut Vec<Need, A>,
+) -> Result<(), AllocError>
+    requires ready { (all : List Placed) × IsReady policy.now joined.now.modules.items all }
+    requires first { (all : List Placed) → IsReady policy.now joined.now.modules.items all
+        → AreProviders all policy.now.rows.items 0 needs.old.items }
+    requires none { (all : List Placed) → IsReady policy.now joined.now.modules.items all
+        → IsUpTo all 0 listed.old }
+    requires inverse { IsInverse listed.old }
+    ensures { OnOk result ((all : List Placed) → IsReady policy.now joined.now.modules.items all
+        → AreNeeds all policy.now.rows.items needs.new.items) }
+{
+    tell_all(alloc, joined, policy, listed, needs)?;
+    let more = others(alloc, joined, policy, listed)?;
+    needs.extend(more)?;
+    Ok(())
+}
+
+/// Puts what the names and the statements in a policy's optionals need behind others, where there are none.
+fn push_needs<'m, A: Allocator + Copy>(
+    alloc: A,
+    joined: &Joined<'m, A>,
+    policy: &Policy<'m, A>,
+    needs: &mut Vec<Need, A>,
+) -> Result<(), AllocError>
+    requires ready { (all : List Placed) × IsReady policy.now joined.now.modules.items all }
+    requires first { (all : List Placed) → IsReady policy.now joined.now.modules.items all
+        → AreProviders all policy.now.rows.items 0 needs.old.items }
+    ensures { OnOk result ((all : List Placed) → IsReady policy.now joined.now.modules.items all
+        → AreNeeds all policy.now.rows.items needs.new.items) }
+{
+    let mut listed = Listed::new(alloc, joined.seed);
+    push_told(alloc, joined, policy, &mut listed, needs)
+}
+
 /// What the names and the statements in a policy's optionals need.
 fn all_needs<'m, A: Allocator + Copy>(
     alloc: A,
@@ -38,11 +81,8 @@ fn all_needs<'m, A: Allocator + Copy>(
     requires ready { (all : List Placed) × IsReady policy.now joined.now.modules.items all }
     ensures { IfOk result (λ needs. (all : List Placed) → IsReady policy.now joined.now.modules.items all → AreNeeds all policy.now.rows.items needs.items) }
 {
-    let mut listed = Listed::new(alloc, joined.seed);
     let mut needs = Vec::new(alloc);
-    tell_all(alloc, joined, policy, &mut listed, &mut needs)?;
-    let more = others(alloc, joined, policy, &listed)?;
-    needs.extend(more)?;
+    push_needs(alloc, joined, policy, &mut needs)?;
     Ok(needs)
 }
 

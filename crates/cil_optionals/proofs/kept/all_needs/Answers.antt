@@ -1,22 +1,5 @@
-use Rattle.std.proofs.Common.{◌≡◌, ◌++◌, ap, ◌∙◌}
-use Rattle.indexmap.proofs.CallerLemmas.{Drains-YieldsInOrder}
 use Rattle.cil_optionals.proofs.ProviderLemmas.{providers-none}
 use Rattle.cil_optionals.proofs.kept.all_needs.Goals as goal
 
-pub tell_all-requires-clause-first : goal.tell_all-requires-clause-first
-tell_all-requires-clause-first g c = λ all ready. providers-none all c.args.policy.now.rows.items _ c.new-needs.ensures.items
-
-pub tell_all-requires-clause-none : goal.tell_all-requires-clause-none
-tell_all-requires-clause-none g c = λ all ready. c.new-listed.ensures.up_to all
-
-pub returns : goal.returns
-returns g c = λ all ready.
-    let ran = c.in_ok-extend.ensures.ran in
-    let more : ran.1 ≡ c.in_ok-more.more.items = Drains-YieldsInOrder _ _ ran.0 ran.1 ran.2.3 ran.4 ∙ ran.2.0 in
-    record {
-      providers = c.tell_all.new.needs.items;
-      others = c.in_ok-more.more.items;
-      are = ran.3.0 ∙ ap (λ l. c.tell_all.new.needs.items ++ l) more;
-      providers_are = c.in_ok-tell_all.ensures.providers all ready;
-      others_are = c.in_ok-more.ensures all ready (c.in_ok-tell_all.ensures.have all ready);
-    }
+pub push_needs-requires-clause-first : goal.push_needs-requires-clause-first
+push_needs-requires-clause-first g c = λ all ready. providers-none all c.args.policy.now.rows.items _ c.new-needs.ensures.items

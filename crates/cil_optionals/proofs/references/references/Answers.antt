@@ -1,5 +1,6 @@
 use Rattle.cil_optionals.proofs.Common.{◌≤◌, ◌<◌, ◌+◌, [], not, ◌&&◌, IfSome, length, get_or, take, sym, ap, subst, arith, restricted, references, leads, is_unfound, rows-length, slice_get_within, texts_of, table_of, are_found, optional_at, AddsNeed}
 use Rattle.cil_optionals.proofs.AsksLemmas.{asks-none, asks-same, asks-need, bound-at, row-one, leads-of, seen-of, reference-of, reference-there, reference-met, reference-lead, found-next, found-outside, found-all}
+use Rattle.cil_parse.specs.Parsed.{statement_count}
 use Rattle.cil_optionals.proofs.references.references.Goals as goal
 
 pub references-bound-requires-clause-bound : goal.references-bound-requires-clause-bound
@@ -91,3 +92,18 @@ returns g c = λ all s ready at of.
     let end = found-all all s c.references-bound.result c.loop-k.k are past in
     asks-same all (optional_at p c.args.i) (λ set. are_found (restricted set all) s.namespace (take c.loop-k.k (references s.form))) (λ set. are_found (restricted set all) s.namespace (references s.form))
     c.args.needs.now.items c.loop-k.needs.items (λ set. ap (are_found (restricted set all) s.namespace) end) (c.loop-k.invariant all s ready at of)
+
+pub index-row-requires : goal.index-row-requires
+index-row-requires g c =
+    let r = c.requires.ready in
+    let p = c.args.policy.now in
+    let long = rows-length p.names p.lookup.namespaces p.rows.items r.0 r.2.bound.stands.rows_are in
+    let less = slice_get_within r.0 c.args.i r.1 r.3 in
+    let size = p.rows.ok.0 in
+    omega (arith, long, less, size)
+
+pub statement-view-requires : goal.statement-view-requires
+statement-view-requires g c =
+    let r = c.requires.ready in
+    let m = c.args.«module».now in
+    subst (λ row. row.index < statement_count m) (row-one c.args.policy.now m c.args.i r.1 c.index-row.result.now r.4 c.index-row.ensures).0 r.4.within
