@@ -45,3 +45,12 @@ returns g c policy s before is at lists start =
     let found = subst (λ l. AreNumbersIn names (fold with_name before l) numbers) (take_all c.loop-word.word-index list (omega (arith, long, past)))
     (c.loop-word.invariant policy s before is at lists start) in
     subst (λ some. AreNumbersIn names some numbers) (fold-distinct before all) found
+
+pub loop-word-init : goal.loop-word-init
+loop-word-init g c = λ policy s before is at lists start. start
+
+pub get-word-items-requires : goal.get-word-items-requires
+get-word-items-requires g c =
+    let long = c.len.ensures in
+    let low = c.if-place-len.false in
+    omega (arith, long, low)
