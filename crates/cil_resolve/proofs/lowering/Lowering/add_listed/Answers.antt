@@ -54,3 +54,11 @@ get-word-items-requires g c =
     let long = c.len.ensures in
     let low = c.if-place-len.false in
     omega (arith, long, low)
+
+pub returns-then-place-len : goal.returns-then-place-len
+returns-then-place-len g c = λ policy s before is at lists start.
+    let checker = c.args.self.now.checker.now in
+    let low = (words-at checker.bound.policy.now.names policy checker.permissions.words.0 c.args.place s is.noted.words at).0 in
+    let long = c.len.ensures in
+    let past = c.if-place-len.true in
+    absurd (omega (arith, low, long, past))
