@@ -52,6 +52,14 @@ rule-code kind source (the_named word) (anonymous the_class permissions) = refl
 rule-code kind source itself (by_name set) = refl
 rule-code kind source (the_named word) (by_name set) = refl
 
+-- a rule's statement is of one of four kinds
+pub rule-kinds : (kind : RuleKind) (source : Word) (target : Target) (permissions : ClassPermissions) (k : StatementKind) → k ≡ kind_of (rule kind source target permissions) → ((x : code.RuleKind) → k ≡ kinds.Rule x → ⊥)
+    → ((x : code.RuleKind) → k ≡ kinds.RuleToSelf x → ⊥) → ((x : code.RuleKind) → k ≡ kinds.RuleOfSet x → ⊥) → ((x : code.RuleKind) → k ≡ kinds.RuleToSelfOfSet x → ⊥) → ⊥
+rule-kinds kind source itself (anonymous the_class permissions) k is to_word to_self of_set self_of_set = to_self (rule_kind kind) is
+rule-kinds kind source (the_named word) (anonymous the_class permissions) k is to_word to_self of_set self_of_set = to_word (rule_kind kind) is
+rule-kinds kind source itself (by_name set) k is to_word to_self of_set self_of_set = self_of_set (rule_kind kind) is
+rule-kinds kind source (the_named word) (by_name set) k is to_word to_self of_set self_of_set = of_set (rule_kind kind) is
+
 pub word-aimed : (kind : RuleKind) (source : Word) (target : Target) (permissions : ClassPermissions) → is_to_word (kind_of (rule kind source target permissions)) ≡ true → (word : Word) × (target ≡ the_named word)
 word-aimed kind source itself (anonymous the_class permissions) e = absurd (true≢false (sym e))
 word-aimed kind source (the_named word) (anonymous the_class permissions) e = (word, refl)

@@ -1,5 +1,5 @@
 -- The names of namespaces, and the full names of what statements declare.
-use Rattle.cil_resolve.proofs.Common.{◌≡◌, ◌≢◌, ℕ, ◌<◌, ◌≤◌, zero, suc, true, false, List, [], ◌∷◌, ◌++◌, length, get_or, take, map, Option, Some, None, is_some, option_map, refl, sym, ap, ◌∙◌, subst, true≢false, arith, length-take-le, AllByRecursion, length-map, take_all, get_or-map, get_or-take, none-some, slice_get-get_or, get_or_from_slice_get, append_assoc, Word, Placed, Form, block, optional, type_name, type_alias, alias_actual, type_attribute, attribute_set, common, class, class_common, class_order, class_permission, class_permission_set, rule, anonymous, by_name, itself, the_named, full_name, kind_of, words_in, word_at, namespace_at, distinct-place, all-get, Row, Reads, space_text, name_in, numbered_id, is_numbered, is_numbered_kind}
+use Rattle.cil_resolve.proofs.Common.{◌≡◌, ◌≢◌, ℕ, ◌<◌, ◌≤◌, zero, suc, true, false, List, [], ◌∷◌, ◌++◌, length, get_or, take, map, Option, Some, None, is_some, option_map, refl, sym, ap, ◌∙◌, subst, true≢false, arith, length-take-le, AllByRecursion, length-map, take_all, get_or-map, get_or-take, none-some, slice_get-get_or, get_or_from_slice_get, append_assoc, Word, Placed, Form, type_name, type_attribute, class, class_permission, rule, anonymous, itself, the_named, full_name, kind_of, words_in, word_at, namespace_at, distinct-place, all-get, Row, Reads, space_text, name_in, numbered_id, is_numbered, is_numbered_kind}
 use Rattle.std.proofs.Common.{slice_get}
 use Rattle.cil_bind.specs.Lookup.{named}
 use Rattle.cil_bind.specs.Rows.{IsRow, AreNumbered}

@@ -1,5 +1,5 @@
 -- What is known of the numbers of permissions, as lists come.
-use Rattle.cil_resolve.proofs.Common.{◌≡◌, ◌≢◌, ◌==◌, ◌∙◌, ◌||◌, Option, eq-eqb, if◌then◌else◌, option_and_then, ℕ, zero, suc, Bool, map, list_all, first_true, second_true, same_Some, true, false, true≢false, List, [], ◌∷◌, Some, None, none-some, refl, sym, ap, subst, slice_get, bytes_eq, bytes_eq-true, list_any-append, AllByRecursion, contains-first, contains-other, Word, Form, class, common, Placed, components, own_permissions, permissions_in, texts, has_name, listed_names, known_at, list_at, HaveNumbers, IsOneName, KnowNumbers}
+use Rattle.cil_resolve.proofs.Common.{◌≡◌, ◌≢◌, ◌∙◌, ◌||◌, Option, eq-eqb, if◌then◌else◌, option_and_then, ℕ, zero, suc, Bool, map, list_all, first_true, second_true, same_Some, true, false, true≢false, List, [], ◌∷◌, Some, None, none-some, refl, sym, ap, subst, slice_get, bytes_eq, bytes_eq-true, list_any-append, AllByRecursion, contains-first, contains-other, Word, Form, class, common, Placed, components, own_permissions, permissions_in, texts, has_name, listed_names, known_at, list_at, HaveNumbers, IsOneName, KnowNumbers}
 use Rattle.cil_bind.specs.Written.{HaveOneNames}
 use Rattle.std.proofs.Common.{ne_eqb}
 use Rattle.std.specs.Rc.{rc_value}

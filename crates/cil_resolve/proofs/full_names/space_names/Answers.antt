@@ -1,4 +1,4 @@
-use Rattle.cil_resolve.proofs.Common.{◌≡◌, ◌≤◌, ◌<◌, ◌++◌, ◌∷◌, ◌∙◌, [], ap, arith, get_or, length, map, slice_get-get_or, sym, take_all}
+use Rattle.cil_resolve.proofs.Common.{◌≤◌, ◌<◌, ◌++◌, ◌∷◌, ◌∙◌, [], ap, arith, get_or, length, map, slice_get-get_or, sym, take_all}
 use Rattle.cil_resolve.proofs.FullNamesLemmas.{space_name_of}
 use Rattle.cil_resolve.proofs.StatementLemmas.{map-one}
 use Rattle.cil_resolve.proofs.full_names.space_names.Goals as goal

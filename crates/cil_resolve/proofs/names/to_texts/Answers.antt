@@ -1,4 +1,4 @@
-use Rattle.cil_resolve.proofs.Common.{◌++◌, ◌∷◌, ◌∙◌, [], length, get_or, map, slice_get-get_or, take, ap, sym, arith}
+use Rattle.cil_resolve.proofs.Common.{◌++◌, ◌∷◌, ◌∙◌, [], length, get_or, map, slice_get-get_or, take, take_all, ap, sym, arith}
 use Rattle.std.proofs.Common.{drop}
 use Rattle.cil_resolve.proofs.StatementLemmas.{map-one}
 use Rattle.cil_resolve.proofs.TextLemmas.{bytes_in, item-mapped, no_name, text-first, text-in, text-within, texts-behind}
@@ -31,3 +31,8 @@ loop-name-preserved g c =
       copies = c.in_ok-push.ensures.items ∙ (λ j. c.loop-name.invariant.copies j ++ copy j ∷ []) ∙ sym (map-one text-in items i (get_or items i no_name) (slice_get-get_or items i no_name c.loop-name-test.true));
       rest = c.in_ok-next_text.ensures.rest ∙ ap (drop (length name)) rest ∙ texts-behind (λ n. n) (map text-in items) i name at;
     }
+
+pub returns : goal.returns
+returns g c =
+    let items = c.as_slice-name-items.result.now in
+    c.loop-name.invariant.copies ∙ ap (map text-in) (take_all c.loop-name.name-index items c.loop-name-test.false) ∙ c.as_slice-name-items.ensures

@@ -1,4 +1,4 @@
-use Rattle.cil_resolve.proofs.Common.{◌∙◌, [], fold, get_or, take, sym, ap, arith, fold-append, slice_get_within, with_name, distinct, full_name_of, names_with, names_of, naming, kind_of}
+use Rattle.cil_resolve.proofs.Common.{◌∙◌, [], fold, get_or, take, sym, ap, arith, fold-append, length, length-map, slice_get_within, with_name, distinct, full_name_of, names_with, names_of, naming, kind_of}
 use Rattle.cil_resolve.proofs.NamingLemmas.{naming-there, naming-all, flat-naming, not-bringing}
 use Rattle.cil_resolve.proofs.NumberLemmas.{names-sorted, none-brought}
 use Rattle.cil_resolve.proofs.StatementLemmas.{flat-one, mapped-at}
@@ -25,3 +25,17 @@ returns-clause-names g c policy is places full =
     (c.loop-k.invariant policy is places full ∙ ap (λ l. distinct (names_of l)) (naming-all policy c.args.naming.now c.loop-k.k places (omega (arith, past)))
     ∙ ap distinct (flat-naming names_with policy (λ s other. none-brought s (not-bringing (kind_of s.form) other))))
     c.sort.ensures.same
+
+pub get-requires : goal.get-requires
+get-requires g c =
+    let (policy, is, places, full) = c.requires.is in
+    let (s, among, at) = naming-there policy c.args.naming.now c.loop-k.k places c.loop-k-test.true in
+    let within = slice_get_within (naming policy) c.loop-k.k s among in
+    let long = ap length full ∙ length-map (naming policy) full_name_of in
+    omega (arith, within, long)
+
+pub loop-k-init : goal.loop-k-init
+loop-k-init g c = λ policy is places full. c.new-names.ensures
+
+pub returns-clause-ordered : goal.returns-clause-ordered
+returns-clause-ordered g c = c.in_ok-sort.ensures.ordered

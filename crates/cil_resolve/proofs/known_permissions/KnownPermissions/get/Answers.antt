@@ -1,4 +1,4 @@
-use Rattle.cil_resolve.proofs.Common.{◌≡◌, ◌<◌, ◌∙◌, Some, [], ap, arith, length, sym, slice_get-get_or, slice_get_past}
+use Rattle.cil_resolve.proofs.Common.{◌∙◌, Some, [], ap, arith, length, sym, slice_get-get_or, slice_get_past}
 use Rattle.std.specs.Rc.{rc_value}
 use Rattle.cil_resolve.proofs.KnownLemmas.{known-of, known-other, known-unset}
 use Rattle.cil_resolve.proofs.known_permissions.KnownPermissions.get.Goals as goal

@@ -45,3 +45,20 @@ returns g c policy s before is at lists start =
     let found = subst (λ l. AreNumbersIn names (fold with_name before l) numbers) (take_all c.loop-word.word-index list (omega (arith, long, past)))
     (c.loop-word.invariant policy s before is at lists start) in
     subst (λ some. AreNumbersIn names some numbers) (fold-distinct before all) found
+
+pub loop-word-init : goal.loop-word-init
+loop-word-init g c = λ policy s before is at lists start. start
+
+pub get-word-items-requires : goal.get-word-items-requires
+get-word-items-requires g c =
+    let long = c.len.ensures in
+    let low = c.if-place-len.false in
+    omega (arith, long, low)
+
+pub returns-then-place-len : goal.returns-then-place-len
+returns-then-place-len g c = λ policy s before is at lists start.
+    let checker = c.args.self.now.checker.now in
+    let low = (words-at checker.bound.policy.now.names policy checker.permissions.words.0 c.args.place s is.noted.words at).0 in
+    let long = c.len.ensures in
+    let past = c.if-place-len.true in
+    absurd (omega (arith, low, long, past))

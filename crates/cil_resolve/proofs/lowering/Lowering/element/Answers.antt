@@ -1,4 +1,4 @@
-use Rattle.cil_resolve.proofs.Common.{◌∙◌, None, get_or, sym, ap, subst, types, references, seen-lead, unwrap_or, IsElement}
+use Rattle.cil_resolve.proofs.Common.{None, get_or, ap, subst, types, references, seen-lead, unwrap_or, IsElement}
 use Rattle.cil_specs.specs.Rule.{element_of}
 use Rattle.cil_expression.specs.declared.expression.Element.TheVariants as elements
 use Rattle.cil_resolve.proofs.LoweringLemmas.{element-led}

@@ -1,4 +1,4 @@
-use Rattle.cil_resolve.proofs.Common.{◌<◌, ◌∙◌, length, none-some, sym, subst, arith, same_Some}
+use Rattle.cil_resolve.proofs.Common.{◌∙◌, none-some, sym, arith, same_Some}
 use Rattle.cil_resolve.proofs.LoweringLemmas.{refers-within}
 use Rattle.cil_resolve.proofs.lowering.Lowering.place.Goals as goal
 

@@ -1,10 +1,26 @@
-use Rattle.cil_resolve.proofs.Common.{◌≡◌, ◌∙◌, ◌∷◌, [], inl, inr, Contains, sym, ap, subst, types, references, element_words, target_words, contains-first, contains-other, rule_kind_of, kind_of, rule_kind, rule, modules_of}
+use Rattle.cil_resolve.proofs.Common.{◌≡◌, ◌∙◌, ◌∷◌, [], inl, inr, Contains, sym, ap, subst, types, references, element_words, target_words, contains-first, contains-other, rule_kind_of, kind_of, rule_kind, rule, modules_of, slice_get_within}
 use Rattle.std.proofs.Common.{slice_get}
 use Rattle.cil_check.proofs.AskedLemmas.{is_to_word, is_to_self}
-use Rattle.cil_resolve.proofs.FormLemmas.{code_in, rule-code, word-aimed, self-aimed}
+use Rattle.cil_resolve.proofs.FormLemmas.{code_in, rule-code, rule-kinds, word-aimed, self-aimed}
 use Rattle.cil_resolve.proofs.RuleLemmas.{kind-back, start-itself, start-named}
 use Rattle.cil_resolve.proofs.lowering.Lowering.rule_start.Goals as goal
 use Rattle.cil_resolve.proofs.lowering.Lowering.rule_start.Goals.{in-RuleToSelf, in-RuleToSelf-2, in-Rule2}
+
+pub kind-requires : goal.kind-requires
+kind-requires g c =
+    let (policy, s, is, at, form) = c.requires in
+    (policy, is.lowering.noted.is, slice_get_within policy c.args.i s at)
+
+pub unreachable-requires : goal.unreachable-requires
+unreachable-requires g c =
+    let (policy, s, is, at, (kind, source, target, permissions, form)) = c.requires in
+    rule-kinds kind source target permissions c.kind.result (c.kind.ensures policy s is.lowering.noted.is at ∙ ap kind_of form)
+    c.in_default.not-Rule c.in_default.not-RuleToSelf c.in_default.not-RuleOfSet c.in_default.not-RuleToSelfOfSet
+
+pub module-requires : goal.module-requires
+module-requires g c =
+    let (policy, s, is, at, form) = c.requires in
+    (policy, is.lowering, slice_get_within policy c.args.i s at)
 
 pub element-requires : goal.element-requires
 element-requires g c =

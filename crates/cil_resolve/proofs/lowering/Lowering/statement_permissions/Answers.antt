@@ -25,3 +25,9 @@ returns-then-not-is_empty-clause-permissions g c =
 
 pub plain_permissions-requires : goal.plain_permissions-requires
 plain_permissions-requires g c = record { is = c.requires; plain = sym c.is_empty.ensures ∙ c.if-not-is_empty.false }
+
+pub returns-clause-permissions : goal.returns-clause-permissions
+returns-clause-permissions g c = c.plain_permissions.ensures.permissions
+
+pub returns-clause-known : goal.returns-clause-known
+returns-clause-known g c = c.plain_permissions.ensures.known

@@ -1,4 +1,4 @@
-use Rattle.std.proofs.Common.{subst, sym}
+use Rattle.cil_resolve.proofs.Common.{IsTrue, names_rise, subst, sym}
 use Rattle.cil_resolve.specs.Numbering.{HavePlaces, HavePermissions}
 use Rattle.cil_resolve.proofs.numbering.Numbering.of.Goals as goal
 
@@ -25,3 +25,9 @@ returns-clause-places g c policy is naming =
 pub returns-clause-permissions : goal.returns-clause-permissions
 returns-clause-permissions g c policy is naming =
     subst (λ names. HavePermissions c.args.bound.now.policy.now.names names policy c.in_ok-permission_numbers.field-0.items) (sym c.in_ok-to_texts.ensures) (c.in_ok-permission_numbers.ensures policy is naming)
+
+pub returns-clause-long : goal.returns-clause-long
+returns-clause-long g c = λ policy is. c.in_ok-place_numbers.ensures.long policy is
+
+pub invariant_of-result : goal.invariant_of-result
+invariant_of-result g c = record { ordered = subst (λ names. IsTrue (names_rise names)) (sym c.in_ok-to_texts.ensures) c.in_ok-names.ensures.ordered }
