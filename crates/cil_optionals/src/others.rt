@@ -7,7 +7,7 @@ ghost use Rattle.cil_optionals.specs.Given.{permissions_in, IsInverse};
 
 use crate::listed::Listed;
 use crate::modules::module_of;
-use crate::permissions::Permissions;
+use crate::permissions::{Permissions, no_questions};
 use crate::references::{add_need, references};
 use cil_bind::{Joined, Policy};
 use cil_needs::Need;
@@ -125,6 +125,7 @@ pub fn others<'m, A: Allocator + Copy>(
     ensures { IfOk result (λ needs. (all : List Placed) → IsReady policy.now joined.now.modules.items all → HavePermissions all (permissions_in listed.now)
         → AreOthers all policy.now.rows.items needs.items) }
 {
-    let mut permissions = Permissions::of(alloc, listed, joined)?;
+    let recent = no_questions(alloc)?;
+    let mut permissions = Permissions::of(alloc, recent, listed, joined);
     others_by(alloc, joined, policy, &mut permissions)
 }

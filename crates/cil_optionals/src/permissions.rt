@@ -1,6 +1,6 @@
 //! The permissions of classes, as they are asked.
 
-ghost use Rattle.std.specs.Prelude.{◌≡◌, ◌<◌, ℕ, List, Some, true, false, bytes_eq, map, slice_get, IfOk, IsTrue};
+ghost use Rattle.std.specs.Prelude.{◌≡◌, ◌<◌, ℕ, List, Some, None, true, false, bytes_eq, map, replicate, slice_get, IfOk, IsTrue};
 ghost use Rattle.std.specs.List.{list_all};
 ghost use Rattle.cil_specs.specs.Names.{Word};
 ghost use Rattle.cil_specs.specs.Joined.{Placed};
@@ -73,26 +73,37 @@ fn is_same(name: &[u8], other: &[u8]) -> bool
     true
 }
 
+/// Slots with no question at hand.
+pub fn no_questions<'m, A: Allocator + Copy>(
+    alloc: A,
+) -> Result<Vec<Option<Permission<'m>>, A>, AllocError>
+    ensures { IfOk result (λ recent. recent.items ≡ replicate 4096 None) }
+{
+    let recent = vec![in alloc; None; RECENT]?;
+    Ok(recent)
+}
+
 impl<'l, 'm, A: Allocator + Copy> Permissions<'l, 'm, A> {
     /// The permissions of classes by what statements list and give, where no question was answered yet.
     pub fn of(
         alloc: A,
+        recent: Vec<Option<Permission<'m>>, A>,
         listed: &'l Listed<'m, A>,
         joined: &'l Joined<'m, A>,
-    ) -> Result<Self, AllocError>
-        requires { IsInverse listed.now }
-        ensures listed { IfOk result (λ permissions. permissions.listed.now ≡ listed.now) }
-        ensures joined { IfOk result (λ permissions. permissions.joined.now ≡ joined.now) }
+    ) -> Self
+        requires inverse { IsInverse listed.now }
+        requires recent { recent.items ≡ replicate 4096 None }
+        ensures listed { result.listed.now ≡ listed.now }
+        ensures joined { result.joined.now ≡ joined.now }
     {
-        let recent = vec![in alloc; None; RECENT]?;
-        Ok(Permissions {
+        Permissions {
             listed,
             joined,
             held: IndexSet::with_hasher(alloc, joined.seed),
             lacked: IndexSet::with_hasher(alloc, joined.seed),
             recent,
             known: KnownLists::new(alloc),
-        })
+        }
     }
 
     /// Whether the question at hand in a slot is this one.

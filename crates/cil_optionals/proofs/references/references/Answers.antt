@@ -1,5 +1,5 @@
 use Rattle.cil_optionals.proofs.Common.{◌≤◌, ◌<◌, ◌+◌, [], not, ◌&&◌, IfSome, length, get_or, take, sym, ap, subst, arith, restricted, references, leads, is_unfound, rows-length, slice_get_within, texts_of, table_of, are_found, optional_at, AddsNeed}
-use Rattle.cil_optionals.proofs.AsksLemmas.{asks-none, asks-same, asks-need, bound-at, row-one, leads-of, seen-of, reference-of, reference-there, reference-met, reference-lead, found-next, found-outside, found-all}
+use Rattle.cil_optionals.proofs.AsksLemmas.{asks-none, asks-same, asks-need, row-one, leads-of, seen-of, reference-of, reference-there, reference-met, reference-lead, found-next, found-outside, found-all}
 use Rattle.cil_parse.specs.Parsed.{statement_count}
 use Rattle.cil_optionals.proofs.references.references.Goals as goal
 

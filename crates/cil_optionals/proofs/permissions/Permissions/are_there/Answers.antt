@@ -1,4 +1,4 @@
-use Rattle.cil_optionals.proofs.Common.{◌≡◌, ◌<◌, true, false, length, map, Some, refl, sym, ap, ◌∙◌, subst, arith, rules, list_all, classes, leads, texts, IsLead, texts_of, are_there, names_permissions, permissions_in, rows-length, slice_get_within}
+use Rattle.cil_optionals.proofs.Common.{◌≡◌, ◌<◌, true, false, length, map, Some, sym, ap, ◌∙◌, subst, arith, rules, list_all, classes, leads, texts, IsLead, texts_of, are_there, names_permissions, permissions_in, rows-length, slice_get_within}
 use Rattle.cil_parse.specs.Forms.{kind_of, permissions_in as listed_in}
 use Rattle.cil_parse.specs.Parsed.{statement_count}
 use Rattle.cil_bind.proofs.BindingLemmas.{kind-at}
