@@ -3,13 +3,13 @@
 
 usage: proof_times.py CRATE [COUNT [SINCE]]
 
-A check keeps each module of the logic that it proved in the crate's out/incremental, and the times of these files tell how long each took.
-Run `rt check --jobs 1` in the crate from nothing (rm -r out/incremental), with nothing beside it, and then this. It prints the seconds by
-the kind of module, and the COUNT functions (20 where it isn't given) and modules that took longest. Of a function, `Lts` is the model of its code, `Tie` what
-leads from that to its contract, and `Proof` the search for the goals that no file of proofs/ answers. A check that
-begins with kept work takes from it what was found for goals that stay, so only one from nothing tells what an answer saves. With SINCE, a
-file, what was kept before that file was written doesn't count: so write one, check, and give it, to see what the functions that were
-checked again took.
+A check keeps each module of the logic that it proved in the crate's out/incremental, and the times of these files tell how long each
+took. Run `rt check --jobs 1` in the crate from nothing (rm -r out/incremental; where the machine has another checkout, rt begins with what
+was kept there), with nothing beside it, and then this. It prints the seconds by the kind of module, and the COUNT functions (20 where it
+isn't given) and modules that took longest. Of a function, `Lts` is the model of its code, `Tie` what leads from that to its contract, and
+`Proof` the search for the goals that no file of proofs/ answers. A check that begins with kept work takes from it what was found for goals
+that stay, so only one from nothing tells what an answer saves. With SINCE, a file, what was kept before that file was written doesn't
+count: so write one, check, and give it, to see what was checked again.
 """
 import collections
 import pathlib
